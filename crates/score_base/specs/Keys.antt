@@ -1,5 +1,6 @@
 -- Keys as bytes.
-use Rattle.std.specs.Prelude.{ℕ, Bool, false, ◌&&◌, ◌||◌, not, nat_le, ◌==◌, List, [], ◌∷◌, length}
+use Rattle.std.specs.Prelude.{ℕ, Bool, false, ◌&&◌, ◌||◌, not, nat_le, nat_eq, ◌==◌, List, [], ◌∷◌, length}
+use Rattle.std.specs.Cmp.Lexicographic.{pointwise}
 use Rattle.std.specs.List.{list_all}
 
 -- 'a' to 'z', '0' to '9' or '_'
@@ -14,3 +15,7 @@ is_digit b = nat_le 48 b && nat_le b 57
 abbrev pub is_key : List ℕ → Bool
 is_key [] = false
 is_key (b ∷ bs) = not (is_digit b) && is_key_byte b && nat_le (length bs) 31 && list_all is_key_byte bs
+
+-- two keys are the same
+abbrev pub same_key : List ℕ → List ℕ → Bool
+same_key a b = pointwise nat_eq a b

@@ -1,0 +1,12 @@
+//! Scripts: what a transaction reads and writes, and what its expressions mean.
+//!
+//! A script has a number, a home node and 1 to 32 operations. In contracts a [`Script`] is the record
+//! `ScriptData` of its parts; that it is well formed is the invariant of the type. The words for the
+//! value of an expression, for the keys of a script and for its remote reads stand in `specs/`.
+#![tactic(auto)]
+
+mod exprs;
+mod scripts;
+
+pub use exprs::{Atom, Expr, Step, StepList};
+pub use scripts::{Op, OpList, Script, ScriptDraft};
