@@ -1,1 +1,4 @@
 pub mod Documents
+pub mod Histories
+pub mod Rules
+pub mod Lawful

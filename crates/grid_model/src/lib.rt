@@ -11,10 +11,12 @@ mod acts;
 mod documents;
 mod events;
 mod items;
+mod laws;
 mod messages;
 
 pub use acts::{Act, Flag, Head};
 pub use documents::{Document, ScriptList};
 pub use events::{Event, Out};
 pub use items::{Item, ItemList};
+pub use laws::law_one_history;
 pub use messages::{Envelope, Message, Prepare, ReadRep, ReadReq};
