@@ -13,6 +13,7 @@ use Rattle.grid_model.specs.declared.acts.Act.{Act}
 use Rattle.grid_model.specs.declared.acts.Act.TheVariants as act
 use Rattle.grid_model.specs.declared.messages.Envelope.{Envelope}
 use Rattle.grid_model.specs.declared.messages.ReadRep.{ReadRep}
+use Rattle.grid_model.specs.declared.standings.Standing.{Standing}
 
 -- the past with these acts, in the order of time, behind it
 abbrev pub after : List Act → List Act → List Act
@@ -28,13 +29,6 @@ sent (a ∷ past) = sent past
 -- message m of those that were sent; numbers begin at 1
 abbrev pub sent_at : ℕ → List Envelope → Option Envelope
 sent_at m ms = if m == 0 then None else slice_get ms (m - 1)
-
--- how a transaction that was begun stands at its home: the commit identifier at which it began, the
--- replies that were taken, in order, and whether the client was told
-pub record Standing : Type 0 where
-  pub sid0 : Ident
-  pub taken : List ReadRep
-  pub finished : Bool
 
 abbrev pub with_reply : ReadRep → Option Standing → Option Standing
 with_reply r None = None

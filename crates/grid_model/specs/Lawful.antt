@@ -15,7 +15,8 @@ use Rattle.grid_model.specs.declared.messages.Envelope.{Envelope}
 use Rattle.grid_model.specs.declared.messages.Message.{Message}
 use Rattle.grid_model.specs.declared.messages.Message.TheVariants as message
 use Rattle.grid_model.specs.Documents.{DocumentData}
-use Rattle.grid_model.specs.Histories.{after, sent, sent_at, standing, Standing}
+use Rattle.grid_model.specs.declared.standings.Standing.{Standing}
+use Rattle.grid_model.specs.Histories.{after, sent, sent_at, standing}
 use Rattle.grid_model.specs.Rules.{numbered, advance, request_outs, reply_row, script_of, home_script}
 
 -- the start: each node is opened, in rising order

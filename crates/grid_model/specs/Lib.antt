@@ -1,4 +1,6 @@
 pub mod Documents
+pub mod Keyed
 pub mod Histories
+pub mod Standings
 pub mod Rules
 pub mod Lawful

@@ -13,10 +13,12 @@ mod events;
 mod items;
 mod laws;
 mod messages;
+mod standings;
 
 pub use acts::{Act, Flag, Head};
 pub use documents::{Document, ScriptList};
 pub use events::{Event, Out};
 pub use items::{Item, ItemList};
-pub use laws::law_one_history;
+pub use laws::{law_one_history, law_standings};
 pub use messages::{Envelope, Message, Prepare, ReadRep, ReadReq};
+pub use standings::{Standing, Standings};

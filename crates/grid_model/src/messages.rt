@@ -51,23 +51,13 @@ pub enum Message {
     ReadRep(ReadRep),
     Prepare(Prepare),
     /// A participant's vote, to the home.
-    Vote {
-        t: TxId,
-        ballot: Ballot,
-    },
+    Vote { t: TxId, ballot: Ballot },
     /// How a transaction ended, to a participant.
-    Tell {
-        t: TxId,
-        outcome: Outcome,
-    },
+    Tell { t: TxId, outcome: Outcome },
     /// A participant ended the transaction with commit.
-    Ack {
-        t: TxId,
-    },
+    Ack { t: TxId },
     /// A pending participant asks the home how the transaction ended.
-    Ask {
-        t: TxId,
-    },
+    Ask { t: TxId },
 }
 
 impl TryCopy for Message {
