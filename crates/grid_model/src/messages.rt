@@ -21,6 +21,18 @@ pub struct ReadRep {
     pub value: Value,
 }
 
+impl TryCopy for ReadReq {
+    fn copy(&self) -> Result<ReadReq, Memory> {
+        Ok(*self)
+    }
+}
+
+impl TryCopy for ReadRep {
+    fn copy(&self) -> Result<ReadRep, Memory> {
+        Ok(*self)
+    }
+}
+
 /// A request to vote: the snapshot, all parts, and the remotely read and the written keys that the
 /// receiver holds.
 #[derive(Drop, Debug)]

@@ -1,0 +1,4 @@
+pub mod Ranges
+pub mod Showing
+pub mod Few
+pub mod Played
