@@ -1,3 +1,5 @@
+pub mod Faults
 pub mod Keys
 pub mod KeyFields
 pub mod Numbers
+pub mod Pieces

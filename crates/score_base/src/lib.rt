@@ -12,6 +12,7 @@ mod lists;
 mod memory;
 mod numbers;
 mod records;
+mod spans;
 
 pub use causes::{Ballot, Cause, Date, Outcome};
 pub use ids::{Ident, NodeId, TxId, Value};
@@ -20,3 +21,7 @@ pub use lists::{ByteList, KeyList, Members, NodeList, WriteList};
 pub use memory::{Failed, Memory, TryCopy, append, push};
 pub use numbers::{law_number_spelling, number, put_bytes, put_number};
 pub use records::Record;
+pub use spans::{Span, lines, words};
+
+#[cfg(test)]
+mod tests;

@@ -17,13 +17,24 @@ pub enum Record {
         writes: WriteList,
     },
     /// A participant ended `t`.
-    Ended { t: TxId, outcome: Outcome },
+    Ended {
+        t: TxId,
+        outcome: Outcome,
+    },
     /// A node promised reads up to `c`.
-    Ceiling { c: Ident },
+    Ceiling {
+        c: Ident,
+    },
     /// The home decided to commit `t` with the final identifier `f`.
-    Decided { t: TxId, f: Ident, parts: NodeList },
+    Decided {
+        t: TxId,
+        f: Ident,
+        parts: NodeList,
+    },
     /// The home has the acknowledgements of all parts of `t`.
-    Closed { t: TxId },
+    Closed {
+        t: TxId,
+    },
 }
 
 impl TryCopy for Record {

@@ -1,0 +1,79 @@
+use super::*;
+use std::test::Fail;
+
+#[test]
+fn numbers_are_spelled(rt: HostRuntime) -> Result<(), Fail> {
+    let mut out = Vec::new(rt.alloc());
+    put_bytes(&mut out, b"init a ")?;
+    put_number(&mut out, 18446744073709551596)?;
+    assert_eq!(rt; out.as_slice(), b"init a 18446744073709551596".as_slice());
+    assert_eq!(rt; number(b"18446744073709551596"), Some(18446744073709551596));
+    assert_eq!(rt; number(b"18446744073709551616"), None);
+    assert_eq!(rt; number(b"010"), None);
+    Ok(())
+}
+
+#[test]
+fn keys_have_32_bytes_at_most(rt: HostRuntime) {
+    assert!(rt; Key::new(b"cccccccccccccccccccccccccccccccc").is_some());
+    assert!(rt; Key::new(b"ccccccccccccccccccccccccccccccccc").is_none());
+    assert!(rt; Key::new(b"A").is_none());
+    assert!(rt; Key::new(b"a").is_some_and(|key| key.bytes() == b"a".as_slice()));
+}
+
+#[test]
+fn a_text_falls_into_lines_and_words(rt: HostRuntime) -> Result<(), Fail> {
+    let whole = lines(rt.alloc(), b"init a 10\ninit b 0\n")?;
+    assert_eq!(rt;
+        whole.as_slice(),
+        [Span { start: 0, end: 9 }, Span { start: 10, end: 18 }].as_slice()
+    );
+    let cut = lines(rt.alloc(), b"init a 10\n\ninit b 0")?;
+    assert_eq!(rt;
+        cut.as_slice(),
+        [
+            Span { start: 0, end: 9 },
+            Span { start: 10, end: 10 },
+            Span { start: 11, end: 19 }
+        ]
+        .as_slice()
+    );
+    assert!(rt; lines(rt.alloc(), b"")?.is_empty());
+    let spaced = words(rt.alloc(), b"read a ")?;
+    assert_eq!(rt;
+        spaced.as_slice(),
+        [
+            Span { start: 0, end: 4 },
+            Span { start: 5, end: 6 },
+            Span { start: 7, end: 7 }
+        ]
+        .as_slice()
+    );
+    Ok(())
+}
+
+#[test]
+fn lists_grow_and_are_copied(rt: HostRuntime) -> Result<(), Fail> {
+    let mut keys = KeyList::new(rt.alloc());
+    if let Some(key) = Key::new(b"a") {
+        keys.push(key)?;
+    }
+    let record = Record::Prepared {
+        t: TxId { number: 1 },
+        home: NodeId { number: 1 },
+        parts: NodeList::new(rt.alloc()),
+        sid: Ident(0),
+        p: Ident(1),
+        reads: keys.copy()?,
+        writes: WriteList::new(rt.alloc()),
+    };
+    let second = record.copy()?;
+    if let Record::Prepared { reads, .. } = &second {
+        assert_eq!(rt; reads.len(), 1);
+    }
+    let mut items = Vec::new(rt.alloc());
+    push(&mut items, 1u8)?;
+    append(&mut items, [2u8, 3].to_vec(rt.alloc())?)?;
+    assert_eq!(rt; items.as_slice(), [1u8, 2, 3].as_slice());
+    Ok(())
+}
