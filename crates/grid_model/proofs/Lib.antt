@@ -1,3 +1,4 @@
 pub mod Places
 pub mod Shows
 pub mod OneHistory
+pub mod Examples
