@@ -1,5 +1,5 @@
 -- What one more word, key, script or item does to the parts of a document.
-use Rattle.std.proofs.Common.{◌≡◌, ℕ, ◌+◌, ◌<◌, ◌≤◌, Bool, true, false, ◌&&◌, ◌||◌, ◌==◌, List, [], ◌∷◌, ◌++◌, length, length-append, nat_le, refl, sym, ap, ◌∙◌, map, arith}
+use Rattle.std.proofs.Common.{◌≡◌, ℕ, suc, ◌+◌, ◌<◌, ◌≤◌, Bool, true, false, ◌&&◌, ◌||◌, ◌==◌, List, [], ◌∷◌, ◌++◌, length, length-append, nat_le, refl, sym, ap, ◌∙◌, map, arith}
 use Rattle.std.specs.Prelude.{fold, sum_by}
 use Rattle.std.specs.Ordering.{nat_cmp}
 use Rattle.std.specs.Cmp.Lexicographic.{slice_cmp}
@@ -9,6 +9,7 @@ use Rattle.std.proofs.lemmas.List.{append_assoc, append-nil, map-append}
 use Rattle.std.proofs.lemmas.List.Folds.{list_all-append}
 use Rattle.std.proofs.lemmas.List.Sums.{fold-append, sum_by_push}
 use Rattle.std.proofs.lemmas.Grind.{flat_map-append}
+use Rattle.std.proofs.lemmas.Cmp.{nat_list_eq_equiv}
 use Rattle.score_base.specs.declared.keys.Key.{Key}
 use Rattle.score_base.specs.declared.ids.TxId.{TxId}
 use Rattle.score_base.specs.declared.ids.Value.{Value}
@@ -25,7 +26,7 @@ numbers_last (x ∷ ss) s = ap (λ ts. x.number ∷ ts) (numbers_last ss s)
 
 pub numbers_length : (ss : List ScriptData) → length (script_numbers ss) ≡ length ss
 numbers_length [] = refl
-numbers_length (x ∷ ss) = ap (λ n. n + 1) (numbers_length ss)
+numbers_length (x ∷ ss) = ap suc (numbers_length ss)
 
 pub key_order_last : (ks : List Key) (k : Key) → key_order (ks ++ k ∷ []) ≡ insert_key (slice_cmp nat_cmp) (key_order ks) k
 key_order_last ks k = fold-append (insert_key (slice_cmp nat_cmp)) [] ks (k ∷ [])
@@ -68,8 +69,13 @@ all_but_last p [] x h = (refl, first (p x) h)
     first : (b : Bool) → (b && true) ≡ true → b ≡ true
     first true e = refl
     first false e = cc
-all_but_last p (y ∷ xs) x h = by (p y) h
+all_but_last p (y ∷ xs) x h = by (p y) h (all_but_last p xs x)
   where
-    by : (b : Bool) → (b && list_all p (xs ++ x ∷ [])) ≡ true → ((b && list_all p xs) ≡ true) × (p x ≡ true)
-    by true e = all_but_last p xs x e
-    by false e = cc
+    by : (b : Bool) → (b && list_all p (xs ++ x ∷ [])) ≡ true → (list_all p (xs ++ x ∷ []) ≡ true → (list_all p xs ≡ true) × (p x ≡ true)) → ((b && list_all p xs) ≡ true) × (p x ≡ true)
+    by true e k = k e
+    by false e k = cc
+
+-- before any script, the keys named are those of the initial values
+pub known_in_inits : (inits : List (Key × Value)) (k : Key) → list_any (λ x. same_key x.0 k) inits ≡ list_any (same_key k) (keys_in inits [])
+known_in_inits [] k = refl
+known_in_inits (x ∷ inits) k = rw (nat_list_eq_equiv.symm x.0 k, known_in_inits inits k) refl

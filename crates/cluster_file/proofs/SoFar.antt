@@ -34,11 +34,11 @@ pub record IsHead (nodes : ℕ) (places : List (List NodeId)) : Type 0 where
 
 -- the scripts so far, and what was named
 pub record IsNamed (nodes : ℕ) (inits : List (Key × Value)) (scripts : List ScriptData) (known : List Key) (numbers : List TxId) : Type 0 where
-  pub inits : are_keys_distinct inits ≡ true
+  pub fresh : are_keys_distinct inits ≡ true
   pub few : length scripts ≤ 4096
   pub distinct : are_numbers_distinct (script_numbers scripts) ≡ true
   pub homes : list_all (λ s. nat_le s.home nodes) scripts ≡ true
-  pub known : known ≡ key_order (keys_in inits scripts)
+  pub ordered : known ≡ key_order (keys_in inits scripts)
   pub few_keys : length known ≤ 4096
   pub taken : numbers ≡ number_order (script_numbers scripts)
 
