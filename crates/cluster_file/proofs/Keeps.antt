@@ -28,7 +28,7 @@ use Rattle.cluster_file.specs.declared.drafts.Part.TheVariants as part
 use Rattle.cluster_file.specs.Reading.{◌>>=◌, is_word, word_at, end_at, number_at, in_range, steps}
 use Rattle.cluster_file.specs.Lines.{node_of, node_in, key_of, tx_of, is_known, is_taken, with_key, with_number, name_key, name_new_key, new_number, known_number, nodes_line, new_node, node_step, is_next, partition_line, init_line, tx_line, read_line, end_line, schedule_line, with_item, begin_line, deliver_line, script_line, later_line, init_or_later, is_later_item, item_line, part_line, line_in, words_line, is_printed, line_of}
 use Rattle.cluster_file.specs.Doc.{close, is_whole, pieces_from, at_line, blank, document_of}
-use Rattle.cluster_file.proofs.Tests.{and_parts}
+use Rattle.cluster_file.proofs.Bools.{and_parts}
 use Rattle.cluster_file.proofs.Members.{among_numbers, among_keys, distinct_more}
 use Rattle.cluster_file.proofs.Steps.{behind, then, either, numbered, below, at_ok}
 use Rattle.cluster_file.proofs.Named.{numbers_last, numbers_length, key_order_last, number_order_last, keys_read, keys_begun, keys_init, all_last, all_but_last, known_in_inits}
@@ -54,10 +54,13 @@ record IsNodes (nodes : ℕ) (ns : List NodeId) : Type 0 where
 
 node_step_keeps : (nodes : ℕ) (ns : List NodeId) (w : List ℕ) → IsNodes nodes ns → IfOk (node_step nodes ns w) (λ ms. IsNodes nodes ms × (length ms ≡ length ns + 1))
 unfolding node_step
-node_step_keeps nodes ns w h = behind (node_of nodes w) _ _ _ (node_of_keeps nodes w) (λ n low. behind (new_node ns n) _ (λ _. list_any (λ m. m == n) ns ≡ false) _ (either (list_any (λ m. m == n) ns) _ _ _ (λ e. tt) (λ e. e)) (λ z new. (record {
-  distinct = distinct_more (λ (a b : ℕ). a == b) nat_eq_equiv.symm are_distinct refl (λ x xs. refl) ns n h.distinct new;
-  within = all_last (λ m. nat_le m nodes) ns n h.within low;
-}, length-append ns (n ∷ []))))
+node_step_keeps nodes ns w h = behind (node_of nodes w) _ _ _ (node_of_keeps nodes w) (λ n low. behind (new_node ns n) _ (λ _. list_any (λ m. m == n) ns ≡ false) _ (either (list_any (λ m. m == n) ns) _ _ _ (λ e. tt) (λ e. e)) (λ z new. (
+  record {
+    distinct = distinct_more (λ (a b : ℕ). a == b) nat_eq_equiv.symm are_distinct refl (λ x xs. refl) ns n h.distinct new;
+    within = all_last (λ m. nat_le m nodes) ns n h.within low;
+  },
+  length-append ns (n ∷ []),
+)))
 
 steps_keep : (nodes : ℕ) (ns : List NodeId) (ws : List (List ℕ)) → IsNodes nodes ns → 1 ≤ length ns + length ws → IfOk (steps (node_step nodes) ns ws) (λ ms. IsNodes nodes ms × (1 ≤ length ms))
 unfolding steps
@@ -73,7 +76,7 @@ record IsNamedBy (old : List Key) (k : Key) (new : BTreeSet Key) : Type 0 where
   pub few : length new.keys ≤ 4096
 
 name_key_keeps : (known : BTreeSet Key) (k : Key) → IfOk (name_key known k) (IsNamedBy known.keys k)
-name_key_keeps known k = either (nat_le (length (with_key known k).keys) 4096) _ _ _ (λ e. record { same = refl; few = grind (arith, nat_tests, e); }) (λ e. tt)
+name_key_keeps known k = either (nat_le (length (with_key known k).keys) 4096) _ _ _ (λ e. record { same = refl; few = grind (arith, nat_tests, e) }) (λ e. tt)
 
 name_new_key_keeps : (known : BTreeSet Key) (k : Key) → IfOk (name_new_key known k) (λ new. IsNamedBy known.keys k new × (list_any (same_key k) known.keys ≡ false))
 name_new_key_keeps known k = either (is_known known k) _ _ _ (λ e. tt) (λ e. also (name_key known k) (name_key_keeps known k) e)
@@ -143,25 +146,25 @@ no_script ss o e = ap (λ p. ss ++ opened p) e ∙ append-nil ss
 pub nodes_keeps : (ws : List (List ℕ)) → IfOk (nodes_line blank ws) IsBegun
 unfolding nodes_line
 nodes_keeps ws = then (number_at ws) _ _ (λ n. behind (in_range 1 16 n.0) _ _ _ (in_range_keeps 1 16 n.0) (λ m h. then (end_at n.1) _ _ (λ _. record {
-  head = record { least = h.0; most = h.1; few = omega arith; each = refl; within = refl; };
-  named = record { fresh = refl; few = omega arith; distinct = refl; homes = refl; ordered = refl; few_keys = omega arith; taken = refl; };
-  plan = record { each = refl; counted = refl; few = omega arith; };
+  head = record { least = h.0; most = h.1; few = omega arith; each = refl; within = refl };
+  named = record { fresh = refl; few = omega arith; distinct = refl; homes = refl; ordered = refl; few_keys = omega arith; taken = refl };
+  plan = record { each = refl; counted = refl; few = omega arith };
   stage = (refl, refl, refl);
 })))
 
 partition_keeps : (d : Draft) (ws : List (List ℕ)) → IsBegun d → d.scripts ≡ [] → d.script ≡ None → d.items ≡ [] → IfOk (partition_line d ws) IsBegun
 unfolding partition_line
-partition_keeps d ws h ss none items = either (nat_le 64 (length d.places)) _ _ _ (λ e. tt) (λ room. then (number_at ws) _ _ (λ i. behind (is_next (length d.places) i.0 i.1) _ _ _ (is_next_keeps (length d.places) i.0 i.1) (λ z some. behind (steps (node_step d.nodes) [] i.1) _ _ _ (steps_keep d.nodes [] i.1 (record { distinct = refl; within = refl; }) (omega (arith, some))) (λ ns k.
-  let long : length (d.places ++ ns ∷ []) ≡ length d.places + 1 = length-append d.places (ns ∷ []) in
-  let less : length d.places < 64 = grind (arith, nat_tests, room) in
-  let least : nat_le 1 (length ns) ≡ true = grind (arith, nat_tests, k.1) in
-  let one : is_partition ns ≡ true = rw (least, k.0.distinct) refl in
-  record {
-    head = record { least = h.head.least; most = h.head.most; few = omega (arith, long, less); each = all_last is_partition d.places ns h.head.each one; within = all_last (list_all (λ n. nat_le n d.nodes)) d.places ns h.head.within k.0.within; };
-    named = h.named;
-    plan = h.plan;
-    stage = (ss, none, items, omega (arith, long));
-  }))))
+partition_keeps d ws h ss none items = either (nat_le 64 (length d.places)) _ _ _ (λ e. tt) (λ room. then (number_at ws) _ _ (λ i. behind (is_next (length d.places) i.0 i.1) _ _ _ (is_next_keeps (length d.places) i.0 i.1) (λ z some. behind (steps (node_step d.nodes) [] i.1) _ _ _ (steps_keep d.nodes [] i.1 (record { distinct = refl; within = refl }) (omega (arith, some))) (λ ns k.
+    let long : length (d.places ++ ns ∷ []) ≡ length d.places + 1 = length-append d.places (ns ∷ []) in
+    let less : length d.places < 64 = grind (arith, nat_tests, room) in
+    let least : nat_le 1 (length ns) ≡ true = grind (arith, nat_tests, k.1) in
+    let one : is_partition ns ≡ true = rw (least, k.0.distinct) refl in
+    record {
+      head = record { least = h.head.least; most = h.head.most; few = omega (arith, long, less); each = all_last is_partition d.places ns h.head.each one; within = all_last (list_all (λ n. nat_le n d.nodes)) d.places ns h.head.within k.0.within };
+      named = h.named;
+      plan = h.plan;
+      stage = (ss, none, items, omega (arith, long));
+    }))))
 
 init_keeps : (d : Draft) (ws : List (List ℕ)) → IsBegun d → d.scripts ≡ [] → d.script ≡ None → d.items ≡ [] → 1 ≤ length d.places → IfOk (init_line d ws) IsBegun
 unfolding init_line
@@ -188,7 +191,7 @@ tx_keeps d ws h none items some =
 
 schedule_keeps : (d : Draft) (ws : List (List ℕ)) → IsBegun d → d.script ≡ None → 1 ≤ length d.places → IfOk (schedule_line d ws) IsBegun
 unfolding schedule_line
-schedule_keeps d ws h none some = then (end_at ws) _ _ (λ _. record { head = h.head; named = h.named; plan = h.plan; stage = (none, some); })
+schedule_keeps d ws h none some = then (end_at ws) _ _ (λ _. record { head = h.head; named = h.named; plan = h.plan; stage = (none, some) })
 
 -- d with a script that is being read
 abbrev inside : Draft → ScriptData → Draft
@@ -296,7 +299,7 @@ whole part.Scripts e = cc
 whole part.Items e = refl
 
 close_keeps : (d : Draft) (tail : List ℕ) → IsBegun d → IfOk (close d tail) IsWhole
-close_keeps d tail h = either ((length tail == 0) && is_whole d.part) _ _ _ (λ e. record { begun = h; ended = whole d.part (and_parts (length tail == 0) (is_whole d.part) e).1; }) (λ e. tt)
+close_keeps d tail h = either ((length tail == 0) && is_whole d.part) _ _ _ (λ e. record { begun = h; ended = whole d.part (and_parts (length tail == 0) (is_whole d.part) e).1 }) (λ e. tt)
 
 blank_close_keeps : (tail : List ℕ) → IfOk (close blank tail) IsWhole
 blank_close_keeps tail = either ((length tail == 0) && false) _ _ _ (λ e. let bad : false ≡ true = (and_parts (length tail == 0) false e).1 in cc) (λ e. tt)
@@ -319,7 +322,7 @@ IsDocument-from_whole d w =
     let named : IsNamed d.nodes d.inits d.scripts d.known.keys d.numbers.keys = subst (λ l. IsNamed d.nodes d.inits l d.known.keys d.numbers.keys) all h.named in
     let plan : IsPlan d.nodes (script_numbers d.scripts) d.items d.events = subst (λ l. IsPlan d.nodes (script_numbers l) d.items d.events) all h.plan in
     record {
-      cluster = record { least = h.head.least; most = h.head.most; places = record { least = stage.1; most = h.head.few; each = h.head.each; }; within = h.head.within; inits = named.fresh; };
+      cluster = record { least = h.head.least; most = h.head.most; places = record { least = stage.1; most = h.head.few; each = h.head.each }; within = h.head.within; inits = named.fresh };
       count = named.few;
       numbers = named.distinct;
       homes = named.homes;

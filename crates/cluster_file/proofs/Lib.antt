@@ -1,4 +1,4 @@
-pub mod Tests
+pub mod Bools
 pub mod Members
 pub mod Steps
 pub mod SoFar

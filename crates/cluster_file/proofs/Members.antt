@@ -13,7 +13,7 @@ use Rattle.score_base.specs.declared.keys.Key.{Key}
 use Rattle.score_base.specs.declared.ids.TxId.{TxId}
 use Rattle.score_base.specs.Keys.{same_key}
 use Rattle.grid_model.specs.Documents.{key_order, number_order}
-use Rattle.cluster_file.proofs.Tests.{and_parts, or_parts, or_false, or_twice, or_swap, or_turn, not_parts}
+use Rattle.cluster_file.proofs.Bools.{and_parts, or_parts, or_false, or_twice, or_swap, or_turn, not_parts}
 
 pub list_any_same : {X : Type 0} (p q : X → Bool) → ((x : X) → p x ≡ q x) → (xs : List X) → list_any p xs ≡ list_any q xs
 list_any_same p q h [] = refl

@@ -175,15 +175,15 @@ deliver_line d ws = if nat_le 50000 d.events then Err 9 else (do
 -- a line inside a script
 abbrev pub script_line : Draft → ScriptData → List ℕ → List (List ℕ) → Result Draft ℕ
 script_line d s w ws =
-  if is_word w (codes "read") then read_line d s ws else
-  (if is_word w (codes "write") then Err 12 else
-  (if is_word w (codes "end") then end_line d s ws else Err 1))
+    if is_word w (codes "read") then read_line d s ws else
+    (if is_word w (codes "write") then Err 12 else
+    (if is_word w (codes "end") then end_line d s ws else Err 1))
 
 -- a line behind the initial values
 abbrev pub later_line : Draft → List ℕ → List (List ℕ) → Result Draft ℕ
 later_line d w ws =
-  if is_word w (codes "tx") then tx_line d ws else
-  (if is_word w (codes "schedule") then schedule_line d ws else Err 1)
+    if is_word w (codes "tx") then tx_line d ws else
+    (if is_word w (codes "schedule") then schedule_line d ws else Err 1)
 
 -- a line behind the partitions
 abbrev pub init_or_later : Draft → List ℕ → List (List ℕ) → Result Draft ℕ
@@ -196,9 +196,9 @@ is_later_item w = is_word w (codes "drop") || is_word w (codes "next") || is_wor
 -- a line of the schedule
 abbrev pub item_line : Draft → List ℕ → List (List ℕ) → Result Draft ℕ
 item_line d w ws =
-  if is_word w (codes "begin") then begin_line d ws else
-  (if is_word w (codes "deliver") then deliver_line d ws else
-  (if is_later_item w then Err 12 else Err 1))
+    if is_word w (codes "begin") then begin_line d ws else
+    (if is_word w (codes "deliver") then deliver_line d ws else
+    (if is_later_item w then Err 12 else Err 1))
 
 -- a line outside of scripts, by the part of the document that it stands in
 abbrev pub part_line : Part → Draft → List ℕ → List (List ℕ) → Result Draft ℕ

@@ -9,6 +9,8 @@
 mod documents;
 mod drafts;
 mod lines;
+#[cfg(test)]
+mod tests;
 mod whys;
 mod words;
 

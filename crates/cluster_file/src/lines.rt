@@ -186,11 +186,7 @@ fn tx_line(alloc: Global, mut draft: Draft, words: &[&[u8]]) -> Result<Draft, Li
 }
 
 #[tactic(auto, unfolding(crate::specs::Lines::read_line))]
-fn read_line(
-    mut draft: Draft,
-    mut script: ScriptDraft,
-    words: &[&[u8]],
-) -> Result<Draft, LineEnd>
+fn read_line(mut draft: Draft, mut script: ScriptDraft, words: &[&[u8]]) -> Result<Draft, LineEnd>
     ensures { Gives (λ d. d) result (read_line draft script (map (λ w. w.now) words.now)) }
 {
     if script.len() >= 32 {
@@ -291,12 +287,7 @@ fn later_line(alloc: Global, draft: Draft, word: &[u8], rest: &[&[u8]]) -> Resul
     }
 }
 
-fn init_or_later(
-    alloc: Global,
-    draft: Draft,
-    word: &[u8],
-    rest: &[&[u8]],
-) -> Result<Draft, LineEnd>
+fn init_or_later(alloc: Global, draft: Draft, word: &[u8], rest: &[&[u8]]) -> Result<Draft, LineEnd>
     ensures { Gives (λ d. d) result (init_or_later draft word.now (map (λ w. w.now) rest.now)) }
 {
     if is_word(word, b"init") {
