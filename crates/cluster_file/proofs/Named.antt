@@ -1,0 +1,81 @@
+-- What one more word, key, script or item does to the parts of a document.
+use Rattle.std.proofs.Common.{◌≡◌, ℕ, suc, ◌+◌, ◌<◌, ◌≤◌, Bool, true, false, ◌&&◌, ◌||◌, ◌==◌, List, [], ◌∷◌, ◌++◌, length, length-append, nat_le, refl, sym, ap, ◌∙◌, map, arith}
+use Rattle.std.specs.Prelude.{fold, sum_by}
+use Rattle.std.specs.Ordering.{nat_cmp}
+use Rattle.std.specs.Cmp.Lexicographic.{slice_cmp}
+use Rattle.std.specs.List.{list_any, list_all, flat_map}
+use Rattle.std.specs.BTreeSet.{insert_key}
+use Rattle.std.proofs.lemmas.List.{append_assoc, append-nil, map-append}
+use Rattle.std.proofs.lemmas.List.Folds.{list_all-append}
+use Rattle.std.proofs.lemmas.List.Sums.{fold-append, sum_by_push}
+use Rattle.std.proofs.lemmas.Grind.{flat_map-append}
+use Rattle.std.proofs.lemmas.Cmp.{nat_list_eq_equiv}
+use Rattle.score_base.specs.declared.keys.Key.{Key}
+use Rattle.score_base.specs.declared.ids.TxId.{TxId}
+use Rattle.score_base.specs.declared.ids.Value.{Value}
+use Rattle.score_base.specs.Keys.{same_key}
+use Rattle.script_lang.specs.Scripts.{ScriptData}
+use Rattle.script_lang.specs.Reads.{keys_named}
+use Rattle.script_lang.specs.declared.scripts.Op.{Op}
+use Rattle.script_lang.specs.declared.scripts.Op.TheVariants as op
+use Rattle.grid_model.specs.Documents.{script_numbers, keys_in, key_order, number_order}
+
+pub numbers_last : (ss : List ScriptData) (s : ScriptData) → script_numbers (ss ++ s ∷ []) ≡ script_numbers ss ++ s.number ∷ []
+numbers_last [] s = refl
+numbers_last (x ∷ ss) s = ap (λ ts. x.number ∷ ts) (numbers_last ss s)
+
+pub numbers_length : (ss : List ScriptData) → length (script_numbers ss) ≡ length ss
+numbers_length [] = refl
+numbers_length (x ∷ ss) = ap suc (numbers_length ss)
+
+pub key_order_last : (ks : List Key) (k : Key) → key_order (ks ++ k ∷ []) ≡ insert_key (slice_cmp nat_cmp) (key_order ks) k
+key_order_last ks k = fold-append (insert_key (slice_cmp nat_cmp)) [] ks (k ∷ [])
+
+pub number_order_last : (ts : List TxId) (t : TxId) → number_order (ts ++ t ∷ []) ≡ insert_key nat_cmp (number_order ts) t
+number_order_last ts t = fold-append (insert_key nat_cmp) [] ts (t ∷ [])
+
+keys_named_last : (ops : List Op) (k : Key) → keys_named (ops ++ op.Read k ∷ []) ≡ keys_named ops ++ k ∷ []
+keys_named_last [] k = refl
+keys_named_last (op.Read x ∷ ops) k = ap (λ ks. x ∷ ks) (keys_named_last ops k)
+keys_named_last (op.Write x e ∷ ops) k = ap (λ ks. x ∷ ks) (keys_named_last ops k)
+
+last_keys : (inits : List (Key × Value)) (ss : List ScriptData) (s : ScriptData) → keys_in inits (ss ++ s ∷ []) ≡ keys_in inits ss ++ keys_named s.ops
+last_keys inits ss s =
+    ap (λ ks. map (λ x. x.0) inits ++ ks) (flat_map-append (λ t. keys_named t.ops) ss (s ∷ []) ∙ ap (λ ks. flat_map (λ t. keys_named t.ops) ss ++ ks) (append-nil (keys_named s.ops)))
+    ∙ sym (append_assoc (map (λ x. x.0) inits) (flat_map (λ t. keys_named t.ops) ss) (keys_named s.ops))
+
+-- one more read of the last script
+pub keys_read : (inits : List (Key × Value)) (ss : List ScriptData) (s : ScriptData) (k : Key) → keys_in inits (ss ++ record s { ops = s.ops ++ op.Read k ∷ [] } ∷ []) ≡ keys_in inits (ss ++ s ∷ []) ++ k ∷ []
+keys_read inits ss s k =
+    last_keys inits ss (record s { ops = s.ops ++ op.Read k ∷ [] })
+    ∙ ap (λ ks. keys_in inits ss ++ ks) (keys_named_last s.ops k)
+    ∙ sym (append_assoc (keys_in inits ss) (keys_named s.ops) (k ∷ []))
+    ∙ ap (λ ks. ks ++ k ∷ []) (sym (last_keys inits ss s))
+
+-- one more script without operations
+pub keys_begun : (inits : List (Key × Value)) (ss : List ScriptData) (s : ScriptData) → s.ops ≡ [] → keys_in inits (ss ++ s ∷ []) ≡ keys_in inits ss
+keys_begun inits ss s e = last_keys inits ss s ∙ ap (λ ops. keys_in inits ss ++ keys_named ops) e ∙ append-nil (keys_in inits ss)
+
+-- one more initial value, before any script
+pub keys_init : (inits : List (Key × Value)) (x : Key × Value) → keys_in (inits ++ x ∷ []) [] ≡ keys_in inits [] ++ x.0 ∷ []
+keys_init inits x = append-nil (map (λ y. y.0) (inits ++ x ∷ [])) ∙ map-append (λ y. y.0) inits (x ∷ []) ∙ ap (λ ks. ks ++ x.0 ∷ []) (sym (append-nil (map (λ y. y.0) inits)))
+
+pub all_last : {X : Type 0} (p : X → Bool) (xs : List X) (x : X) → list_all p xs ≡ true → p x ≡ true → list_all p (xs ++ x ∷ []) ≡ true
+all_last p xs x h k = rw (list_all-append, h, k) refl
+
+pub all_but_last : {X : Type 0} (p : X → Bool) (xs : List X) (x : X) → list_all p (xs ++ x ∷ []) ≡ true → (list_all p xs ≡ true) × (p x ≡ true)
+all_but_last p [] x h = (refl, first (p x) h)
+  where
+    first : (b : Bool) → (b && true) ≡ true → b ≡ true
+    first true e = refl
+    first false e = cc
+all_but_last p (y ∷ xs) x h = by (p y) h (all_but_last p xs x)
+  where
+    by : (b : Bool) → (b && list_all p (xs ++ x ∷ [])) ≡ true → (list_all p (xs ++ x ∷ []) ≡ true → (list_all p xs ≡ true) × (p x ≡ true)) → ((b && list_all p xs) ≡ true) × (p x ≡ true)
+    by true e k = k e
+    by false e k = cc
+
+-- before any script, the keys named are those of the initial values
+pub known_in_inits : (inits : List (Key × Value)) (k : Key) → list_any (λ x. same_key x.0 k) inits ≡ list_any (same_key k) (keys_in inits [])
+known_in_inits [] k = refl
+known_in_inits (x ∷ inits) k = rw (nat_list_eq_equiv.symm x.0 k, known_in_inits inits k) refl

@@ -1,0 +1,385 @@
+ghost use Rattle.std.specs.Prelude.{◌≡◌, ◌==◌, [], map, OnOk};
+ghost use Rattle.std.specs.List.{list_any, list_all};
+ghost use Rattle.cluster_file.specs.Reading.{Gives, steps};
+ghost use Rattle.cluster_file.specs.Lines.{is_known, is_taken, with_key, with_number, name_key, name_new_key, new_number, known_number, nodes_line, new_node, node_step, is_next, partition_line, init_line, tx_line, read_line, end_line, schedule_line, with_item, begin_line, deliver_line, script_line, later_line, init_or_later, is_later_item, item_line, part_line, words_line, is_printed, line_of};
+
+use crate::drafts::{Draft, NodeCount, Part};
+use crate::whys::LineEnd;
+use crate::words::{end_at, in_range, is_word, key_of, node_of, number_at, pieces, tx_of, word_at};
+use grid_model::Item;
+use score_base::{Key, Memory, NodeId, NodeList, TxId, Value};
+use script_lang::ScriptDraft;
+use std::alloc::Global;
+use std::collections::BTreeSet;
+
+fn is_known(known: &BTreeSet<Key>, key: &Key) -> bool
+    ensures { result ≡ is_known known.now key.now }
+{
+    known.contains(key)
+}
+
+fn is_taken(numbers: &BTreeSet<TxId>, t: &TxId) -> bool
+    ensures { result ≡ is_taken numbers.now t.now }
+{
+    numbers.contains(t)
+}
+
+fn put_key(known: &mut BTreeSet<Key>, key: Key) -> Result<(), Memory>
+    ensures { OnOk result (known.new ≡ with_key known.old key) }
+{
+    known.insert(key)?;
+    Ok(())
+}
+
+fn put_number(numbers: &mut BTreeSet<TxId>, t: TxId) -> Result<(), Memory>
+    ensures { OnOk result (numbers.new ≡ with_number numbers.old t) }
+{
+    numbers.insert(t)?;
+    Ok(())
+}
+
+fn name_key(known: &mut BTreeSet<Key>, key: Key) -> Result<u64, LineEnd>
+    ensures { Gives (λ _. known.new) result (name_key known.old key) }
+{
+    put_key(known, key)?;
+    if known.len() > 4096 {
+        return Err(LineEnd::Why(9));
+    }
+    Ok(0)
+}
+
+fn name_new_key(known: &mut BTreeSet<Key>, key: Key) -> Result<u64, LineEnd>
+    ensures { Gives (λ _. known.new) result (name_new_key known.old key) }
+{
+    if is_known(known, &key) {
+        return Err(LineEnd::Why(8));
+    }
+    name_key(known, key)
+}
+
+fn new_number(numbers: &BTreeSet<TxId>, t: &TxId) -> Result<u64, LineEnd>
+    ensures { Gives (λ n. n) result (new_number numbers.now t.now) }
+{
+    if is_taken(numbers, t) {
+        return Err(LineEnd::Why(8));
+    }
+    Ok(0)
+}
+
+fn known_number(numbers: &BTreeSet<TxId>, t: &TxId) -> Result<u64, LineEnd>
+    ensures { Gives (λ n. n) result (known_number numbers.now t.now) }
+{
+    if is_taken(numbers, t) {
+        return Ok(0);
+    }
+    Err(LineEnd::Why(6))
+}
+
+#[tactic(auto, unfolding(crate::specs::Lines::nodes_line))]
+fn nodes_line(draft: Draft, words: &[&[u8]]) -> Result<Draft, LineEnd>
+    ensures { Gives (λ d. d) result (nodes_line draft (map (λ w. w.now) words.now)) }
+{
+    let (n, rest) = number_at(words)?;
+    let count = in_range(1, 16, n)?;
+    end_at(rest)?;
+    Ok(Draft {
+        nodes: NodeCount::new(count),
+        part: Part::Nodes,
+        ..draft
+    })
+}
+
+fn has_node(nodes: &[NodeId], node: NodeId) -> bool
+    ensures { result ≡ list_any (λ m. m == node) nodes.now }
+{
+    nodes.iter().any(|m| *m == node)
+}
+
+fn new_node(nodes: &[NodeId], node: NodeId) -> Result<u64, LineEnd>
+    ensures { Gives (λ n. n) result (new_node nodes.now node) }
+{
+    if has_node(nodes, node) {
+        return Err(LineEnd::Why(8));
+    }
+    Ok(0)
+}
+
+#[tactic(auto, unfolding(crate::specs::Lines::node_step))]
+fn node_step(count: NodeCount, mut nodes: NodeList, word: &[u8]) -> Result<NodeList, LineEnd>
+    ensures { Gives (λ ns. ns) result (node_step count nodes word.now) }
+{
+    let node = node_of(count, word)?;
+    new_node(nodes.as_slice(), node)?;
+    nodes.push(node)?;
+    Ok(nodes)
+}
+
+#[tactic(auto, unfolding(crate::specs::Reading::steps))]
+fn nodes_at(alloc: Global, count: NodeCount, words: &[&[u8]]) -> Result<NodeList, LineEnd>
+    ensures { Gives (λ ns. ns) result (steps (node_step count) [] (map (λ w. w.now) words.now)) }
+{
+    let mut nodes = NodeList::new(alloc);
+    for word in words {
+        nodes = node_step(count, nodes, word)?;
+    }
+    Ok(nodes)
+}
+
+fn is_next(next: usize, i: u64, words: &[&[u8]]) -> Result<u64, LineEnd>
+    ensures { Gives (λ n. n) result (is_next next i (map (λ w. w.now) words.now)) }
+{
+    if i != next as u64 {
+        return Err(LineEnd::Why(4));
+    }
+    if words.is_empty() {
+        return Err(LineEnd::Why(10));
+    }
+    Ok(0)
+}
+
+#[tactic(auto, unfolding(crate::specs::Lines::partition_line))]
+fn partition_line(alloc: Global, mut draft: Draft, words: &[&[u8]]) -> Result<Draft, LineEnd>
+    ensures { Gives (λ d. d) result (partition_line draft (map (λ w. w.now) words.now)) }
+{
+    if draft.places.len() >= 64 {
+        return Err(LineEnd::Why(9));
+    }
+    let (i, rest) = number_at(words)?;
+    is_next(draft.places.len(), i, rest)?;
+    let nodes = nodes_at(alloc, draft.nodes, rest)?;
+    draft.places.push(nodes)?;
+    draft.part = Part::Partitions;
+    Ok(draft)
+}
+
+#[tactic(auto, unfolding(crate::specs::Lines::init_line))]
+fn init_line(mut draft: Draft, words: &[&[u8]]) -> Result<Draft, LineEnd>
+    ensures { Gives (λ d. d) result (init_line draft (map (λ w. w.now) words.now)) }
+{
+    let (word, rest) = word_at(words)?;
+    let key = key_of(word)?;
+    name_new_key(&mut draft.known, key)?;
+    let (value, rest) = number_at(rest)?;
+    end_at(rest)?;
+    draft.inits.push((key, Value(value)))?;
+    draft.part = Part::Inits;
+    Ok(draft)
+}
+
+#[tactic(auto, unfolding(crate::specs::Lines::tx_line))]
+fn tx_line(alloc: Global, mut draft: Draft, words: &[&[u8]]) -> Result<Draft, LineEnd>
+    ensures { Gives (λ d. d) result (tx_line draft (map (λ w. w.now) words.now)) }
+{
+    if draft.scripts.len() >= 4096 {
+        return Err(LineEnd::Why(9));
+    }
+    let (word, rest) = word_at(words)?;
+    let number = tx_of(word)?;
+    new_number(&draft.numbers, &number)?;
+    let (word, rest) = word_at(rest)?;
+    let home = node_of(draft.nodes, word)?;
+    end_at(rest)?;
+    put_number(&mut draft.numbers, number)?;
+    draft.script = Some(ScriptDraft::new(alloc, number, home));
+    draft.part = Part::Scripts;
+    Ok(draft)
+}
+
+#[tactic(auto, unfolding(crate::specs::Lines::read_line))]
+fn read_line(mut draft: Draft, mut script: ScriptDraft, words: &[&[u8]]) -> Result<Draft, LineEnd>
+    ensures { Gives (λ d. d) result (read_line draft script (map (λ w. w.now) words.now)) }
+{
+    if script.len() >= 32 {
+        return Err(LineEnd::Why(9));
+    }
+    let (word, rest) = word_at(words)?;
+    let key = key_of(word)?;
+    name_key(&mut draft.known, key)?;
+    end_at(rest)?;
+    script.push_read(key)?;
+    draft.script = Some(script);
+    Ok(draft)
+}
+
+#[tactic(auto, unfolding(crate::specs::Lines::end_line))]
+fn end_line(mut draft: Draft, script: ScriptDraft, words: &[&[u8]]) -> Result<Draft, LineEnd>
+    ensures { Gives (λ d. d) result (end_line draft script (map (λ w. w.now) words.now)) }
+{
+    if script.len() == 0 {
+        return Err(LineEnd::Why(10));
+    }
+    end_at(words)?;
+    draft.scripts.push(script.finish())?;
+    draft.script = None;
+    Ok(draft)
+}
+
+#[tactic(auto, unfolding(crate::specs::Lines::schedule_line))]
+fn schedule_line(draft: Draft, words: &[&[u8]]) -> Result<Draft, LineEnd>
+    ensures { Gives (λ d. d) result (schedule_line draft (map (λ w. w.now) words.now)) }
+{
+    end_at(words)?;
+    Ok(Draft {
+        part: Part::Items,
+        ..draft
+    })
+}
+
+#[tactic(auto, unfolding(crate::specs::Lines::begin_line))]
+fn begin_line(mut draft: Draft, words: &[&[u8]]) -> Result<Draft, LineEnd>
+    ensures { Gives (λ d. d) result (begin_line draft (map (λ w. w.now) words.now)) }
+{
+    if draft.events >= 50000 {
+        return Err(LineEnd::Why(9));
+    }
+    let (word, rest) = word_at(words)?;
+    let t = tx_of(word)?;
+    known_number(&draft.numbers, &t)?;
+    end_at(rest)?;
+    draft.items.push(Item::Begin(t))?;
+    draft.events += 1;
+    Ok(draft)
+}
+
+#[tactic(auto, unfolding(crate::specs::Lines::deliver_line))]
+fn deliver_line(mut draft: Draft, words: &[&[u8]]) -> Result<Draft, LineEnd>
+    ensures { Gives (λ d. d) result (deliver_line draft (map (λ w. w.now) words.now)) }
+{
+    if draft.events >= 50000 {
+        return Err(LineEnd::Why(9));
+    }
+    let (n, rest) = number_at(words)?;
+    let m = in_range(1, 4_294_967_295, n)?;
+    end_at(rest)?;
+    draft.items.push(Item::Deliver(m as u32))?;
+    draft.events += 1;
+    Ok(draft)
+}
+
+fn script_line(
+    draft: Draft,
+    script: ScriptDraft,
+    word: &[u8],
+    rest: &[&[u8]],
+) -> Result<Draft, LineEnd>
+    ensures { Gives (λ d. d) result (script_line draft script word.now (map (λ w. w.now) rest.now)) }
+{
+    if is_word(word, b"read") {
+        read_line(draft, script, rest)
+    } else if is_word(word, b"write") {
+        Err(LineEnd::Why(12))
+    } else if is_word(word, b"end") {
+        end_line(draft, script, rest)
+    } else {
+        Err(LineEnd::Why(1))
+    }
+}
+
+fn later_line(alloc: Global, draft: Draft, word: &[u8], rest: &[&[u8]]) -> Result<Draft, LineEnd>
+    ensures { Gives (λ d. d) result (later_line draft word.now (map (λ w. w.now) rest.now)) }
+{
+    if is_word(word, b"tx") {
+        tx_line(alloc, draft, rest)
+    } else if is_word(word, b"schedule") {
+        schedule_line(draft, rest)
+    } else {
+        Err(LineEnd::Why(1))
+    }
+}
+
+fn init_or_later(alloc: Global, draft: Draft, word: &[u8], rest: &[&[u8]]) -> Result<Draft, LineEnd>
+    ensures { Gives (λ d. d) result (init_or_later draft word.now (map (λ w. w.now) rest.now)) }
+{
+    if is_word(word, b"init") {
+        init_line(draft, rest)
+    } else {
+        later_line(alloc, draft, word, rest)
+    }
+}
+
+fn is_later_item(word: &[u8]) -> bool
+    ensures { result ≡ is_later_item word.now }
+{
+    is_word(word, b"drop")
+        || is_word(word, b"next")
+        || is_word(word, b"retry")
+        || is_word(word, b"ask")
+        || is_word(word, b"crash")
+        || is_word(word, b"fuse")
+        || is_word(word, b"restart")
+}
+
+fn item_line(draft: Draft, word: &[u8], rest: &[&[u8]]) -> Result<Draft, LineEnd>
+    ensures { Gives (λ d. d) result (item_line draft word.now (map (λ w. w.now) rest.now)) }
+{
+    if is_word(word, b"begin") {
+        begin_line(draft, rest)
+    } else if is_word(word, b"deliver") {
+        deliver_line(draft, rest)
+    } else if is_later_item(word) {
+        Err(LineEnd::Why(12))
+    } else {
+        Err(LineEnd::Why(1))
+    }
+}
+
+fn part_line(alloc: Global, draft: Draft, word: &[u8], rest: &[&[u8]]) -> Result<Draft, LineEnd>
+    ensures { Gives (λ d. d) result (part_line draft.part draft word.now (map (λ w. w.now) rest.now)) }
+{
+    match draft.part {
+        Part::Start => {
+            if is_word(word, b"nodes") {
+                nodes_line(draft, rest)
+            } else {
+                Err(LineEnd::Why(1))
+            }
+        }
+        Part::Nodes => {
+            if is_word(word, b"partition") {
+                partition_line(alloc, draft, rest)
+            } else {
+                Err(LineEnd::Why(1))
+            }
+        }
+        Part::Partitions => {
+            if is_word(word, b"partition") {
+                partition_line(alloc, draft, rest)
+            } else {
+                init_or_later(alloc, draft, word, rest)
+            }
+        }
+        Part::Inits => init_or_later(alloc, draft, word, rest),
+        Part::Scripts => later_line(alloc, draft, word, rest),
+        Part::Items => item_line(draft, word, rest),
+    }
+}
+
+fn words_line(alloc: Global, mut draft: Draft, words: &[&[u8]]) -> Result<Draft, LineEnd>
+    ensures { Gives (λ d. d) result (words_line draft (map (λ w. w.now) words.now)) }
+{
+    let [word, rest @ ..] = words else {
+        return Err(LineEnd::Why(1));
+    };
+    match draft.script.take() {
+        Some(script) => script_line(draft, script, word, rest),
+        None => part_line(alloc, draft, word, rest),
+    }
+}
+
+fn are_printed(line: &[u8]) -> bool
+    ensures { result ≡ list_all is_printed line.now }
+{
+    line.iter().all(|b| 32 <= *b && *b <= 126)
+}
+
+/// What a line adds to what was read before it.
+#[tactic(auto, unfolding(crate::specs::Lines::line_of))]
+pub fn line_of(alloc: Global, draft: Draft, line: &[u8]) -> Result<Draft, LineEnd>
+    ensures { Gives (λ d. d) result (line_of draft line.now) }
+{
+    if !are_printed(line) {
+        return Err(LineEnd::Why(11));
+    }
+    let words = pieces(alloc, line, b' ')?;
+    words_line(alloc, draft, words.as_slice())
+}
