@@ -1,7 +1,7 @@
 -- The text of a run: the lines of its acts, and the summary.
-use Rattle.std.specs.Prelude.{ℕ, Bool, List, [], ◌∷◌, ◌++◌, codes, Option, Some, None}
+use Rattle.std.specs.Prelude.{ℕ, List, [], ◌∷◌, ◌++◌, codes, Option, Some, None, if◌then◌else◌}
 use Rattle.std.specs.Fmt.{decimal}
-use Rattle.std.specs.List.{flat_map}
+use Rattle.std.specs.List.{flat_map, range_with_len}
 use Rattle.score_base.specs.declared.ids.NodeId.{NodeId}
 use Rattle.score_base.specs.declared.ids.Ident.{Ident}
 use Rattle.score_base.specs.declared.ids.TxId.{TxId}
@@ -9,7 +9,7 @@ use Rattle.score_base.specs.declared.ids.Value.{Value}
 use Rattle.score_base.specs.declared.keys.Key.{Key}
 use Rattle.script_lang.specs.declared.scripts.Op.{Op}
 use Rattle.script_lang.specs.Scripts.{ScriptData}
-use Rattle.placement.specs.Places.{holds, rising_nodes}
+use Rattle.placement.specs.Places.{holds}
 use Rattle.placement.specs.Clusters.{ClusterData, init}
 use Rattle.grid_model.specs.declared.acts.Act.{Act}
 use Rattle.grid_model.specs.declared.standings.Standing.{Standing}
@@ -41,40 +41,48 @@ phase_words Answered s = codes "read" ∷ ident_words s
 unfoldable pub tx_line : TxId → List Op → Option Standing → List ℕ
 tx_line t ops x = line (codes "tx" ∷ decimal t ∷ phase_words (phase_of ops x) (snapshot_of ops x))
 
--- the line of a script's transaction behind a past
-unfoldable pub script_line : List Act → Option ScriptData → List ℕ
-script_line past None = []
-script_line past (Some s) = tx_line s.number s.ops (standing past s.number)
+-- the line of a script's transaction, by how transactions stand
+unfoldable pub script_line : (TxId → Option Standing) → Option ScriptData → List ℕ
+script_line stands None = []
+script_line stands (Some s) = tx_line s.number s.ops (stands s.number)
 
 -- one line for each script, in rising number
-unfoldable pub tx_lines : List ScriptData → List Act → List ℕ
-tx_lines ss past = flat_map (λ t. script_line past (script_of t ss)) (number_order (script_numbers ss))
+unfoldable pub tx_lines : List ScriptData → (TxId → Option Standing) → List ℕ
+tx_lines ss stands = flat_map (λ t. script_line stands (script_of t ss)) (number_order (script_numbers ss))
 
 -- ---- keys
 
--- the newest version of a key that is applied at a node: its identifier and its value. So far no act
--- stands for a record: it is the initial one.
+-- the initial version of a key: identifier 0 and the initial value
+abbrev pub initial_version : ClusterData → NodeId → Key → Ident × Value
+initial_version c n k = (0, init c k)
+
+-- the newest version of a key that is applied at a node behind a past: its identifier and its value.
+-- So far no act stands for a record, and it is the initial one.
 abbrev pub newest_of : ClusterData → List Act → NodeId → Key → Ident × Value
-newest_of c past n k = (0, init c k)
+newest_of c past = initial_version c
 
 -- the line of a key at a node, by this version
 unfoldable pub version_line : Key → NodeId → Ident × Value → List ℕ
 version_line k n v = line (codes "key" ∷ k ∷ node_word n ∷ decimal v.1 ∷ decimal v.0 ∷ [])
 
--- one line for each holder of a key, rising
-unfoldable pub key_lines : ClusterData → List Act → Key → List ℕ
-key_lines c past k = flat_map (λ n. version_line k n (newest_of c past n k)) (rising_nodes (λ n. holds c.places n k))
+-- one line for each node that holds the key, rising
+unfoldable pub key_lines : List (List NodeId) → (NodeId → Key → Ident × Value) → Key → List ℕ
+key_lines places newest k = flat_map (λ n. if holds places n k then version_line k n (newest n k) else []) (range_with_len 1 16)
 
 -- the lines of each key that an initial value or an operation names, in byte order
-unfoldable pub keys_lines : DocumentData → List Act → List ℕ
-keys_lines d past = flat_map (key_lines d.cluster past) (key_order (keys_in d.cluster.inits d.scripts))
+unfoldable pub keys_lines : DocumentData → (NodeId → Key → Ident × Value) → List ℕ
+keys_lines d newest = flat_map (key_lines d.cluster.places newest) (key_order (keys_in d.cluster.inits d.scripts))
 
 -- ---- the whole
 
+-- the summary, by how transactions stand and by the newest versions
+unfoldable pub summary_by : DocumentData → (TxId → Option Standing) → (NodeId → Key → Ident × Value) → List ℕ
+summary_by d stands newest = line (codes "summary" ∷ []) ++ tx_lines d.scripts stands ++ keys_lines d newest
+
 -- the summary of these acts
-unfoldable pub summary_text : DocumentData → List Act → List ℕ
-summary_text d h = line (codes "summary" ∷ []) ++ tx_lines d.scripts (after [] h) ++ keys_lines d (after [] h)
+abbrev pub summary_text : DocumentData → List Act → List ℕ
+summary_text d h = summary_by d (standing (after [] h)) (newest_of d.cluster (after [] h))
 
 -- the text of a run with these acts
-unfoldable pub text : List Act → DocumentData → List ℕ
+abbrev pub text : List Act → DocumentData → List ℕ
 text h d = flat_map act_line h ++ summary_text d h

@@ -7,8 +7,13 @@
 #![tactic(auto)]
 
 mod acts;
+mod history;
 mod messages;
 mod parts;
+mod phases;
+mod summary;
 mod words;
 
 pub use acts::write_act;
+pub use history::write_history;
+pub use summary::write_summary;

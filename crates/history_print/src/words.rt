@@ -55,3 +55,11 @@ pub fn put_key(out: &mut Vec<u8>, key: &Key) -> Result<(), Memory>
 {
     put_word(out, key.bytes())
 }
+
+/// Appends the node of a number behind a space.
+pub fn put_node_number(out: &mut Vec<u8>, n: u8) -> Result<(), Memory>
+    ensures { OnOk result (out.new.items ≡ out.old.items ++ behind_space (node_word n)) }
+{
+    put_bytes(out, b" n")?;
+    put_number(out, n as u64)
+}
