@@ -1,0 +1,9 @@
+use Rattle.std.proofs.Common.{◌≡◌, ◌++◌}
+use Rattle.std.specs.List.{flat_map}
+use Rattle.grid_model.specs.Keyed.{at_key}
+use Rattle.grid_model.specs.Rules.{script_of}
+use Rattle.history_print.specs.Text.{script_line}
+use Rattle.history_print.proofs.summary.put_numbered.Given as goal
+
+abbrev pub invariant-loop-number : goal.invariant-loop-number
+invariant-loop-number l = l.out.items ++ flat_map (λ t. script_line (λ u. at_key u l.standings) (script_of t l.scripts)) l.number-iterator ≡ l.fn.out.items ++ flat_map (λ t. script_line (λ u. at_key u l.standings) (script_of t l.scripts)) l.numbers.keys
