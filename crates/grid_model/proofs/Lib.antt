@@ -1,4 +1,5 @@
 pub mod Places
 pub mod Shows
+pub mod FirstOpen
 pub mod OneHistory
 pub mod Examples

@@ -59,8 +59,8 @@ first_open None j rest = Some j
 -- and before which the script names the keys seen
 abbrev pub waiting_from : ℕ → List Key → List ReadRep → List Op → Option ℕ
 waiting_from j seen rs [] = None
-waiting_from j seen rs (op.Read k ∷ ops) = if is_key_among k seen then waiting_from (j + 1) seen rs ops else first_open (taken_value j rs) j (waiting_from (j + 1) (seen ++ k ∷ []) rs ops)
-waiting_from j seen rs (op.Write k e ∷ ops) = waiting_from (j + 1) (seen ++ k ∷ []) rs ops
+waiting_from j seen rs (op.Read k ∷ ops) = if is_key_among k seen then waiting_from (j + 1) seen rs ops else first_open (taken_value j rs) j (waiting_from (j + 1) (k ∷ seen) rs ops)
+waiting_from j seen rs (op.Write k e ∷ ops) = waiting_from (j + 1) (k ∷ seen) rs ops
 
 -- the first remote read of a script without a taken reply
 abbrev pub waiting : List Op → List ReadRep → Option ℕ

@@ -13,6 +13,7 @@ mod events;
 mod items;
 mod laws;
 mod messages;
+mod phases;
 mod standings;
 
 pub use acts::{Act, Flag, Head};
@@ -21,4 +22,5 @@ pub use events::{Event, Out};
 pub use items::{Item, ItemList};
 pub use laws::{law_one_history, law_standings};
 pub use messages::{Envelope, Message, Prepare, ReadRep, ReadReq};
+pub use phases::{first_sid, is_answered, reading, script_of, snapshot, taken_value, waiting};
 pub use standings::{Standing, Standings};

@@ -10,7 +10,6 @@ mod acts;
 mod history;
 mod messages;
 mod parts;
-mod phases;
 mod summary;
 mod words;
 

@@ -15,12 +15,11 @@ ghost use Rattle.grid_model.specs.Rules.{script_of};
 ghost use Rattle.history_print.specs.Acts.{spaced, line};
 ghost use Rattle.history_print.specs.Text.{ident_words, phase_words, snapshot_of, tx_line, script_line, tx_lines, initial_version, version_line, key_lines, keys_lines, summary_by, summary_text};
 
-use crate::phases::{is_answered, key_of, snapshot, waiting};
 use crate::words::{put_count, put_ident, put_key, put_node_number, put_tx, put_value, put_word};
-use grid_model::{Act, Document, Standing, Standings};
+use grid_model::{Act, Document, Standing, Standings, is_answered, script_of, snapshot, waiting};
 use placement::Cluster;
 use score_base::{Ident, Key, Memory, NodeId, Value, put_bytes};
-use script_lang::{Op, Script};
+use script_lang::{Op, Script, key_of};
 use std::alloc::Global;
 use std::collections::BTreeSet;
 
@@ -104,18 +103,6 @@ fn put_script_line(
         None => Ok(()),
         Some(script) => put_tx_line(out, script, standings),
     }
-}
-
-/// The script of a number.
-fn script_of(scripts: &[Script], t: u16) -> Option<&Script>
-    ensures { option_copied result ≡ script_of t scripts.now }
-{
-    for script in scripts {
-        if script.number.get() == t {
-            return Some(script);
-        }
-    }
-    None
 }
 
 fn add_numbers(numbers: &mut BTreeSet<u16>, scripts: &[Script]) -> Result<(), Memory>

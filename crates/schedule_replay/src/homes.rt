@@ -3,40 +3,28 @@ ghost use Rattle.std.specs.Option.{option_copied};
 ghost use Rattle.grid_model.specs.Rules.{is_at, is_same_ident, is_fit_reply, replied, taken_row, reply_row, script_of, home_script};
 
 use crate::nodes::is_small;
-use crate::walks::{advance, first_sid, reading};
-use grid_model::{Act, Out, ReadRep, Standing};
+use crate::walks::advance;
+use grid_model::{Act, Out, ReadRep, Standing, first_sid, reading, script_of};
 use placement::Cluster;
 use score_base::{Ident, Memory, NodeId, TryCopy, TxId, append, push};
 use script_lang::Script;
 use std::alloc::Global;
 
-/// The script of a number.
-pub fn script_of(scripts: &[Script], t: TxId) -> Option<&Script>
-    ensures { option_copied result ≡ script_of t scripts.now }
-{
-    for script in scripts {
-        if script.number == t {
-            return Some(script);
-        }
-    }
-    None
-}
-
 /// The script of a transaction of this home.
 pub fn home_script(scripts: &[Script], n: NodeId, t: TxId) -> Option<&Script>
     ensures { option_copied result ≡ home_script n t scripts.now }
 {
-    let script = script_of(scripts, t)?;
+    let script = script_of(scripts, t.get())?;
     if script.home == n { Some(script) } else { None }
 }
 
 /// Whether the operation is the one that is read.
-fn is_at(op: u8, read: Option<u8>) -> bool
+fn is_at(op: u8, read: Option<usize>) -> bool
     ensures { result ≡ is_at op read }
 {
     match read {
         None => false,
-        Some(j) => j == op,
+        Some(j) => j == op as usize,
     }
 }
 
@@ -106,7 +94,7 @@ pub fn reply_outs(
     let Some(standing) = standing else {
         return Ok(Vec::new(alloc));
     };
-    let read = reading(alloc, script.ops(), standing)?;
+    let read = reading(script.ops(), standing);
     if is_at(q.op, read) && is_fit_reply(q, standing) {
         return taken_row(alloc, cluster, script, standing, q);
     }

@@ -1,13 +1,10 @@
-ghost use Rattle.std.specs.Prelude.{◌≡◌, ◌+◌, ◌≤◌, ◌++◌, ◌∷◌, [], IfOk, OnOk, length, nat_lt};
-ghost use Rattle.script_lang.specs.Reads.{is_update, is_key_among};
-ghost use Rattle.script_lang.specs.Scripts.{IsBody};
-ghost use Rattle.grid_model.specs.Histories.{taken_value, waiting, reading, is_answered, first_sid};
+ghost use Rattle.std.specs.Prelude.{◌≡◌, ◌≤◌, ◌++◌, ◌∷◌, [], IfOk, OnOk, length, nat_lt};
 ghost use Rattle.grid_model.specs.Rules.{value_in, date_by, first_holder, request, own, ending, advance, walk};
 
-use grid_model::{Act, Message, Out, ReadRep, ReadReq, Standing};
+use grid_model::{Act, Message, Out, ReadReq, Standing, first_sid, taken_value};
 use placement::Cluster;
 use score_base::{Date, Ident, Key, Memory, NodeId, TxId, Value, push};
-use script_lang::{Op, Script};
+use script_lang::{Op, Script, is_update};
 use std::alloc::Global;
 
 /// The value that a list gives a key.
@@ -20,87 +17,6 @@ fn value_in(values: &[(Key, Value)], key: &Key) -> Option<Value>
         }
     }
     None
-}
-
-/// The value that was taken for an operation.
-pub fn taken_value(taken: &[ReadRep], op: u8) -> Option<Value>
-    ensures { result ≡ taken_value op taken.now }
-{
-    for reply in taken {
-        if reply.op == op {
-            return Some(reply.value);
-        }
-    }
-    None
-}
-
-/// The identifier of the first reply.
-pub fn first_sid(taken: &[ReadRep]) -> Option<Ident>
-    ensures { result ≡ first_sid taken.now }
-{
-    match taken {
-        [] => None,
-        [first, ..] => Some(first.sid),
-    }
-}
-
-/// Whether a script writes.
-fn is_update(ops: &[Op]) -> bool
-    ensures { result ≡ is_update ops.now }
-{
-    for op in ops {
-        if let Op::Write(_, _) = op {
-            return true;
-        }
-    }
-    false
-}
-
-/// Whether a key is among these.
-fn is_key_among(key: &Key, keys: &[Key]) -> bool
-    ensures { result ≡ is_key_among key.now keys.now }
-{
-    for other in keys {
-        if *key == *other {
-            return true;
-        }
-    }
-    false
-}
-
-/// The first remote read without a reply.
-fn waiting(alloc: Global, ops: &[Op], taken: &[ReadRep]) -> Result<Option<u8>, Memory>
-    requires { length ops.now ≤ 32 }
-    ensures { IfOk result (λ j. j ≡ waiting ops.now taken.now) }
-{
-    let mut seen = Vec::new(alloc);
-    let mut j = 0u8;
-    for op in ops {
-        j += 1;
-        match op {
-            Op::Read(key) => {
-                if !is_key_among(key, seen.as_slice()) {
-                    if taken_value(taken, j).is_none() {
-                        return Ok(Some(j));
-                    }
-                    push(&mut seen, *key)?;
-                }
-            }
-            Op::Write(key, _) => push(&mut seen, *key)?,
-        }
-    }
-    Ok(None)
-}
-
-/// The operation that a transaction reads.
-pub fn reading(alloc: Global, ops: &[Op], standing: &Standing) -> Result<Option<u8>, Memory>
-    requires { length ops.now ≤ 32 }
-    ensures { IfOk result (λ j. j ≡ reading ops.now standing.now) }
-{
-    if standing.finished && !is_update(ops) {
-        return Ok(None);
-    }
-    waiting(alloc, ops, standing.taken.as_slice())
 }
 
 /// The first holder of a key in the order that the home prefers.

@@ -5,11 +5,11 @@ ghost use Rattle.grid_model.specs.Keyed.{at_key};
 ghost use Rattle.grid_model.specs.Lawful.{start_row, Lawful, answer, begun_row, begin_row, deliver_row};
 ghost use Rattle.grid_model.specs.Rules.{script_of};
 
-use crate::homes::{home_script, reply_outs, script_of};
+use crate::homes::{home_script, reply_outs};
 use crate::nodes::request_outs;
 use crate::numbering::number_all;
 use crate::walks::advance;
-use grid_model::{Act, Document, Envelope, Flag, Item, Message, Out, Standing, Standings};
+use grid_model::{Act, Document, Envelope, Flag, Item, Message, Out, Standing, Standings, script_of};
 use placement::Cluster;
 use score_base::{Ident, Members, Memory, NodeId, TryCopy, TxId, append, push};
 use script_lang::Script;
@@ -156,7 +156,7 @@ impl World {
         if self.stands.get(t).is_some() {
             return only(alloc, Act::Void(1));
         }
-        match script_of(doc.scripts(), t) {
+        match script_of(doc.scripts(), t.get()) {
             None => Ok(Vec::new(alloc)),
             Some(script) => begun_row(alloc, doc.cluster(), script, m),
         }

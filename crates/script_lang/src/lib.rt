@@ -6,7 +6,9 @@
 #![tactic(auto)]
 
 mod exprs;
+mod reads;
 mod scripts;
 
 pub use exprs::{Atom, Expr, Step, StepList};
+pub use reads::{is_named, is_update, key_of};
 pub use scripts::{Op, OpList, Script, ScriptDraft};

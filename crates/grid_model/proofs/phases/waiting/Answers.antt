@@ -1,0 +1,10 @@
+use Rattle.std.proofs.Common.{◌≡◌, ◌+◌, take, true, false, arith}
+use Rattle.std.proofs.lemmas.Grind.{common_steps}
+use Rattle.grid_model.specs.Phases.{is_waiting}
+use Rattle.grid_model.proofs.FirstOpen.{Walked-more}
+use Rattle.grid_model.proofs.phases.waiting.Goals as goal
+
+pub loop-i-preserved : goal.loop-i-preserved
+loop-i-preserved c =
+    let w : is_waiting c.args.taken.now (c.loop-i.i + 1) (take c.loop-i.i c.args.ops.now) c.index-ops-i.result ≡ false = grind (arith, common_steps, c.if-is_waiting.ensures) in
+    Walked-more c.args.ops.now c.args.taken.now c.loop-i.i c.index-ops-i.result c.loop-i-test.true c.index-ops-i.is c.loop-i.invariant w
