@@ -1,11 +1,11 @@
 -- With no fault, the words and the bytes decide the code, but for want of memory.
-use Rattle.std.proofs.Common.{◌≡◌, ◌⊎◌, ℕ, ◌<◌, ◌≤◌, Bool, true, false, List, length, Option, Some, Ok, Err, inl, inr, refl, sym, ap, ◌∙◌, subst, arith, nat_le, if◌then◌else◌}
+use Rattle.std.proofs.Common.{◌≡◌, ◌⊎◌, ℕ, ◌≤◌, Bool, true, false, List, length, Option, Some, Ok, Err, inl, inr, refl, sym, ◌∙◌, subst, arith, nat_le}
 use Rattle.std.proofs.lemmas.Bool.Decides.{nat_tests}
 use Rattle.score_base.specs.Faults.{Rose}
 use Rattle.score_io.specs.Streams.{ReadWhole, Lost}
 use Rattle.score_io.proofs.Streams.{whole_told, lost_told}
 use Rattle.cluster_file.specs.Doc.{doc}
-use Rattle.score_cli.specs.Answers.{input_limit, Done, Broken, NoDocument, TooLong, IsCode, code_of_doc, code_asked}
+use Rattle.score_cli.specs.Answers.{Done, Broken, NoDocument, TooLong, IsCode, code_asked}
 
 within : (bytes : List ℕ) → length bytes ≤ 4194304 → nat_le (length bytes) 4194304 ≡ true
 within bytes h = grind (arith, nat_tests)

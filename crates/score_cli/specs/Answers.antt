@@ -1,5 +1,5 @@
 -- What the answers of the program mean.
-use Rattle.std.specs.Prelude.{◌≡◌, ◌⊎◌, ℕ, ◌<◌, ◌≤◌, Bool, true, false, nat_eq, List, [], ◌∷◌, ◌++◌, take, length, codes, Result, Ok, Err, Option, nat_le, if◌then◌else◌}
+use Rattle.std.specs.Prelude.{◌≡◌, ◌⊎◌, ℕ, ◌≤◌, Bool, false, nat_eq, List, [], ◌∷◌, ◌++◌, length, codes, Result, Ok, Err, Option, nat_le, if◌then◌else◌}
 use Rattle.std.specs.Fmt.{decimal}
 use Rattle.std.specs.Io.KnownBytes.{Appends}
 use Rattle.std.specs.Cmp.Lexicographic.{pointwise}
@@ -41,6 +41,18 @@ pub record Ran (left_old left_new : Option (List ℕ)) : Type 0 where
   pub spelled : doc bytes ≡ Ok document
   pub acts : List Act
   pub lawful : Lawful document acts
+
+-- the text of a lawful run of the document
+pub record IsRunText (d : DocumentData) (written : List ℕ) : Type 0 where
+  pub acts : List Act
+  pub lawful : Lawful d acts
+  pub printed : written ≡ text acts d
+
+-- the text of a lawful run of the document that the bytes spell
+pub record IsTextOf (bytes written : List ℕ) : Type 0 where
+  pub document : DocumentData
+  pub spelled : doc bytes ≡ Ok document
+  pub run : IsRunText document written
 
 -- the text of that run was written
 pub record Done (left_old left_new held_old held_new : Option (List ℕ)) : Type 0 where

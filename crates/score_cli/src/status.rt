@@ -1,8 +1,9 @@
-ghost use Rattle.std.specs.Prelude.{◌≡◌, ◌⊎◌, ◌↔◌, ℕ, List, Some, true, false, map, codes, IfOk, string_bytes};
+ghost use Rattle.std.specs.Prelude.{◌≡◌, ◌⊎◌, ◌↔◌, ℕ, List, Some, true, false, map, codes, IfOk, IfErr, string_bytes};
 ghost use Rattle.std.specs.Io.KnownBytes.{Keeps};
 ghost use Rattle.score_base.specs.Faults.{Rose};
+ghost use Rattle.cluster_file.specs.Doc.{doc, FailsDoc};
 ghost use Rattle.history_print.specs.Text.{text};
-ghost use Rattle.score_cli.specs.Answers.{is_command, Wrote, Done, Broken, NoDocument, TooLong, IsCode, code_asked};
+ghost use Rattle.score_cli.specs.Answers.{is_command, Wrote, Done, Broken, NoDocument, TooLong, IsCode, code_asked, IsRunText, IsTextOf};
 
 use crate::lines::{refused_line, say};
 use cluster_file::{DocEnd, read_document};
@@ -42,15 +43,38 @@ fn text_of(alloc: Global, doc: &Document, acts: &[Act]) -> Result<Vec<u8>, Memor
     Ok(out)
 }
 
+/// The text of a document's run.
+fn run_text(alloc: Global, doc: &Document) -> Result<Vec<u8>, Memory>
+    ensures { IfOk result (λ v. IsRunText doc.now v.items) }
+{
+    let acts = replay(alloc, doc)?;
+    text_of(alloc, doc, acts.as_slice())
+}
+
+/// The text of the run of the document that the bytes spell.
+fn play(alloc: Global, bytes: &[u8]) -> Result<Vec<u8>, DocEnd>
+    ensures text { IfOk result (λ v. IsTextOf bytes.now v.items) }
+    ensures refused { IfErr result (λ e. FailsDoc e (doc bytes.now)) }
+{
+    let doc = match read_document(alloc, bytes) {
+        Ok(doc) => doc,
+        Err(e) => return Err(e),
+    };
+    match run_text(alloc, &doc) {
+        Ok(text) => Ok(text),
+        Err(_) => Err(DocEnd::Memory),
+    }
+}
+
 /// What [`score`] does; its answer is complete by the clauses of this one.
 fn respond<S: Source, K: Sink>(
     alloc: Global,
-    words: &[String],
+    words: &Vec<String>,
     input: &mut S,
     out: &mut K,
 ) -> Status
     ensures code { IsCode result.code }
-    ensures usage { (result.code ≡ 2) ↔ (is_command (map (λ w. string_bytes w) words.now) ≡ false) }
+    ensures usage { (result.code ≡ 2) ↔ (is_command (map (λ w. string_bytes w) words.now.items) ≡ false) }
     ensures usage_line { result.code ≡ 2 → Wrote (K.held out.old) (K.held out.new) (K.faults out.old) (K.faults out.new) (codes "usage\n") }
     ensures done { result.code ≡ 0 → Done (S.left input.old) (S.left input.new) (K.held out.old) (K.held out.new) }
     ensures refused { result.code ≡ 3 →
@@ -61,7 +85,7 @@ fn respond<S: Source, K: Sink>(
     ensures write_fault { result.code ≡ 5 → Broken (S.left input.old) (S.left input.new) (K.held out.old) (K.held out.new) (K.faults out.old) (K.faults out.new) }
     ensures memory { result.code ≡ 6 → Keeps (K.held out.old) (K.held out.new) }
 {
-    if !is_command(words) {
+    if !is_command(words.as_slice()) {
         say(out, b"usage\n");
         return Status { code: 2 };
     }
@@ -77,8 +101,8 @@ fn respond<S: Source, K: Sink>(
         }
         Err(ReadEnd::Memory) => return Status { code: 6 },
     };
-    let doc = match read_document(alloc, bytes.as_slice()) {
-        Ok(doc) => doc,
+    let text = match play(alloc, bytes.as_slice()) {
+        Ok(text) => text,
         Err(DocEnd::Memory) => return Status { code: 6 },
         Err(DocEnd::Refused(refusal)) => {
             let Ok(line) = refused_line(alloc, refusal) else {
@@ -87,12 +111,6 @@ fn respond<S: Source, K: Sink>(
             say(out, line.as_slice());
             return Status { code: 3 };
         }
-    };
-    let Ok(acts) = replay(alloc, &doc) else {
-        return Status { code: 6 };
-    };
-    let Ok(text) = text_of(alloc, &doc, acts.as_slice()) else {
-        return Status { code: 6 };
     };
     match write_all(out, text.as_slice()) {
         Ok(()) => Status { code: 0 },
@@ -140,5 +158,5 @@ pub fn score<S: Source, K: Sink>(
         (Rose (S.faults input.old) (S.faults input.new) → ⊥) → (Rose (K.faults out.old) (K.faults out.new) → ⊥) →
         (result.code ≡ code_asked bytes) ⊎ (result.code ≡ 6) }
 {
-    respond(alloc, words.as_slice(), input, out)
+    respond(alloc, words, input, out)
 }
