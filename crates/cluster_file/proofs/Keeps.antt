@@ -1,19 +1,18 @@
 -- Each line leaves what was read well formed.
-use Rattle.std.proofs.Common.{◌≡◌, ℕ, ◌+◌, ◌<◌, ◌≤◌, Bool, true, false, ◌&&◌, ◌||◌, ◌==◌, not, List, [], ◌∷◌, ◌++◌, length, length-append, nat_le, Option, Some, None, Result, Ok, Err, IfOk, refl, sym, ap, ◌∙◌, subst, arith, codes}
-use Rattle.std.specs.Prelude.{sum_by}
+use Rattle.std.proofs.Common.{◌≡◌, ℕ, ◌+◌, ◌<◌, ◌≤◌, true, false, ◌&&◌, ◌==◌, List, [], ◌∷◌, ◌++◌, length, length-append, nat_le, Option, Some, None, Result, Ok, Err, IfOk, refl, sym, ap, ◌∙◌, subst, arith, codes}
 use Rattle.std.specs.Ordering.{nat_cmp}
-use Rattle.std.specs.Cmp.Lexicographic.{slice_cmp, pointwise}
+use Rattle.std.specs.Cmp.Lexicographic.{slice_cmp}
 use Rattle.std.specs.List.{list_any, list_all, slice_split}
 use Rattle.std.specs.BTreeSet.{BTreeSet, insert_key}
 use Rattle.std.proofs.lemmas.Bool.Decides.{nat_tests}
 use Rattle.std.proofs.lemmas.Cmp.{nat_eq_equiv, nat_list_eq_equiv}
-use Rattle.std.proofs.lemmas.List.{append-nil, map-append}
+use Rattle.std.proofs.lemmas.List.{append-nil}
 use Rattle.std.proofs.lemmas.List.Sums.{sum_by_push}
 use Rattle.score_base.specs.declared.keys.Key.{Key}
 use Rattle.score_base.specs.declared.ids.NodeId.{NodeId}
 use Rattle.score_base.specs.declared.ids.TxId.{TxId}
 use Rattle.score_base.specs.declared.ids.Value.{Value}
-use Rattle.score_base.specs.Keys.{is_key, same_key}
+use Rattle.score_base.specs.Keys.{same_key}
 use Rattle.score_base.specs.Numbers.{number}
 use Rattle.script_lang.specs.Scripts.{ScriptData}
 use Rattle.script_lang.specs.declared.scripts.Op.TheVariants as op
@@ -25,14 +24,14 @@ use Rattle.grid_model.specs.declared.items.Item.TheVariants as item
 use Rattle.cluster_file.specs.declared.drafts.Draft.{Draft}
 use Rattle.cluster_file.specs.declared.drafts.Part.{Part}
 use Rattle.cluster_file.specs.declared.drafts.Part.TheVariants as part
-use Rattle.cluster_file.specs.Reading.{◌>>=◌, is_word, word_at, end_at, number_at, in_range, steps}
-use Rattle.cluster_file.specs.Lines.{node_of, node_in, key_of, tx_of, is_known, is_taken, with_key, with_number, name_key, name_new_key, new_number, known_number, nodes_line, new_node, node_step, is_next, partition_line, init_line, tx_line, read_line, end_line, schedule_line, with_item, begin_line, deliver_line, script_line, later_line, init_or_later, is_later_item, item_line, part_line, line_in, words_line, is_printed, line_of}
+use Rattle.cluster_file.specs.Reading.{is_word, word_at, end_at, number_at, in_range, steps}
+use Rattle.cluster_file.specs.Lines.{node_of, node_in, key_of, tx_of, is_known, is_taken, with_key, name_key, name_new_key, new_number, known_number, nodes_line, new_node, node_step, is_next, partition_line, init_line, tx_line, read_line, end_line, schedule_line, with_item, begin_line, deliver_line, script_line, later_line, init_or_later, is_later_item, item_line, part_line, line_in, words_line, is_printed, line_of}
 use Rattle.cluster_file.specs.Doc.{close, is_whole, pieces_from, at_line, blank, document_of}
 use Rattle.cluster_file.proofs.Bools.{and_parts}
 use Rattle.cluster_file.proofs.Members.{among_numbers, among_keys, distinct_more}
 use Rattle.cluster_file.proofs.Steps.{behind, then, either, numbered, below, at_ok}
-use Rattle.cluster_file.proofs.Named.{numbers_last, numbers_length, key_order_last, number_order_last, keys_read, keys_begun, keys_init, all_last, all_but_last, known_in_inits}
-use Rattle.cluster_file.proofs.SoFar.{IsHead, IsNamed, IsPlan, IsStage, IsBegun, all_scripts, opened}
+use Rattle.cluster_file.proofs.Named.{numbers_last, key_order_last, number_order_last, keys_read, keys_begun, keys_init, all_last, all_but_last, known_in_inits}
+use Rattle.cluster_file.proofs.SoFar.{IsNamed, IsPlan, IsStage, IsBegun, all_scripts, opened}
 
 -- The words.
 

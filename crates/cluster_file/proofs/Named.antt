@@ -1,13 +1,12 @@
 -- What one more word, key, script or item does to the parts of a document.
-use Rattle.std.proofs.Common.{◌≡◌, ℕ, suc, ◌+◌, ◌<◌, ◌≤◌, Bool, true, false, ◌&&◌, ◌||◌, ◌==◌, List, [], ◌∷◌, ◌++◌, length, length-append, nat_le, refl, sym, ap, ◌∙◌, map, arith}
-use Rattle.std.specs.Prelude.{fold, sum_by}
+use Rattle.std.proofs.Common.{◌≡◌, Bool, true, false, ◌&&◌, List, [], ◌∷◌, ◌++◌, refl, sym, ap, ◌∙◌, map}
 use Rattle.std.specs.Ordering.{nat_cmp}
 use Rattle.std.specs.Cmp.Lexicographic.{slice_cmp}
 use Rattle.std.specs.List.{list_any, list_all, flat_map}
 use Rattle.std.specs.BTreeSet.{insert_key}
 use Rattle.std.proofs.lemmas.List.{append_assoc, append-nil, map-append}
 use Rattle.std.proofs.lemmas.List.Folds.{list_all-append}
-use Rattle.std.proofs.lemmas.List.Sums.{fold-append, sum_by_push}
+use Rattle.std.proofs.lemmas.List.Sums.{fold-append}
 use Rattle.std.proofs.lemmas.Grind.{flat_map-append}
 use Rattle.std.proofs.lemmas.Cmp.{nat_list_eq_equiv}
 use Rattle.score_base.specs.declared.keys.Key.{Key}
@@ -23,10 +22,6 @@ use Rattle.grid_model.specs.Documents.{script_numbers, keys_in, key_order, numbe
 pub numbers_last : (ss : List ScriptData) (s : ScriptData) → script_numbers (ss ++ s ∷ []) ≡ script_numbers ss ++ s.number ∷ []
 numbers_last [] s = refl
 numbers_last (x ∷ ss) s = ap (λ ts. x.number ∷ ts) (numbers_last ss s)
-
-pub numbers_length : (ss : List ScriptData) → length (script_numbers ss) ≡ length ss
-numbers_length [] = refl
-numbers_length (x ∷ ss) = ap suc (numbers_length ss)
 
 pub key_order_last : (ks : List Key) (k : Key) → key_order (ks ++ k ∷ []) ≡ insert_key (slice_cmp nat_cmp) (key_order ks) k
 key_order_last ks k = fold-append (insert_key (slice_cmp nat_cmp)) [] ks (k ∷ [])

@@ -1,4 +1,3 @@
-use Rattle.std.proofs.Common.{map}
 use Rattle.cluster_file.proofs.Keeps.{IsDocument-from_pieces}
 use Rattle.cluster_file.proofs.documents.read_document.Goals as goal
 
