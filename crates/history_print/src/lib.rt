@@ -12,6 +12,8 @@ mod messages;
 mod parts;
 mod phases;
 mod summary;
+#[cfg(test)]
+mod tests;
 mod words;
 
 pub use acts::write_act;
