@@ -308,7 +308,7 @@ fn put_line(out: &mut Vec<u8>, act: &Act) -> Result<(), Memory>
     put_bytes(out, b"\n")
 }
 
-/// Appends the line of an act. After [`Memory`] `out` is as before.
+/// Appends the line of an act, its line feed included. After [`Memory`] `out` is as before.
 pub fn write_act(act: &Act, out: &mut Vec<u8>) -> Result<(), Memory>
     ensures ok { OnOk result (out.new.items ≡ out.old.items ++ act_line act.now) }
     ensures err { OnErr result (out.new.items ≡ out.old.items) }
