@@ -50,27 +50,33 @@ node_word n = codes "n" ++ decimal n
 
 -- ---- what messages and acts are made of
 
+-- how a transaction ends
 unfoldable pub outcome_words : Outcome → List (List ℕ)
 outcome_words (outcome.Commit f) = codes "commit" ∷ decimal f ∷ []
 outcome_words outcome.Abort = codes "abort" ∷ []
 
+-- why a participant votes no
 unfoldable pub cause_words : Cause → List (List ℕ)
 cause_words (cause.Holder u) = codes "holder" ∷ decimal u ∷ []
 cause_words (cause.Newer k f) = codes "newer" ∷ k ∷ decimal f ∷ []
 
+-- a vote
 unfoldable pub ballot_words : Ballot → List (List ℕ)
 ballot_words (ballot.Yes p) = codes "yes" ∷ decimal p ∷ []
 ballot_words (ballot.No c) = codes "no" ∷ cause_words c
 
+-- how a read request is dated
 unfoldable pub date_words : Date → List (List ℕ)
 date_words (date.First sid0) = codes "first" ∷ decimal sid0 ∷ []
 date_words (date.At sid) = codes "at" ∷ decimal sid ∷ []
 
+-- what an opening found of the record that was being written
 unfoldable pub flag_words : Flag → List (List ℕ)
 flag_words flag.Untouched = codes "none" ∷ []
 flag_words flag.Kept = codes "kept" ∷ []
 flag_words flag.Gone = codes "gone" ∷ []
 
+-- the head of a record
 unfoldable pub record_words : Head → List (List ℕ)
 record_words (head.Prepared t p) = codes "prepared" ∷ decimal t ∷ decimal p ∷ []
 record_words (head.Ended t o) = codes "ended" ∷ decimal t ∷ outcome_words o
@@ -78,6 +84,7 @@ record_words (head.Ceiling c) = codes "ceiling" ∷ decimal c ∷ []
 record_words (head.Decided t f) = codes "decided" ∷ decimal t ∷ decimal f ∷ []
 record_words (head.Closed t) = codes "closed" ∷ decimal t ∷ []
 
+-- the head of the record that was being written where there was one
 unfoldable pub head_words : Option Head → List (List ℕ)
 head_words None = codes "none" ∷ []
 head_words (Some h) = record_words h
@@ -100,18 +107,22 @@ write_words w = w.0 ∷ decimal w.1 ∷ []
 unfoldable pub writes_words : List (Key × Value) → List (List ℕ)
 writes_words ws = decimal (length ws) ∷ flat_map write_words ws
 
+-- a request to read
 unfoldable pub readreq_words : ReadReq → List (List ℕ)
 readreq_words q = codes "readreq" ∷ decimal q.t ∷ decimal q.op ∷ q.key ∷ date_words q.date
 
+-- a reply to it
 unfoldable pub readrep_words : ReadRep → List (List ℕ)
 readrep_words q = codes "readrep" ∷ decimal q.t ∷ decimal q.op ∷ decimal q.sid ∷ decimal q.value ∷ []
 
+-- a request to vote
 unfoldable pub prepare_words : Prepare → List (List ℕ)
 prepare_words q =
     codes "prepare" ∷ decimal q.t ∷ decimal q.sid ∷ codes "parts" ∷ nodes_words q.parts
     ++ codes "reads" ∷ keys_words q.reads
     ++ codes "writes" ∷ writes_words q.writes
 
+-- the words of a message, its kind first
 unfoldable pub message_words : Message → List (List ℕ)
 message_words (message.ReadReq q) = readreq_words q
 message_words (message.ReadRep q) = readrep_words q
@@ -123,6 +134,7 @@ message_words (message.Ask t) = codes "ask" ∷ decimal t ∷ []
 
 -- ---- acts
 
+-- the words of an act, its kind first
 unfoldable pub act_words : Act → List (List ℕ)
 act_words (act.Began t n sid0) = codes "began" ∷ decimal t ∷ node_word n ∷ decimal sid0 ∷ []
 act_words (act.Sent m from to said) = codes "sent" ∷ decimal m ∷ node_word from ∷ node_word to ∷ message_words said

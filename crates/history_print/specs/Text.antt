@@ -20,7 +20,7 @@ use Rattle.history_print.specs.Acts.{act_line, line, node_word}
 
 -- ---- transactions
 
--- an identifier where there is one
+-- an identifier where there is one; behind a lawful run each answered transaction has one
 unfoldable pub ident_words : Option Ident → List (List ℕ)
 ident_words None = []
 ident_words (Some i) = decimal i ∷ []

@@ -19,7 +19,13 @@ fn put_began(out: &mut Vec<u8>, t: TxId, n: NodeId, sid0: Ident) -> Result<(), M
 }
 
 #[tactic(auto, unfolding(crate::specs::Acts::act_words))]
-fn put_sent(out: &mut Vec<u8>, m: u32, from: NodeId, to: NodeId, message: &Message) -> Result<(), Memory>
+fn put_sent(
+    out: &mut Vec<u8>,
+    m: u32,
+    from: NodeId,
+    to: NodeId,
+    message: &Message,
+) -> Result<(), Memory>
     ensures { OnOk result (out.new.items ≡ out.old.items ++ joined (act_words (Act.Sent m from to message.now))) }
 {
     put_bytes(out, b"sent")?;
@@ -273,7 +279,9 @@ fn put_act(out: &mut Vec<u8>, act: &Act) -> Result<(), Memory>
         Act::Void(code) => put_void(out, *code),
         Act::Armed(n, k, how) => put_armed(out, *n, *k, *how),
         Act::Raised(n, sid) => put_raised(out, *n, *sid),
-        Act::Served(n, t, op, key, sid, vn, value) => put_served(out, *n, *t, *op, key, *sid, *vn, *value),
+        Act::Served(n, t, op, key, sid, vn, value) => put_served(
+            out, *n, *t, *op, key, *sid, *vn, *value,
+        ),
         Act::Held(n, t, op, sid) => put_held(out, *n, *t, *op, *sid),
         Act::Taken(t, op, sid, value) => put_taken(out, *t, *op, *sid, *value),
         Act::Own(t, op, value) => put_own(out, *t, *op, *value),
@@ -300,7 +308,7 @@ fn put_line(out: &mut Vec<u8>, act: &Act) -> Result<(), Memory>
     put_bytes(out, b"\n")
 }
 
-/// Appends the line of an act. After [`Memory`] `out` is as before.
+/// Appends the line of an act, its line feed included. After [`Memory`] `out` is as before.
 pub fn write_act(act: &Act, out: &mut Vec<u8>) -> Result<(), Memory>
     ensures ok { OnOk result (out.new.items ≡ out.old.items ++ act_line act.now) }
     ensures err { OnErr result (out.new.items ≡ out.old.items) }

@@ -11,6 +11,8 @@ mod history;
 mod messages;
 mod parts;
 mod summary;
+#[cfg(test)]
+mod tests;
 mod words;
 
 pub use acts::write_act;

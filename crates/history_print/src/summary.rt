@@ -59,11 +59,7 @@ fn put_phase(
 }
 
 #[tactic(auto, unfolding(crate::specs::Text::phase_words))]
-fn put_standing(
-    out: &mut Vec<u8>,
-    ops: &[Op],
-    standing: Option<&Standing>,
-) -> Result<(), Memory>
+fn put_standing(out: &mut Vec<u8>, ops: &[Op], standing: Option<&Standing>) -> Result<(), Memory>
     ensures { OnOk result (out.new.items ≡ out.old.items ++ spaced (phase_words (phase_of ops.now (option_copied standing.entry)) (snapshot_of ops.now (option_copied standing.entry)))) }
 {
     match standing {
@@ -78,11 +74,7 @@ fn put_standing(
 }
 
 #[tactic(auto, unfolding(crate::specs::Text::tx_line))]
-fn put_tx_line(
-    out: &mut Vec<u8>,
-    script: &Script,
-    standings: &Standings,
-) -> Result<(), Memory>
+fn put_tx_line(out: &mut Vec<u8>, script: &Script, standings: &Standings) -> Result<(), Memory>
     ensures { OnOk result (out.new.items ≡ out.old.items ++ tx_line script.now.number script.now.ops (at_key script.now.number standings.now)) }
 {
     put_bytes(out, b"tx")?;
@@ -129,11 +121,7 @@ fn put_numbered(
 }
 
 #[tactic(auto, unfolding(crate::specs::Text::tx_lines))]
-fn put_tx_lines(
-    out: &mut Vec<u8>,
-    scripts: &[Script],
-    standings: &Standings,
-) -> Result<(), Memory>
+fn put_tx_lines(out: &mut Vec<u8>, scripts: &[Script], standings: &Standings) -> Result<(), Memory>
     ensures { OnOk result (out.new.items ≡ out.old.items ++ tx_lines scripts.now (λ t. at_key t standings.now)) }
 {
     let mut numbers = BTreeSet::new(*out.allocator());
@@ -216,11 +204,7 @@ fn put_key_lines(out: &mut Vec<u8>, cluster: &Cluster, key: &Key) -> Result<(), 
     )
 }
 
-fn put_each_key(
-    out: &mut Vec<u8>,
-    keys: &BTreeSet<Key>,
-    cluster: &Cluster,
-) -> Result<(), Memory>
+fn put_each_key(out: &mut Vec<u8>, keys: &BTreeSet<Key>, cluster: &Cluster) -> Result<(), Memory>
     ensures { OnOk result (out.new.items ≡ out.old.items ++ flat_map (key_lines cluster.now.places (initial_version cluster.now)) keys.now.keys) }
 {
     for key in keys {

@@ -1,4 +1,4 @@
-use Rattle.std.proofs.Common.{◌≡◌, ◌+◌, take, true, false, arith}
+use Rattle.std.proofs.Common.{◌≡◌, ◌+◌, take, false, arith}
 use Rattle.std.proofs.lemmas.Grind.{common_steps}
 use Rattle.grid_model.specs.Phases.{is_waiting}
 use Rattle.grid_model.proofs.FirstOpen.{Walked-more}
