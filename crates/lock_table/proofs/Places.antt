@@ -1,0 +1,160 @@
+-- Which keys a list of locks holds: more locks, and without those of one transaction.
+use Rattle.std.proofs.Common.{◌≡◌, ℕ, Bool, true, false, not, cond, ◌&&◌, ◌||◌, List, [], ◌∷◌, ◌++◌, map, refl, sym, ap, ◌∙◌, nat_eq, arith}
+use Rattle.std.specs.Cmp.{IsTotalOrder, unsigned_tied, both_tied, then_total, on_total, nat_cmp_total}
+use Rattle.std.specs.Cmp.Lexicographic.{pointwise, slice_cmp, nat_list_cmp_total, nat_list_eq_equiv, texts_ties}
+use Rattle.std.specs.Ordering.{nat_cmp, eq_by_cmp}
+use Rattle.std.specs.List.{filter}
+use Rattle.std.specs.FinSet as set
+use Rattle.std.proofs.lemmas.Bool.Decides.{nat_tests}
+use Rattle.lock_table.specs.declared.Lock.{Lock}
+use Rattle.lock_table.specs.Keys.{by_transaction, is_read, is_written}
+use Rattle.lock_table.specs.Table.{place, places, written_places, read_lock, write_lock}
+
+pub by_transaction_total : IsTotalOrder by_transaction
+by_transaction_total = then_total (on_total (λ p. p.0) nat_cmp_total) (on_total (λ p. p.1) nat_list_cmp_total)
+
+-- whether a lock is u's on k
+abbrev pub is_at : Lock → ℕ → List ℕ → Bool
+is_at l u k = nat_eq u l.t && pointwise nat_eq l.key k
+
+abbrev pub holds_in : List Lock → ℕ → List ℕ → Bool
+holds_in [] u k = false
+holds_in (l ∷ ls) u k = is_at l u k || holds_in ls u k
+
+abbrev pub writes_in : List Lock → ℕ → List ℕ → Bool
+writes_in [] u k = false
+writes_in (l ∷ ls) u k = (is_at l u k && l.writes) || writes_in ls u k
+
+tied : (l : Lock) (u : ℕ) (k : List ℕ) → eq_by_cmp by_transaction (u, k) (place l) ≡ is_at l u k
+tied l u k = sym (both_tied _ _ (nat_cmp u l.t) (slice_cmp nat_cmp k l.key) (sym (unsigned_tied u l.t)) (nat_list_eq_equiv.symm l.key k ∙ texts_ties k l.key))
+
+pub held_is : (ls : List Lock) (u : ℕ) (k : List ℕ) → set.contains (set.from_list {R = by_transaction} (places ls)) (u, k) ≡ holds_in ls u k
+held_is [] u k = set.contains-empty by_transaction (u, k)
+held_is (l ∷ ls) u k =
+    set.contains-insert by_transaction_total (set.from_list (places ls)) (place l) (u, k)
+    ∙ ap (λ b. b || set.contains (set.from_list {R = by_transaction} (places ls)) (u, k)) (tied l u k)
+    ∙ ap (λ b. is_at l u k || b) (held_is ls u k)
+
+and_true : (a : Bool) → a ≡ (a && true)
+and_true true = refl
+and_true false = refl
+
+and_false : (a w : Bool) → w ≡ ((a && false) || w)
+and_false true w = refl
+and_false false w = refl
+
+written_head : (l : Lock) (rest : List Lock) (u : ℕ) (k : List ℕ) (w b : Bool) → set.contains (set.from_list {R = by_transaction} (places rest)) (u, k) ≡ w → set.contains (set.from_list {R = by_transaction} (places (cond b (l ∷ rest) rest))) (u, k) ≡ ((is_at l u k && b) || w)
+written_head l rest u k w true is =
+    set.contains-insert by_transaction_total (set.from_list (places rest)) (place l) (u, k)
+    ∙ ap (λ b. b || set.contains (set.from_list {R = by_transaction} (places rest)) (u, k)) (tied l u k)
+    ∙ ap (λ b. is_at l u k || b) is
+    ∙ ap (λ b. b || w) (and_true (is_at l u k))
+written_head l rest u k w false is = is ∙ and_false (is_at l u k) w
+
+pub written_is : (ls : List Lock) (u : ℕ) (k : List ℕ) → set.contains (set.from_list {R = by_transaction} (written_places ls)) (u, k) ≡ writes_in ls u k
+written_is [] u k = set.contains-empty by_transaction (u, k)
+written_is (l ∷ ls) u k = written_head l (filter (λ (x : Lock). x.writes) ls) u k (writes_in ls u k) l.writes (written_is ls u k)
+
+or_assoc : (a b c : Bool) → (a || (b || c)) ≡ ((a || b) || c)
+or_assoc true b c = refl
+or_assoc false b c = refl
+
+pub holds_in-append : (xs ys : List Lock) (u : ℕ) (k : List ℕ) → holds_in (xs ++ ys) u k ≡ (holds_in xs u k || holds_in ys u k)
+holds_in-append [] ys u k = refl
+holds_in-append (x ∷ xs) ys u k = ap (λ b. is_at x u k || b) (holds_in-append xs ys u k) ∙ or_assoc (is_at x u k) (holds_in xs u k) (holds_in ys u k)
+
+pub writes_in-append : (xs ys : List Lock) (u : ℕ) (k : List ℕ) → writes_in (xs ++ ys) u k ≡ (writes_in xs u k || writes_in ys u k)
+writes_in-append [] ys u k = refl
+writes_in-append (x ∷ xs) ys u k = ap (λ b. (is_at x u k && x.writes) || b) (writes_in-append xs ys u k) ∙ or_assoc (is_at x u k && x.writes) (writes_in xs u k) (writes_in ys u k)
+
+nothing_of : (a : Bool) → false ≡ (a && false)
+nothing_of true = refl
+nothing_of false = refl
+
+either_of : (a b c : Bool) → ((a && b) || (a && c)) ≡ (a && (b || c))
+either_of true b c = refl
+either_of false b c = refl
+
+either_of_true : (a b c : Bool) → (((a && b) && true) || (a && c)) ≡ (a && (b || c))
+either_of_true true true c = refl
+either_of_true true false c = refl
+either_of_true false b c = refl
+
+neither_of : (a : Bool) → ((a && false) || false) ≡ false
+neither_of true = refl
+neither_of false = refl
+
+pub holds_in-reads : (t : ℕ) (rs : List (List ℕ)) (u : ℕ) (k : List ℕ) → holds_in (map (read_lock t) rs) u k ≡ (nat_eq u t && is_read rs k)
+holds_in-reads t [] u k = nothing_of (nat_eq u t)
+holds_in-reads t (r ∷ rs) u k = ap (λ b. (nat_eq u t && pointwise nat_eq r k) || b) (holds_in-reads t rs u k) ∙ either_of (nat_eq u t) (pointwise nat_eq r k) (is_read rs k)
+
+pub writes_in-reads : (t : ℕ) (rs : List (List ℕ)) (u : ℕ) (k : List ℕ) → writes_in (map (read_lock t) rs) u k ≡ false
+writes_in-reads t [] u k = refl
+writes_in-reads t (r ∷ rs) u k = ap (λ b. ((nat_eq u t && pointwise nat_eq r k) && false) || b) (writes_in-reads t rs u k) ∙ neither_of (nat_eq u t && pointwise nat_eq r k)
+
+pub holds_in-writes : (t : ℕ) (ws : List (List ℕ × ℕ)) (u : ℕ) (k : List ℕ) → holds_in (map (write_lock t) ws) u k ≡ (nat_eq u t && is_written ws k)
+holds_in-writes t [] u k = nothing_of (nat_eq u t)
+holds_in-writes t (w ∷ ws) u k = ap (λ b. (nat_eq u t && pointwise nat_eq w.0 k) || b) (holds_in-writes t ws u k) ∙ either_of (nat_eq u t) (pointwise nat_eq w.0 k) (is_written ws k)
+
+pub writes_in-writes : (t : ℕ) (ws : List (List ℕ × ℕ)) (u : ℕ) (k : List ℕ) → writes_in (map (write_lock t) ws) u k ≡ (nat_eq u t && is_written ws k)
+writes_in-writes t [] u k = nothing_of (nat_eq u t)
+writes_in-writes t (w ∷ ws) u k = ap (λ b. ((nat_eq u t && pointwise nat_eq w.0 k) && true) || b) (writes_in-writes t ws u k) ∙ either_of_true (nat_eq u t) (pointwise nat_eq w.0 k) (is_written ws k)
+
+-- ---- without the locks of t
+
+-- whether a lock is of another transaction than t
+abbrev pub is_other : ℕ → Lock → Bool
+is_other t l = not (nat_eq l.t t)
+
+dropped : (a x c : Bool) → (x ≡ true → a ≡ true) → (not a && c) ≡ (not a && (x || c))
+dropped true x c h = refl
+dropped false true c h = let bad : false ≡ true = h refl in cc
+dropped false false c h = refl
+
+kept : (a x c : Bool) → (x ≡ true → a ≡ false) → (x || (not a && c)) ≡ (not a && (x || c))
+kept true true c h = let bad : true ≡ false = h refl in cc
+kept true false c h = refl
+kept false x c h = refl
+
+holds_head : (t : ℕ) (l : Lock) (ls rest : List Lock) (u : ℕ) (k : List ℕ) (b : Bool) → nat_eq l.t t ≡ b → holds_in rest u k ≡ (not (nat_eq u t) && holds_in ls u k) → holds_in (cond (not b) (l ∷ rest) rest) u k ≡ (not (nat_eq u t) && holds_in (l ∷ ls) u k)
+holds_head t l ls rest u k true is later = later ∙ dropped (nat_eq u t) (is_at l u k) (holds_in ls u k) (λ at. grind (arith, nat_tests))
+holds_head t l ls rest u k false is later = ap (λ b. is_at l u k || b) later ∙ kept (nat_eq u t) (is_at l u k) (holds_in ls u k) (λ at. grind (arith, nat_tests))
+
+pub holds_in-filter : (t : ℕ) (ls : List Lock) (u : ℕ) (k : List ℕ) → holds_in (filter (is_other t) ls) u k ≡ (not (nat_eq u t) && holds_in ls u k)
+holds_in-filter t [] u k = nothing_of (not (nat_eq u t))
+holds_in-filter t (l ∷ ls) u k = holds_head t l ls (filter (is_other t) ls) u k (nat_eq l.t t) refl (holds_in-filter t ls u k)
+
+writes_head : (t : ℕ) (l : Lock) (ls rest : List Lock) (u : ℕ) (k : List ℕ) (b : Bool) → nat_eq l.t t ≡ b → writes_in rest u k ≡ (not (nat_eq u t) && writes_in ls u k) → writes_in (cond (not b) (l ∷ rest) rest) u k ≡ (not (nat_eq u t) && writes_in (l ∷ ls) u k)
+writes_head t l ls rest u k true is later = later ∙ dropped (nat_eq u t) (is_at l u k && l.writes) (writes_in ls u k) (λ at. grind (arith, nat_tests))
+writes_head t l ls rest u k false is later = ap (λ b. (is_at l u k && l.writes) || b) later ∙ kept (nat_eq u t) (is_at l u k && l.writes) (writes_in ls u k) (λ at. grind (arith, nat_tests))
+
+pub writes_in-filter : (t : ℕ) (ls : List Lock) (u : ℕ) (k : List ℕ) → writes_in (filter (is_other t) ls) u k ≡ (not (nat_eq u t) && writes_in ls u k)
+writes_in-filter t [] u k = nothing_of (not (nat_eq u t))
+writes_in-filter t (l ∷ ls) u k = writes_head t l ls (filter (is_other t) ls) u k (nat_eq l.t t) refl (writes_in-filter t ls u k)
+
+-- ---- with the locks that t takes
+
+three : (h a r w : Bool) → ((h || (a && r)) || (a && w)) ≡ (h || (a && (r || w)))
+three true a r w = refl
+three false true r w = refl
+three false false r w = refl
+
+pub holds_in-taken : (ls : List Lock) (t : ℕ) (rs : List (List ℕ)) (ws : List (List ℕ × ℕ)) (u : ℕ) (k : List ℕ) → holds_in ((ls ++ map (read_lock t) rs) ++ map (write_lock t) ws) u k ≡ (holds_in ls u k || (nat_eq u t && (is_read rs k || is_written ws k)))
+holds_in-taken ls t rs ws u k =
+    holds_in-append (ls ++ map (read_lock t) rs) (map (write_lock t) ws) u k
+    ∙ ap (λ b. b || holds_in (map (write_lock t) ws) u k) (holds_in-append ls (map (read_lock t) rs) u k)
+    ∙ ap (λ b. (holds_in ls u k || b) || holds_in (map (write_lock t) ws) u k) (holds_in-reads t rs u k)
+    ∙ ap (λ b. (holds_in ls u k || (nat_eq u t && is_read rs k)) || b) (holds_in-writes t ws u k)
+    ∙ three (holds_in ls u k) (nat_eq u t) (is_read rs k) (is_written ws k)
+
+or_false : (a b : Bool) → ((a || false) || b) ≡ (a || b)
+or_false true b = refl
+or_false false b = refl
+
+pub writes_in-taken : (ls : List Lock) (t : ℕ) (rs : List (List ℕ)) (ws : List (List ℕ × ℕ)) (u : ℕ) (k : List ℕ) → writes_in ((ls ++ map (read_lock t) rs) ++ map (write_lock t) ws) u k ≡ (writes_in ls u k || (nat_eq u t && is_written ws k))
+writes_in-taken ls t rs ws u k =
+    writes_in-append (ls ++ map (read_lock t) rs) (map (write_lock t) ws) u k
+    ∙ ap (λ b. b || writes_in (map (write_lock t) ws) u k) (writes_in-append ls (map (read_lock t) rs) u k)
+    ∙ ap (λ b. (writes_in ls u k || b) || writes_in (map (write_lock t) ws) u k) (writes_in-reads t rs u k)
+    ∙ ap (λ b. (writes_in ls u k || false) || b) (writes_in-writes t ws u k)
+    ∙ or_false (writes_in ls u k) (nat_eq u t && is_written ws k)
