@@ -9,7 +9,9 @@ use crate::homes::{home_script, reply_outs};
 use crate::nodes::request_outs;
 use crate::numbering::number_all;
 use crate::walks::advance;
-use grid_model::{Act, Document, Envelope, Flag, Item, Message, Out, Standing, Standings, script_of};
+use grid_model::{
+    Act, Document, Envelope, Flag, Item, Message, Out, Standing, Standings, script_of,
+};
 use placement::Cluster;
 use score_base::{Ident, Members, Memory, NodeId, TryCopy, TxId, append, push};
 use script_lang::Script;

@@ -9,4 +9,3 @@ mod lines;
 mod status;
 
 pub use status::{Status, score};
-
