@@ -9,3 +9,6 @@ mod lines;
 mod status;
 
 pub use status::{Status, score};
+
+#[cfg(test)]
+mod tests;
