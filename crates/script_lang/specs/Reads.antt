@@ -1,5 +1,5 @@
 -- The keys of a script, and which of its reads are remote.
-use Rattle.std.specs.Prelude.{ℕ, ◌+◌, Bool, true, false, List, [], ◌∷◌, ◌++◌, if◌then◌else◌}
+use Rattle.std.specs.Prelude.{Bool, true, false, List, [], ◌∷◌, if◌then◌else◌}
 use Rattle.std.specs.List.{list_any}
 use Rattle.score_base.specs.declared.keys.Key.{Key}
 use Rattle.score_base.specs.Keys.{same_key}
