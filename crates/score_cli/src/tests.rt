@@ -1,5 +1,11 @@
 use crate::score;
+use cluster_file::read_document;
+use grid_model::{Act, Message, Out, Prepare};
+use history_print::{write_act, write_history};
+use schedule_replay::replay;
+use score_base::{Ident, Key, KeyList, NodeId, NodeList, TryCopy, TxId, Value, WriteList};
 use score_io::{MemSink, MemSource};
+use script_lang::{Atom, Expr, Op, Step, StepList, is_update, key_of};
 use std::alloc::Global;
 use std::process::Abort;
 use std::test::Fail;
@@ -123,5 +129,73 @@ fn too_long(rt: HostRuntime) -> Result<(), Fail> {
     let status = score(alloc, &words, &mut source, &mut sink);
     assert_eq!(rt; status.code, 3);
     assert_eq!(rt; sink.bytes(), b"too long\n".as_slice());
+    Ok(())
+}
+
+#[test]
+fn copies_of_a_document_and_its_acts(rt: HostRuntime) -> Result<(), Fail> {
+    let alloc = rt.alloc();
+    let mut bytes = Vec::from_slice(alloc, HEAD.as_bytes())?;
+    bytes.extend_from_slice(FIRST_READ.as_bytes())?;
+    let doc = read_document(alloc, bytes.as_slice())?;
+    let doc = doc.copy()?;
+    let acts = replay(alloc, &doc)?;
+    let mut copies = Vec::new(alloc);
+    for act in &acts {
+        copies.push(act.copy()?)?;
+    }
+    let mut text = Vec::new(alloc);
+    write_history(&doc, copies.as_slice(), &mut text)?;
+    assert_eq!(rt; text.as_slice(), FIRST_READ_TEXT.as_bytes());
+    Ok(())
+}
+
+#[test]
+fn copies_of_a_message(rt: HostRuntime) -> Result<(), Fail> {
+    let alloc = rt.alloc();
+    let (n1, n2) = (NodeId { number: 1 }, NodeId { number: 2 });
+    let key = Key::new(b"a").ok_or("a is a key")?;
+    let mut parts = NodeList::new(alloc);
+    parts.push(n2)?;
+    let mut reads = KeyList::new(alloc);
+    reads.push(key)?;
+    let mut writes = WriteList::new(alloc);
+    writes.push((key, Value(4)))?;
+    let prepare = Prepare {
+        t: TxId { number: 1 },
+        sid: Ident(0),
+        parts,
+        reads,
+        writes,
+    };
+    let out = Out::Send(n2, Message::Prepare(prepare)).copy()?;
+    let mut text = Vec::new(alloc);
+    if let Out::Send(to, message) = out {
+        let message = message.copy()?;
+        write_act(&Act::Sent(1, n1, to, message), &mut text)?;
+    }
+    assert_eq!(rt;
+        text.as_slice(),
+        b"sent 1 n1 n2 prepare 1 0 parts 1 n2 reads 1 a writes 1 a 4\n".as_slice()
+    );
+    Ok(())
+}
+
+#[test]
+fn copies_of_an_operation(rt: HostRuntime) -> Result<(), Fail> {
+    let alloc = rt.alloc();
+    let key = Key::new(b"a").ok_or("a is a key")?;
+    let mut steps = StepList::new(alloc);
+    steps.push(Step::Add(Atom::Number(Value(1))))?;
+    let op = Op::Write(
+        key,
+        Expr {
+            first: Atom::Key(key),
+            steps,
+        },
+    );
+    let copy = op.copy()?;
+    assert_eq!(rt; key_of(&copy), key);
+    assert_eq!(rt; is_update(&[copy]), true);
     Ok(())
 }
