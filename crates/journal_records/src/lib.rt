@@ -1,15 +1,6 @@
 //! Journal records.
 #![tactic(auto)]
 
-ghost use Rattle.std.specs.Prelude.{◌≡◌, ◌≤◌, ℕ, List, Some, length};
-ghost use Rattle.score_base.specs.declared.records.Record.{Record};
-ghost use Rattle.score_fields.specs.Spelling.{IsBytes};
-ghost use Rattle.journal_records.specs.Records.{record_bytes, IsRecord, decode_of};
+mod laws;
 
-/// A record has one spelling, and what is spelled so is decoded.
-pub fn law_one_spelling()
-    ensures reads { (r : Record) → IsRecord r → decode_of (record_bytes r) ≡ Some r }
-    ensures writes { (body : List ℕ) (r : Record) → IsBytes body → decode_of body ≡ Some r → body ≡ record_bytes r }
-    ensures fits { (body : List ℕ) (r : Record) → IsBytes body → decode_of body ≡ Some r → IsRecord r }
-    ensures small { (r : Record) → IsRecord r → length (record_bytes r) ≤ 4096 }
-{}
+pub use laws::law_one_spelling;
