@@ -1,1 +1,3 @@
 pub mod RecordCodec
+pub mod Taking
+pub mod Spelled

@@ -166,7 +166,7 @@ decode_takes (tag ∷ body) r fits e =
       found n m same p = (p.0, ap (λ (k : ℕ). k ∷ body) same ∙ p.1)
 
 -- as long as its parts together
-sum_long : (a b : List ℕ) (m n : ℕ) → length a ≤ m → length b ≤ n → length (a ++ b) ≤ m + n
+pub sum_long : (a b : List ℕ) (m n : ℕ) → length a ≤ m → length b ≤ n → length (a ++ b) ≤ m + n
 sum_long a b m n la lb = omega (arith, length-append a b)
 
 prepared_small : (a : PreparedParts) → IsPrepared a → length (prepared_bytes a) ≤ 2406

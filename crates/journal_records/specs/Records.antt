@@ -1,13 +1,15 @@
 -- Records of a journal: their tables, their one spelling, and what a body says.
-use Rattle.std.specs.Prelude.{◌≡◌, ℕ, ◌≤◌, ◌<◌, ◌^◌, ◌==◌, List, [], ◌∷◌, ◌++◌, length, Option, Some, None, option_map, if◌then◌else◌}
+use Rattle.std.specs.Prelude.{◌≡◌, ℕ, ◌≤◌, ◌<◌, ◌^◌, ◌==◌, List, [], ◌∷◌, ◌++◌, length, slice_range, Option, Some, None, option_map, if◌then◌else◌}
+use Rattle.std.specs.List.Sorted.{IsStrictlyIncreasing}
 use Rattle.score_base.specs.declared.causes.Outcome.{Outcome}
 use Rattle.score_base.specs.declared.records.Record.{Record}
 use Rattle.score_base.specs.declared.records.Record.TheVariants.{Prepared, Ended, Ceiling, Decided, Closed}
 use Rattle.score_fields.specs.declared.fields.Field.{Field}
 use Rattle.score_fields.specs.declared.fields.Field.TheVariants as field
+use Rattle.score_fields.specs.declared.fields.Datum.{Datum}
 use Rattle.score_fields.specs.Spelling.{IsTx, IsNode, AreNodes, nodes_bytes, AreKeys, keys_bytes, AreWrites, writes_bytes, IsOutcome, outcome_bytes}
 use Rattle.score_fields.specs.Reading.{◌>>=◌, first_within, first_tx, first_eight, first_nodes, first_keys, first_writes, first_outcome}
-use Rattle.score_fields.specs.Fields.{Meaning, Number, Bytes, layout_bytes}
+use Rattle.score_fields.specs.Fields.{Meaning, Number, Bytes, meaning, IsWithin, Fits, layout_bytes}
 
 -- the tag of a record's kind
 abbrev pub tag_of : Record → ℕ
@@ -84,3 +86,24 @@ decode_of (tag ∷ body) =
     else if tag == 4 then option_map as_decided (whole (first_decided body))
     else if tag == 5 then option_map Closed (whole (first_tx body))
     else None
+
+-- what the caller of `encode` sees to: 1 to 16 rising parts, at most 32 keys and at most 32 writes
+abbrev pub CanEncode : Record → Type 0
+CanEncode (Prepared t home parts sid p reads writes) = (1 ≤ length parts) × (length parts ≤ 16) × IsStrictlyIncreasing parts × (length reads ≤ 32) × (length writes ≤ 32)
+CanEncode (Decided t f parts) = (1 ≤ length parts) × (length parts ≤ 16) × IsStrictlyIncreasing parts
+CanEncode r = Unit {0}
+
+-- a datum stands in a body for a field of this kind
+abbrev pub Stands : List ℕ → Field → Datum → Type 0
+Stands body f d = Fits f (meaning body d) × IsWithin body d
+
+-- the lists stand one behind the other, the second and the third from these places on
+pub record AreSpelled (parts : List ℕ) (reads : List (List ℕ)) (writes : List (List ℕ × ℕ)) (bytes : List ℕ) (reads_at writes_at : ℕ) : Type 0 where
+  pub parts_are : AreNodes parts
+  pub reads_are : AreKeys reads
+  pub writes_are : AreWrites writes
+  pub order : reads_at ≤ writes_at
+  pub within : writes_at ≤ length bytes
+  pub parts_there : slice_range bytes 0 reads_at ≡ nodes_bytes parts
+  pub reads_there : slice_range bytes reads_at writes_at ≡ keys_bytes reads
+  pub writes_there : slice_range bytes writes_at (length bytes) ≡ writes_bytes writes

@@ -162,7 +162,8 @@ pub fn put_nodes(out: &mut Vec<u8>, list: &NodeList) -> Result<(), Memory>
 
 fn keys_len(keys: &[Key]) -> usize
     requires { length keys.now ≤ 32 }
-    ensures { result ≡ length (keys_bytes keys.now) }
+    ensures value { result ≡ length (keys_bytes keys.now) }
+    ensures small { result ≤ 1057 }
 {
     let mut len = 1;
     for key in keys {
@@ -178,6 +179,7 @@ pub fn put_keys(out: &mut Vec<u8>, list: &KeyList) -> Result<(), Memory>
     ensures fits { OnOk result (AreKeys list.now) }
     ensures ok { OnOk result (out.new.items ≡ out.old.items ++ keys_bytes list.now) }
     ensures err { OnErr result (out.new.items ≡ out.old.items) }
+    ensures small { length (keys_bytes list.now) ≤ 1057 }
     ensures capacity { vec_capacity out.old ≤ vec_capacity out.new }
     ensures full { OnErr result (vec_capacity out.old < vec_len out.old + length (keys_bytes list.now)) }
 {
@@ -200,7 +202,8 @@ fn write_len(write: &(Key, Value)) -> usize
 
 fn writes_len(writes: &[(Key, Value)]) -> usize
     requires { length writes.now ≤ 32 }
-    ensures { result ≡ length (writes_bytes writes.now) }
+    ensures value { result ≡ length (writes_bytes writes.now) }
+    ensures small { result ≤ 1313 }
 {
     let mut len = 1;
     for write in writes {
@@ -226,6 +229,7 @@ pub fn put_writes(out: &mut Vec<u8>, list: &WriteList) -> Result<(), Memory>
     ensures fits { OnOk result (AreWrites list.now) }
     ensures ok { OnOk result (out.new.items ≡ out.old.items ++ writes_bytes list.now) }
     ensures err { OnErr result (out.new.items ≡ out.old.items) }
+    ensures small { length (writes_bytes list.now) ≤ 1313 }
     ensures capacity { vec_capacity out.old ≤ vec_capacity out.new }
     ensures full { OnErr result (vec_capacity out.old < vec_len out.old + length (writes_bytes list.now)) }
 {

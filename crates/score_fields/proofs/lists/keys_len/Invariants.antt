@@ -6,5 +6,5 @@ use Rattle.score_fields.proofs.lists.keys_len.Given as goal
 abbrev pub invariant-loop-key : goal.invariant-loop-key
 invariant-loop-key l = record {
   long : l.len ≡ 1 + length (flat_map key_bytes (take l.key-index l.keys));
-  small : l.len ≤ 1 + 41 * l.key-index;
+  small : l.len ≤ 1 + 33 * l.key-index;
 }

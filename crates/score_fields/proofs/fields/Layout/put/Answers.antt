@@ -1,7 +1,7 @@
-use Rattle.std.proofs.Common.{◌≡◌, ◌<◌, ◌≤◌, ◌+◌, length, map, vec_capacity, arith, ap}
+use Rattle.std.proofs.Common.{◌≡◌, ◌<◌, ◌≤◌, ◌+◌, ◌++◌, length, map, vec_capacity, arith, ap}
 use Rattle.std.proofs.lemmas.List.{length-map}
 use Rattle.score_fields.specs.declared.fields.Field.TheVariants.{U8}
-use Rattle.score_fields.specs.Fields.{meaning, field_bytes}
+use Rattle.score_fields.specs.Fields.{meaning, layout_bytes}
 use Rattle.score_fields.proofs.TableLoops.{here, fit_long, bytes_more, bytes_fit}
 use Rattle.score_fields.proofs.fields.Layout.put.Goals as goal
 
@@ -31,7 +31,7 @@ loop-i-preserved g c =
     let lt : c.loop-i.i < length c.args.self.now.fields = omega arith in
     let h = here c.args.source.now c.args.self.now.fields c.args.values.now c.loop-i.i U8 c.index-values-i.result c.requires.fits c.requires.within lt c.index-values-i.is in
     record {
-      spelled = bytes_more _ _ _ _ _ _ c.loop-i.out.items c.put.new.out.items _ h c.put.ensures.items c.loop-i.invariant.spelled;
+      spelled = bytes_more _ _ _ _ _ _ c.loop-i.out.items c.put.new.out.items (c.args.out.now.items ++ layout_bytes c.args.self.now.tag c.args.self.now.fields (map (meaning c.args.source.now) c.args.values.now)) h c.put.ensures.items c.loop-i.invariant.spelled;
       room = omega (arith, c.loop-i.invariant.room, c.put.ensures.capacity);
       capacity = omega (arith, c.loop-i.invariant.capacity, c.put.ensures.capacity);
     }
