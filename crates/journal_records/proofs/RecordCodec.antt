@@ -24,6 +24,7 @@ codec_both : {A B : Type 0} {Is : A → Type 0} {Are : B → Type 0} {f : A → 
 codec_both {A} {B} {Is} {Are} {f} {g} {first} {second} one two = record { again = again; takes = takes } where
   again : (x : A × B) (rest : List ℕ) → Is x.0 × Are x.1 → first_both first second ((f x.0 ++ g x.1) ++ rest) ≡ Some (x, rest)
   again x rest is = ap (first_both first second) (append_assoc (f x.0) (g x.1) rest) ∙ rw (one.again x.0 (g x.1 ++ rest) is.0, two.again x.1 rest is.1) refl
+
   takes : (bytes : List ℕ) (x : A × B) (rest : List ℕ) → IsBytes bytes → first_both first second bytes ≡ Some (x, rest) → (Is x.0 × Are x.1) × (bytes ≡ (f x.0 ++ g x.1) ++ rest)
   takes bytes x rest fits e =
       let a = bind_some (first bytes) (λ y. second y.1 >>= λ z. Some ((y.0, z.0), z.1)) (x, rest) e in

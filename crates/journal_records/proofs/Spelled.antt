@@ -21,10 +21,11 @@ three_slices a b c =
     let first : take (length a) ((a ++ b) ++ c) ≡ a = ap (take (length a)) (append_assoc a b c) ∙ take_at a (b ++ c) (length a) refl in
     let n : length a - 0 ≡ length a = omega arith in
     let m : length (a ++ b) - length a ≡ length b = omega (arith, length-append a b) in
-    let k : length ((a ++ b) ++ c) - length (a ++ b) ≡ length c = omega (arith, length-append (a ++ b) c) in
-    (ap (λ (j : ℕ). take j ((a ++ b) ++ c)) n ∙ first,
-     ap (λ (j : ℕ). take j (drop (length a) ((a ++ b) ++ c))) m ∙ ap (λ (x : List ℕ). take (length b) (drop (length a) x)) (append_assoc a b c) ∙ ap (take (length b)) (drop_at a (b ++ c) (length a) refl) ∙ take_at b c (length b) refl,
-     ap (λ (j : ℕ). take j (drop (length (a ++ b)) ((a ++ b) ++ c))) k ∙ ap (take (length c)) (drop_at (a ++ b) c (length (a ++ b)) refl) ∙ take_all (length c) c (omega arith))
+    let k : length ((a ++ b) ++ c) - length (a ++ b) ≡ length c = omega (arith, length-append (a ++ b) c) in (
+      ap (λ (j : ℕ). take j ((a ++ b) ++ c)) n ∙ first,
+      ap (λ (j : ℕ). take j (drop (length a) ((a ++ b) ++ c))) m ∙ ap (λ (x : List ℕ). take (length b) (drop (length a) x)) (append_assoc a b c) ∙ ap (take (length b)) (drop_at a (b ++ c) (length a) refl) ∙ take_at b c (length b) refl,
+      ap (λ (j : ℕ). take j (drop (length (a ++ b)) ((a ++ b) ++ c))) k ∙ ap (take (length c)) (drop_at (a ++ b) c (length (a ++ b)) refl) ∙ take_all (length c) c (omega arith),
+    )
 
 pub are_spelled : (parts : List ℕ) (reads : List (List ℕ)) (writes : List (List ℕ × ℕ)) (bytes : List ℕ) (reads_at writes_at : ℕ) → AreNodes parts → AreKeys reads → AreWrites writes
     → bytes ≡ (nodes_bytes parts ++ keys_bytes reads) ++ writes_bytes writes → reads_at ≡ length (nodes_bytes parts) → writes_at ≡ length (nodes_bytes parts ++ keys_bytes reads)

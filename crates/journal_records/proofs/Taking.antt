@@ -12,7 +12,7 @@ use Rattle.score_fields.specs.declared.fields.Datum.{Datum}
 use Rattle.score_fields.specs.Spelling.{IsBytes}
 use Rattle.score_fields.specs.Fields.{Meaning, meaning, AllFit, layout_bytes, IsTaken}
 use Rattle.score_fields.proofs.TableLoops.{fit_long}
-use Rattle.journal_records.specs.Records.{record_bytes, IsRecord, tag_of, fields_of, meanings_of, decode_of}
+use Rattle.journal_records.specs.Records.{CanEncode, record_bytes, IsRecord, tag_of, fields_of, meanings_of, decode_of}
 use Rattle.journal_records.proofs.RecordCodec.{decode_again, decode_takes}
 
 -- the tables by their tags
@@ -54,20 +54,20 @@ undecoded tag fs body fits first same none = by_read (decode_of body) refl where
       absurd (none (meanings_of r) (subst (λ (x : List Field). AllFit x (meanings_of r)) fields-is (record_fits r found.0)) there)
 
 -- where nothing was taken
-pub undecoded_front : (tag : ℕ) (fs : List Field) (body : List ℕ) → IsBytes body → get_or body 0 0 ≡ tag → table tag ≡ fs
-    → ((ms : List Meaning) (rest : List ℕ) → AllFit fs ms → body ≡ layout_bytes tag fs ms ++ rest → ⊥) → None ≡ decode_of body
-undecoded_front tag fs body fits first same none = undecoded tag fs body fits first same (λ ms fit e. none ms [] fit (e ∙ sym (append-nil (layout_bytes tag fs ms))))
+pub not_whole_front : (tag : ℕ) (fs : List Field) (body : List ℕ) → ((ms : List Meaning) (rest : List ℕ) → AllFit fs ms → body ≡ layout_bytes tag fs ms ++ rest → ⊥)
+    → (ms : List Meaning) → AllFit fs ms → body ≡ layout_bytes tag fs ms → ⊥
+not_whole_front tag fs body none ms fit e = none ms [] fit (e ∙ sym (append-nil (layout_bytes tag fs ms)))
 
 -- where something is behind what was taken
-pub undecoded_more : (tag : ℕ) (fs : List Field) (body : List ℕ) (values : List Meaning → List Datum) (taken : List Datum) (used : ℕ) → IsBytes body → get_or body 0 0 ≡ tag → table tag ≡ fs
-    → ((ms : List Meaning) (rest : List ℕ) → AllFit fs ms → body ≡ layout_bytes tag fs ms ++ rest → (taken ≡ values ms) × (used ≡ length (layout_bytes tag fs ms))) → (used ≡ length body → ⊥) → None ≡ decode_of body
-undecoded_more tag fs body values taken used fits first same again more =
-    undecoded tag fs body fits first same (λ ms fit e. more ((again ms [] fit (e ∙ sym (append-nil (layout_bytes tag fs ms)))).1 ∙ sym (ap length e)))
+pub not_whole_more : (tag : ℕ) (fs : List Field) (body : List ℕ) (values : List Meaning → List Datum) (taken : List Datum) (used : ℕ)
+    → ((ms : List Meaning) (rest : List ℕ) → AllFit fs ms → body ≡ layout_bytes tag fs ms ++ rest → (taken ≡ values ms) × (used ≡ length (layout_bytes tag fs ms))) → (used ≡ length body → ⊥)
+    → (ms : List Meaning) → AllFit fs ms → body ≡ layout_bytes tag fs ms → ⊥
+not_whole_more tag fs body values taken used again more ms fit e = more ((again ms [] fit (e ∙ sym (append-nil (layout_bytes tag fs ms)))).1 ∙ sym (ap length e))
 
 -- where all of it was taken
-pub decoded : (r : Record) (body : List ℕ) (values : List Datum) (used : ℕ) → IsTaken (tag_of r) (fields_of r) body values used → used ≡ length body → map (meaning body) values ≡ meanings_of r → IsRecord r → Some r ≡ decode_of body
-decoded r body values used taken all means is =
-    let whole : body ≡ record_bytes r = sym (take_all used body (omega arith)) ∙ taken.spelled ∙ ap (layout_bytes (tag_of r) (fields_of r)) means ∙ sym (record_is r) in
+pub decoded : (r : Record) (body : List ℕ) (values : List Datum) → IsTaken (tag_of r) (fields_of r) body values (length body) → map (meaning body) values ≡ meanings_of r → IsRecord r → Some r ≡ decode_of body
+decoded r body values taken means is =
+    let whole : body ≡ record_bytes r = sym (take_all (length body) body (omega arith)) ∙ taken.spelled ∙ ap (layout_bytes (tag_of r) (fields_of r)) means ∙ sym (record_is r) in
     sym (ap decode_of whole ∙ decode_again r is)
 
 -- ---- the values one by one
@@ -114,3 +114,12 @@ pub none_from : (body : List ℕ) (result : Result (Option Record) Memory) → I
 none_from body (Ok None) exact = none_when body exact
 none_from body (Ok (Some r)) exact = tt
 none_from body (Err e) exact = tt
+
+-- a record may be encoded
+pub can_encode : (r : Record) → IsRecord r → CanEncode r
+unfolding IsRecord
+can_encode (Prepared t home parts sid p reads writes) is = (is.2.some, is.2.most, is.2.rising, is.5.most, is.6.most)
+can_encode (Ended t outcome) is = tt
+can_encode (Ceiling c) is = tt
+can_encode (Decided t f parts) is = (is.2.some, is.2.most, is.2.rising)
+can_encode (Closed t) is = tt

@@ -1,28 +1,59 @@
 //! From a body to its record.
 
-ghost use Rattle.std.specs.Prelude.{◌≡◌, ◌⊎◌, None, Some, IfOk, IfSome, IfNone, OnErr, slice_index};
+ghost use Rattle.std.specs.Prelude.{◌≡◌, ◌≤◌, ◌⊎◌, List, length, IfOk, IfSome, IfNone, OnErr, slice_index};
 ghost use Rattle.score_base.specs.declared.records.Record.{Record};
+ghost use Rattle.score_fields.specs.Fields.{Meaning, AllFit, layout_bytes, IsTaken};
 ghost use Rattle.journal_records.specs.Records.{record_bytes, IsRecord, decode_of};
 
 use crate::parts::{ident, keys, node, nodes, outcome, tx, writes};
 use crate::tables::{layout, row};
 use score_base::{Memory, Record};
-use score_fields::{Field, Layout};
+use score_fields::{Datum, Field, Layout};
 use std::alloc::Global;
 
-fn ended(body: &[u8]) -> Option<Record>
-    requires { slice_index body.now 0 ≡ 2 }
-    ensures { result ≡ decode_of body.now }
+/// The values of a body that is the spelling of this layout, whole; `None` exactly where it is not.
+fn whole<const N: usize>(layout: &Layout<N>, body: &[u8]) -> Option<[Datum; N]>
+    requires { N ≤ 8 }
+    ensures taken { IfSome result (λ values. IsTaken layout.now.tag layout.now.fields body.now values (length body.now)) }
+    ensures none { IfNone result ((ms : List Meaning) → AllFit layout.now.fields ms → body.now ≡ layout_bytes layout.now.tag layout.now.fields ms → ⊥) }
 {
-    let Some(taken) = layout!(Ended).take(body) else {
+    let Some(taken) = layout.take(body) else {
         return None;
     };
     if taken.used != body.len() {
         return None;
     }
+    Some(taken.values)
+}
+
+fn prepared(alloc: Global, body: &[u8]) -> Result<Option<Record>, Memory>
+    requires { slice_index body.now 0 ≡ 1 }
+    ensures { IfOk result (λ o. o ≡ decode_of body.now) }
+{
+    let Some(values) = whole(&layout!(Prepared), body) else {
+        return Ok(None);
+    };
+    Ok(Some(Record::Prepared {
+        t: tx(&values[0], body),
+        home: node(&values[1], body),
+        parts: nodes(alloc, &values[2], body)?,
+        sid: ident(&values[3], body),
+        p: ident(&values[4], body),
+        reads: keys(alloc, &values[5], body)?,
+        writes: writes(alloc, &values[6], body)?,
+    }))
+}
+
+fn ended(body: &[u8]) -> Option<Record>
+    requires { slice_index body.now 0 ≡ 2 }
+    ensures { result ≡ decode_of body.now }
+{
+    let Some(values) = whole(&layout!(Ended), body) else {
+        return None;
+    };
     Some(Record::Ended {
-        t: tx(&taken.values[0], body),
-        outcome: outcome(&taken.values[1], body),
+        t: tx(&values[0], body),
+        outcome: outcome(&values[1], body),
     })
 }
 
@@ -30,68 +61,38 @@ fn ceiling(body: &[u8]) -> Option<Record>
     requires { slice_index body.now 0 ≡ 3 }
     ensures { result ≡ decode_of body.now }
 {
-    let Some(taken) = layout!(Ceiling).take(body) else {
+    let Some(values) = whole(&layout!(Ceiling), body) else {
         return None;
     };
-    if taken.used != body.len() {
-        return None;
-    }
     Some(Record::Ceiling {
-        c: ident(&taken.values[0], body),
+        c: ident(&values[0], body),
     })
-}
-
-fn closed(body: &[u8]) -> Option<Record>
-    requires { slice_index body.now 0 ≡ 5 }
-    ensures { result ≡ decode_of body.now }
-{
-    let Some(taken) = layout!(Closed).take(body) else {
-        return None;
-    };
-    if taken.used != body.len() {
-        return None;
-    }
-    Some(Record::Closed {
-        t: tx(&taken.values[0], body),
-    })
-}
-
-fn prepared(alloc: Global, body: &[u8]) -> Result<Option<Record>, Memory>
-    requires { slice_index body.now 0 ≡ 1 }
-    ensures { IfOk result (λ o. o ≡ decode_of body.now) }
-{
-    let Some(taken) = layout!(Prepared).take(body) else {
-        return Ok(None);
-    };
-    if taken.used != body.len() {
-        return Ok(None);
-    }
-    Ok(Some(Record::Prepared {
-        t: tx(&taken.values[0], body),
-        home: node(&taken.values[1], body),
-        parts: nodes(alloc, &taken.values[2], body)?,
-        sid: ident(&taken.values[3], body),
-        p: ident(&taken.values[4], body),
-        reads: keys(alloc, &taken.values[5], body)?,
-        writes: writes(alloc, &taken.values[6], body)?,
-    }))
 }
 
 fn decided(alloc: Global, body: &[u8]) -> Result<Option<Record>, Memory>
     requires { slice_index body.now 0 ≡ 4 }
     ensures { IfOk result (λ o. o ≡ decode_of body.now) }
 {
-    let Some(taken) = layout!(Decided).take(body) else {
+    let Some(values) = whole(&layout!(Decided), body) else {
         return Ok(None);
     };
-    if taken.used != body.len() {
-        return Ok(None);
-    }
     Ok(Some(Record::Decided {
-        t: tx(&taken.values[0], body),
-        f: ident(&taken.values[1], body),
-        parts: nodes(alloc, &taken.values[2], body)?,
+        t: tx(&values[0], body),
+        f: ident(&values[1], body),
+        parts: nodes(alloc, &values[2], body)?,
     }))
+}
+
+fn closed(body: &[u8]) -> Option<Record>
+    requires { slice_index body.now 0 ≡ 5 }
+    ensures { result ≡ decode_of body.now }
+{
+    let Some(values) = whole(&layout!(Closed), body) else {
+        return None;
+    };
+    Some(Record::Closed {
+        t: tx(&values[0], body),
+    })
 }
 
 fn by_tag(alloc: Global, body: &[u8]) -> Result<Option<Record>, Memory>

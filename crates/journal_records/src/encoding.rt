@@ -17,7 +17,12 @@ fn number(identifier: Ident) -> u64
 }
 
 /// Spells the lists one behind the other, and tells where the second and the third begin.
-fn spell_lists(parts: &NodeList, reads: &KeyList, writes: &WriteList, scratch: &mut Vec<u8>) -> Result<(usize, usize), Memory>
+fn spell_lists(
+    parts: &NodeList,
+    reads: &KeyList,
+    writes: &WriteList,
+    scratch: &mut Vec<u8>,
+) -> Result<(usize, usize), Memory>
     requires some { 1 ≤ length parts.now }
     requires most { length parts.now ≤ 16 }
     requires rising { IsStrictlyIncreasing parts.now }
@@ -36,7 +41,12 @@ fn spell_lists(parts: &NodeList, reads: &KeyList, writes: &WriteList, scratch: &
 }
 
 #[tactic(auto, using(crate::proofs::Spelled::short), unfolding(crate::specs::Records::record_bytes, crate::specs::Records::IsRecord))]
-fn put_ended(t: TxId, outcome: Outcome, scratch: &mut Vec<u8>, out: &mut Vec<u8>) -> Result<(), Memory>
+fn put_ended(
+    t: TxId,
+    outcome: Outcome,
+    scratch: &mut Vec<u8>,
+    out: &mut Vec<u8>,
+) -> Result<(), Memory>
     ensures record { OnOk result (IsRecord (Ended t outcome)) }
     ensures ok { OnOk result (out.new.items ≡ out.old.items ++ record_bytes (Ended t outcome)) }
     ensures err { OnErr result (out.new.items ≡ out.old.items) }
@@ -59,7 +69,13 @@ fn put_ceiling(c: Ident, out: &mut Vec<u8>) -> Result<(), Memory>
 }
 
 #[tactic(auto, using(crate::proofs::Spelled::short), unfolding(crate::specs::Records::record_bytes, crate::specs::Records::IsRecord))]
-fn put_decided(t: TxId, f: Ident, parts: &NodeList, scratch: &mut Vec<u8>, out: &mut Vec<u8>) -> Result<(), Memory>
+fn put_decided(
+    t: TxId,
+    f: Ident,
+    parts: &NodeList,
+    scratch: &mut Vec<u8>,
+    out: &mut Vec<u8>,
+) -> Result<(), Memory>
     requires some { 1 ≤ length parts.now }
     requires most { length parts.now ≤ 16 }
     requires rising { IsStrictlyIncreasing parts.now }

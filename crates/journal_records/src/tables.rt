@@ -27,4 +27,5 @@ macro_rules! layout {
     };
 }
 
-pub(crate) use {layout, row};
+pub(crate) use layout;
+pub(crate) use row;

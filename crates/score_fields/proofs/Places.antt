@@ -99,10 +99,10 @@ mean_them (f ∷ fs) (m ∷ ms) front rest fit =
     let more = mean_them fs ms (front ++ text) rest fit.1 in
     let at : length (front ++ text) ≡ length front + length text = length-append front text in
     let one' : (meaning (front ++ (fields_bytes (f ∷ fs) (m ∷ ms) ++ rest)) (datum_at (length front) m) ≡ m) × IsWithin (front ++ (fields_bytes (f ∷ fs) (m ∷ ms) ++ rest)) (datum_at (length front) m) =
-        subst (λ (b : List ℕ). (meaning b (datum_at (length front) m) ≡ m) × IsWithin b (datum_at (length front) m)) (sym here) one in
+    subst (λ (b : List ℕ). (meaning b (datum_at (length front) m) ≡ m) × IsWithin b (datum_at (length front) m)) (sym here) one in
     let more' : (map (meaning (front ++ (fields_bytes (f ∷ fs) (m ∷ ms) ++ rest))) (data_at (length front + length text) fs ms) ≡ ms) × AllByRecursion (IsWithin (front ++ (fields_bytes (f ∷ fs) (m ∷ ms) ++ rest))) (data_at (length front + length text) fs ms) =
-        subst (λ (n : ℕ). (map (meaning (front ++ (fields_bytes (f ∷ fs) (m ∷ ms) ++ rest))) (data_at n fs ms) ≡ ms) × AllByRecursion (IsWithin (front ++ (fields_bytes (f ∷ fs) (m ∷ ms) ++ rest))) (data_at n fs ms)) at
-        (subst (λ (b : List ℕ). (map (meaning b) (data_at (length (front ++ text)) fs ms) ≡ ms) × AllByRecursion (IsWithin b) (data_at (length (front ++ text)) fs ms)) (sym there) more) in
+    subst (λ (n : ℕ). (map (meaning (front ++ (fields_bytes (f ∷ fs) (m ∷ ms) ++ rest))) (data_at n fs ms) ≡ ms) × AllByRecursion (IsWithin (front ++ (fields_bytes (f ∷ fs) (m ∷ ms) ++ rest))) (data_at n fs ms)) at
+    (subst (λ (b : List ℕ). (map (meaning b) (data_at (length (front ++ text)) fs ms) ≡ ms) × AllByRecursion (IsWithin b) (data_at (length (front ++ text)) fs ms)) (sym there) more) in
     (ap (λ (x : Meaning). x ∷ map (meaning (front ++ (fields_bytes (f ∷ fs) (m ∷ ms) ++ rest))) (data_at (length front + length text) fs ms)) one'.0 ∙ ap (λ (xs : List Meaning). m ∷ xs) more'.0, (one'.1, more'.1))
 
 -- ---- a whole layout

@@ -110,14 +110,14 @@ pub data_goes_on : (fs : List Field) (bytes : List ℕ) (i place : ℕ) (f : Fie
     → Some (d, after) ≡ datum_from (get_or fs i f) place bytes → with_front (take i values) (data_from (drop i fs) place bytes) ≡ total → with_front (take (i + 1) (set values i d)) (data_from (drop (i + 1) fs) after bytes) ≡ total
 data_goes_on fs bytes i place f values d after total lt lt' read so_far =
     let one : data_from (drop i fs) place bytes ≡ (data_from (drop (i + 1) fs) after bytes >>= λ x. Some (d ∷ x.0, x.1)) =
-        ap (λ (x : List Field). data_from x place bytes) (fields_from fs i f lt) ∙ ap (λ (o : Option (Datum × ℕ)). o >>= λ y. data_from (drop (i + 1) fs) y.1 bytes >>= λ ys. Some (y.0 ∷ ys.0, ys.1)) (sym read) in
+    ap (λ (x : List Field). data_from x place bytes) (fields_from fs i f lt) ∙ ap (λ (o : Option (Datum × ℕ)). o >>= λ y. data_from (drop (i + 1) fs) y.1 bytes >>= λ ys. Some (y.0 ∷ ys.0, ys.1)) (sym read) in
     ap (λ (front : List Datum). with_front front (data_from (drop (i + 1) fs) after bytes)) (take_more_set values i d lt') ∙ sym (regroup (take i values) d (data_from (drop (i + 1) fs) after bytes)) ∙ sym (ap (with_front (take i values)) one) ∙ so_far
 
 pub data_ends : (fs : List Field) (bytes : List ℕ) (i place : ℕ) (f : Field) (front : List Datum) (total : Option (List Datum × ℕ)) → i < length fs
     → None ≡ datum_from (get_or fs i f) place bytes → with_front front (data_from (drop i fs) place bytes) ≡ total → None ≡ total
 data_ends fs bytes i place f front total lt read so_far =
     let one : data_from (drop i fs) place bytes ≡ None =
-        ap (λ (x : List Field). data_from x place bytes) (fields_from fs i f lt) ∙ ap (λ (o : Option (Datum × ℕ)). o >>= λ y. data_from (drop (i + 1) fs) y.1 bytes >>= λ ys. Some (y.0 ∷ ys.0, ys.1)) (sym read) in
+    ap (λ (x : List Field). data_from x place bytes) (fields_from fs i f lt) ∙ ap (λ (o : Option (Datum × ℕ)). o >>= λ y. data_from (drop (i + 1) fs) y.1 bytes >>= λ ys. Some (y.0 ∷ ys.0, ys.1)) (sym read) in
     sym (ap (with_front front) one) ∙ so_far
 
 pub data_done : (fs : List Field) (bytes : List ℕ) (i place : ℕ) (values : List Datum) (total : Option (List Datum × ℕ)) → length fs ≤ i → length values ≤ i

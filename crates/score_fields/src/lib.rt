@@ -26,3 +26,6 @@ pub use choices::{put_ballot, put_date, put_outcome, read_ballot, read_date, rea
 pub use fields::{Datum, Field, Layout, Taken};
 pub use laws::law_one_spelling;
 pub use lists::{list_keys, list_nodes, list_writes, put_keys, put_nodes, put_writes};
+
+#[cfg(test)]
+mod tests;

@@ -10,6 +10,13 @@ use crate::room::{make_room, put_byte, put_eight, put_key};
 use score_base::{Key, KeyList, Memory, NodeId, NodeList, Value, WriteList};
 use std::alloc::Global;
 
+/// As many as a script has operations at most.
+const MOST_KEYS: u8 = 32;
+
+/// As many as a script has operations at most.
+const MOST_WRITES: u8 = 32;
+
+/// Whether each node is above the one before it, from node 1 on, and none is above 16.
 fn rise(nodes: &[u8]) -> bool
     ensures { result ≡ rises_above 0 nodes.now }
 {
@@ -50,7 +57,7 @@ pub fn past_keys(bytes: &[u8]) -> Option<&[u8]>
         return None;
     };
     let count = *count;
-    if count > 32 {
+    if count > MOST_KEYS {
         return None;
     }
     let mut rest = rest;
@@ -71,7 +78,7 @@ pub fn past_writes(bytes: &[u8]) -> Option<&[u8]>
         return None;
     };
     let count = *count;
-    if count > 32 {
+    if count > MOST_WRITES {
         return None;
     }
     let mut rest = rest;

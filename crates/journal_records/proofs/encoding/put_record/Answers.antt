@@ -9,17 +9,37 @@ pub put-requires : goal.put-requires
 put-requires c =
     let there : c.deref.result.now ≡ c.spell_lists.new.scratch.items = c.deref.ensures.value in
     let s = subst (λ (b : List ℕ). AreSpelled c.in-Prepared.parts c.in-Prepared.reads c.in-Prepared.writes b c.in_ok-reads_at-in-Prepared.reads_at c.in_ok-reads_at-in-Prepared.writes_at) (sym there) c.in_ok-reads_at-in-Prepared.ensures.ok in
-    let end : c.len.result ≡ length c.deref.result.now = omega (arith, c.len.ensures, ap length there, c.spell_lists.new.scratch.ok) in
-    (lit< tt, (lit≤ tt,
-      (((omega (arith, c.get.ensures.least), omega (arith, c.get.ensures.most)),
-       ((omega (arith, c.get-in-Prepared.ensures.least), omega (arith, c.get-in-Prepared.ensures.most)),
-       (record { value = c.in-Prepared.parts; fits = s.parts_are; spelled = s.parts_there },
-       (omega arith,
-       (omega arith,
-       (record { value = c.in-Prepared.reads; fits = s.reads_are; spelled = s.reads_there },
-       (record { value = c.in-Prepared.writes; fits = s.writes_are; spelled = ap (slice_range c.deref.result.now c.in_ok-reads_at-in-Prepared.writes_at) end ∙ s.writes_there },
-       tt))))))),
-      prepared_within c.get.result c.get-in-Prepared.result c.number.result c.number-in-Prepared.result c.deref.result.now _ _ c.len.result s.order s.within end)))
+    let end : c.len.result ≡ length c.deref.result.now = omega (arith, c.len.ensures, ap length there, c.spell_lists.new.scratch.ok) in (
+      lit< tt,
+      (
+        lit≤ tt,
+        (
+          (
+            (omega (arith, c.get.ensures.least), omega (arith, c.get.ensures.most)),
+            (
+              (omega (arith, c.get-in-Prepared.ensures.least), omega (arith, c.get-in-Prepared.ensures.most)),
+              (
+                record { value = c.in-Prepared.parts; fits = s.parts_are; spelled = s.parts_there },
+                (
+                  omega arith,
+                  (
+                    omega arith,
+                    (
+                      record { value = c.in-Prepared.reads; fits = s.reads_are; spelled = s.reads_there },
+                      (
+                        record { value = c.in-Prepared.writes; fits = s.writes_are; spelled = ap (slice_range c.deref.result.now c.in_ok-reads_at-in-Prepared.writes_at) end ∙ s.writes_there },
+                        tt,
+                      ),
+                    ),
+                  ),
+                ),
+              ),
+            ),
+          ),
+          prepared_within c.get.result c.get-in-Prepared.result c.number.result c.number-in-Prepared.result c.deref.result.now _ _ c.len.result s.order s.within end,
+        ),
+      ),
+    )
 
 pub returns-in_ok-reads_at-in-Prepared-clause-record : goal.returns-in_ok-reads_at-in-Prepared-clause-record
 unfolding IsRecord
