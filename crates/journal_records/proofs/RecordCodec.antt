@@ -1,5 +1,5 @@
 -- What a body says was spelled so, and what is spelled so is said: the two ways, record by record.
-use Rattle.std.proofs.Common.{◌≡◌, ℕ, ◌+◌, ◌==◌, ◌≤◌, ◌^◌, ◌<◌, Bool, true, false, cond, eqb, List, [], ◌∷◌, ◌++◌, length, Option, Some, None, option_map, refl, sym, ap, subst, ◌∙◌, append_assoc, arith, length-append, inl, inr, ◌⊎◌}
+use Rattle.std.proofs.Common.{◌≡◌, ℕ, ◌+◌, ◌≤◌, ◌^◌, ◌<◌, cond, eqb, List, [], ◌∷◌, ◌++◌, length, Option, Some, None, option_map, refl, sym, ap, subst, ◌∙◌, append_assoc, arith, length-append, inl, inr, ◌⊎◌}
 use Rattle.std.proofs.lemmas.Option.{cond_some}
 use Rattle.std.proofs.lemmas.Bool.{eqb-true}
 use Rattle.std.proofs.lemmas.Bool.Decides.{eqb_tells}
@@ -8,7 +8,7 @@ use Rattle.score_base.specs.declared.causes.Outcome.{Outcome}
 use Rattle.score_base.specs.declared.records.Record.{Record}
 use Rattle.score_base.specs.declared.records.Record.TheVariants.{Prepared, Ended, Ceiling, Decided, Closed}
 use Rattle.score_fields.specs.Spelling.{IsBytes, IsTx, IsNode, AreNodes, nodes_bytes, AreKeys, keys_bytes, AreWrites, writes_bytes, IsOutcome, outcome_bytes, two_bytes, eight_bytes}
-use Rattle.score_fields.specs.Reading.{◌>>=◌, first_within, first_tx, first_eight, first_nodes, first_keys, first_writes, first_outcome}
+use Rattle.score_fields.specs.Reading.{◌>>=◌, first_tx, first_eight}
 use Rattle.score_fields.proofs.Codecs.{IsCodec, IsBytes-rest, IsBytes-behind, bind_some, codec_within, codec_tx, codec_eight}
 use Rattle.score_fields.proofs.Bounds.{nodes_small, keys_small, writes_small, outcome_small}
 use Rattle.score_fields.proofs.Lengths.{length-two_bytes, length-eight_bytes}

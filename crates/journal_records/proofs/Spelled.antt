@@ -1,11 +1,11 @@
 -- The lists of a record as they stand in scratch, and how long a record is.
-use Rattle.std.proofs.Common.{◌≡◌, ℕ, ◌+◌, ◌-◌, ◌≤◌, ◌<◌, Result, Ok, Err, OnErr, OnOk, All, List, [], ◌∷◌, ◌++◌, length, take, drop, slice_range, refl, sym, ap, subst, ◌∙◌, append_assoc, arith, length-append}
+use Rattle.std.proofs.Common.{◌≡◌, ℕ, ◌-◌, ◌≤◌, Result, Ok, Err, OnErr, OnOk, All, List, [], ◌∷◌, ◌++◌, length, take, drop, slice_range, refl, ap, ◌∙◌, append_assoc, arith, length-append}
 use Rattle.std.proofs.lemmas.List.{take_at, drop_at, take_all}
 use Rattle.std.specs.List.{AllByRecursion}
 use Rattle.std.proofs.lemmas.List.Elements.{All-from_recursion}
 use Rattle.score_base.specs.declared.causes.Outcome.{Outcome}
 use Rattle.score_base.specs.declared.records.Record.{Record}
-use Rattle.score_base.specs.declared.records.Record.TheVariants.{Prepared, Ended, Ceiling, Decided, Closed}
+use Rattle.score_base.specs.declared.records.Record.TheVariants.{Ended, Ceiling, Decided, Closed}
 use Rattle.score_fields.specs.Spelling.{two_bytes, eight_bytes, AreNodes, nodes_bytes, AreKeys, keys_bytes, AreWrites, writes_bytes, outcome_bytes}
 use Rattle.score_fields.proofs.Bounds.{nodes_small, keys_small, writes_small, outcome_small}
 use Rattle.score_fields.proofs.Lengths.{length-two_bytes, length-eight_bytes}

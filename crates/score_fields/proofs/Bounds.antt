@@ -1,12 +1,11 @@
 -- How long a spelling can be.
-use Rattle.std.proofs.Common.{◌≡◌, ℕ, zero, suc, ◌+◌, ◌*◌, ◌<◌, ◌≤◌, ◌&&◌, not, leb, List, [], ◌∷◌, ◌++◌, length, sym, ap, subst, ◌∙◌, arith, length-append}
+use Rattle.std.proofs.Common.{ℕ, ◌*◌, ◌≤◌, ◌&&◌, not, leb, List, [], ◌∷◌, length, ap, arith, length-append}
 use Rattle.std.specs.List.{flat_map, AllByRecursion, list_all}
 use Rattle.std.proofs.lemmas.Bool.{leb-true, and_parts}
 use Rattle.std.proofs.lemmas.List.Concat.{flat_map-cons}
-use Rattle.score_base.specs.Keys.{is_key, is_key_byte, is_digit}
+use Rattle.score_base.specs.Keys.{is_key_byte, is_digit}
 use Rattle.score_base.specs.declared.causes.Outcome.{Outcome}
 use Rattle.score_base.specs.declared.causes.Outcome.TheVariants.{Commit, Abort}
-use Rattle.score_base.specs.declared.causes.Cause.{Cause}
 use Rattle.score_base.specs.declared.causes.Cause.TheVariants.{Holder, Newer}
 use Rattle.score_base.specs.declared.causes.Ballot.{Ballot}
 use Rattle.score_base.specs.declared.causes.Ballot.TheVariants.{Yes, No}
@@ -14,7 +13,7 @@ use Rattle.score_base.specs.declared.causes.Date.{Date}
 use Rattle.score_base.specs.declared.causes.Date.TheVariants.{First, At}
 use Rattle.score_fields.specs.declared.fields.Field.{Field}
 use Rattle.score_fields.specs.declared.fields.Field.TheVariants as field
-use Rattle.score_fields.specs.Spelling.{IsSpelling, two_bytes, eight_bytes, IsKey, key_bytes, AreNodes, nodes_bytes, AreKeys, keys_bytes, IsWrite, write_bytes, AreWrites, writes_bytes, IsOutcome, outcome_bytes, IsBallot, ballot_bytes, IsDate, date_bytes}
+use Rattle.score_fields.specs.Spelling.{IsKey, key_bytes, AreNodes, nodes_bytes, AreKeys, keys_bytes, IsWrite, write_bytes, AreWrites, writes_bytes, outcome_bytes, IsBallot, ballot_bytes, date_bytes}
 use Rattle.score_fields.specs.Fields.{Meaning, Number, Key, Bytes, Fits, field_bytes, AllFit, fields_bytes}
 use Rattle.score_fields.proofs.Lengths.{length-two_bytes, length-eight_bytes, length-write_bytes}
 

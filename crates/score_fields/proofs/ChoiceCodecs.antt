@@ -1,16 +1,15 @@
 -- Outcomes, ballots and dates: the same two ways.
-use Rattle.std.proofs.Common.{◌≡◌, ℕ, zero, suc, List, [], ◌∷◌, ◌++◌, Option, Some, None, option_map, refl, sym, ap, subst, ◌∙◌, append_assoc}
+use Rattle.std.proofs.Common.{◌≡◌, ℕ, zero, suc, List, [], ◌∷◌, ◌++◌, Option, Some, None, option_map, refl, sym, ap, subst, ◌∙◌}
 use Rattle.std.proofs.lemmas.List.{append-nil}
 use Rattle.score_base.specs.declared.causes.Outcome.{Outcome}
 use Rattle.score_base.specs.declared.causes.Outcome.TheVariants.{Commit, Abort}
-use Rattle.score_base.specs.declared.causes.Cause.{Cause}
 use Rattle.score_base.specs.declared.causes.Cause.TheVariants.{Holder, Newer}
 use Rattle.score_base.specs.declared.causes.Ballot.{Ballot}
 use Rattle.score_base.specs.declared.causes.Ballot.TheVariants.{Yes, No}
 use Rattle.score_base.specs.declared.causes.Date.{Date}
 use Rattle.score_base.specs.declared.causes.Date.TheVariants.{First, At}
-use Rattle.score_fields.specs.Spelling.{IsBytes, IsSpelling, eight_bytes, two_bytes, write_bytes, IsOutcome, outcome_bytes, IsBallot, ballot_bytes, IsDate, date_bytes}
-use Rattle.score_fields.specs.Reading.{◌>>=◌, first_eight, first_tx, first_write, first_outcome, first_ballot, first_date}
+use Rattle.score_fields.specs.Spelling.{IsBytes, IsSpelling, IsOutcome, outcome_bytes, IsBallot, ballot_bytes, IsDate, date_bytes}
+use Rattle.score_fields.specs.Reading.{◌>>=◌, first_outcome, first_ballot, first_date}
 use Rattle.score_fields.proofs.Codecs.{IsCodec, IsBytes-rest, bind_some, codec_eight, codec_tx, codec_write}
 
 -- what one value behind a byte was

@@ -1,9 +1,9 @@
 -- Fields of every kind and tables of them: the same two ways.
-use Rattle.std.proofs.Common.{◌≡◌, ℕ, zero, suc, ◌+◌, ◌-◌, ◌^◌, ◌<◌, ◌≤◌, List, [], ◌∷◌, ◌++◌, length, take, drop, map, Option, Some, None, refl, sym, ap, subst, ◌∙◌, append_assoc, arith}
+use Rattle.std.proofs.Common.{◌≡◌, ℕ, ◌-◌, ◌≤◌, List, [], ◌∷◌, ◌++◌, length, take, Option, Some, None, refl, sym, ap, subst, ◌∙◌, append_assoc, arith}
 use Rattle.std.proofs.lemmas.List.{take_at, length-append}
 use Rattle.score_fields.specs.declared.fields.Field.{Field}
 use Rattle.score_fields.specs.declared.fields.Field.TheVariants as field
-use Rattle.score_fields.specs.Spelling.{IsBytes, IsSpelling, IsNode, AreNodes, nodes_bytes, AreKeys, keys_bytes, AreWrites, writes_bytes, IsOutcome, outcome_bytes, IsBallot, ballot_bytes, IsDate, date_bytes}
+use Rattle.score_fields.specs.Spelling.{IsBytes, IsSpelling, AreNodes, nodes_bytes, AreKeys, keys_bytes, AreWrites, writes_bytes, IsOutcome, outcome_bytes, IsBallot, ballot_bytes, IsDate, date_bytes}
 use Rattle.score_fields.specs.Reading.{◌>>=◌, first_within, first_eight, first_tx, first_key, first_nodes, first_keys, first_writes, first_outcome, first_ballot, first_date}
 use Rattle.score_fields.specs.Fields.{Meaning, Number, Key, Bytes, Fits, field_bytes, AllFit, fields_bytes, as_number, as_key, as_bytes, first_field, first_fields}
 use Rattle.score_fields.proofs.Codecs.{IsCodec, IsBytes-behind, bind_some, codec_within, codec_eight, codec_tx, codec_key}

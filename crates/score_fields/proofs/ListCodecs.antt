@@ -1,8 +1,7 @@
 -- Lists of keys and of writes: the same two ways, for any kind of member.
-use Rattle.std.proofs.Common.{◌≡◌, ℕ, zero, suc, ◌+◌, ◌-◌, ◌<◌, option_map, ◌≤◌, Bool, true, false, cond, leb, List, [], ◌∷◌, ◌++◌, length, take, drop, Option, Some, None, refl, sym, ap, subst, ◌∙◌, append_assoc, arith}
+use Rattle.std.proofs.Common.{◌≡◌, ℕ, zero, suc, ◌+◌, ◌-◌, ◌<◌, option_map, ◌≤◌, Bool, true, false, cond, leb, List, [], ◌∷◌, ◌++◌, length, Option, Some, None, refl, sym, ap, subst, ◌∙◌, append_assoc, arith}
 use Rattle.std.specs.List.{flat_map, AllByRecursion}
 use Rattle.std.proofs.lemmas.Bool.{leb-true, le-leb}
-use Rattle.std.proofs.lemmas.Option.{cond_some}
 use Rattle.std.proofs.lemmas.List.Concat.{flat_map-cons}
 use Rattle.score_fields.specs.Spelling.{IsBytes, IsKey, key_bytes, AreKeys, keys_bytes, IsWrite, write_bytes, AreWrites, writes_bytes}
 use Rattle.score_fields.specs.Reading.{◌>>=◌, first_many, first_list, first_key, first_keys, first_write, first_writes}

@@ -1,7 +1,7 @@
 -- Two spellings of the same bytes are one.
-use Rattle.std.proofs.Common.{◌≡◌, ℕ, List, ◌∷◌, ◌++◌, drop, Option, Some, sym, ap, ◌∙◌}
+use Rattle.std.proofs.Common.{◌≡◌, ℕ, List, ◌++◌, drop, Option, Some, sym, ap, ◌∙◌}
 use Rattle.score_fields.specs.declared.fields.Field.{Field}
-use Rattle.score_fields.specs.Fields.{Meaning, AllFit, fields_bytes, layout_bytes, first_fields}
+use Rattle.score_fields.specs.Fields.{Meaning, AllFit, layout_bytes, first_fields}
 use Rattle.score_fields.proofs.Codecs.{IsCodec}
 use Rattle.score_fields.proofs.FieldCodecs.{fields_again}
 

@@ -1,6 +1,6 @@
 -- Where the fields of a table stand in some bytes.
-use Rattle.std.proofs.Common.{◌≡◌, ℕ, zero, suc, ◌+◌, ◌-◌, ◌<◌, ◌≤◌, IfNone, List, [], ◌∷◌, ◌++◌, length, get_or, take, drop, map, slice_range, Option, Some, None, option_map, refl, sym, ap, subst, ◌∙◌, append_assoc, arith, length-append, length-drop}
-use Rattle.std.proofs.lemmas.List.{take_at, drop_at, length-take, drop-drop, take-append-drop}
+use Rattle.std.proofs.Common.{◌≡◌, ℕ, ◌+◌, ◌-◌, ◌<◌, ◌≤◌, IfNone, List, [], ◌∷◌, ◌++◌, length, get_or, take, drop, map, slice_range, Option, Some, None, option_map, refl, sym, ap, subst, ◌∙◌, append_assoc, arith, length-append, length-drop}
+use Rattle.std.proofs.lemmas.List.{take_at, drop_at, length-take, drop-drop}
 use Rattle.std.specs.List.{AllByRecursion}
 use Rattle.std.proofs.lemmas.List.Elements.{All-from_recursion}
 use Rattle.score_fields.specs.declared.fields.Field.{Field}
@@ -8,8 +8,8 @@ use Rattle.score_fields.specs.declared.fields.Datum.{Datum}
 use Rattle.score_fields.specs.declared.fields.Datum.TheVariants as datum
 use Rattle.score_fields.specs.Spelling.{IsBytes}
 use Rattle.score_fields.specs.Reading.{◌>>=◌}
-use Rattle.score_fields.specs.Fields.{Meaning, Number, Key, Bytes, meaning, IsWithin, IsTaken, layout_bytes, field_bytes, AllFit, fields_bytes, datum_at, data_at, as_bytes, placed, first_field, first_fields, datum_from, data_from}
-use Rattle.score_fields.proofs.Codecs.{IsBytes-drop, IsBytes-behind, bind_some}
+use Rattle.score_fields.specs.Fields.{Meaning, Number, Key, Bytes, meaning, IsWithin, IsTaken, layout_bytes, field_bytes, AllFit, fields_bytes, datum_at, data_at, as_bytes, placed, first_field, first_fields, data_from}
+use Rattle.score_fields.proofs.Codecs.{IsBytes-drop}
 use Rattle.score_fields.proofs.FieldCodecs.{field_takes, fields_takes, fields_again}
 
 span_long : (bytes rest : List ℕ) (place : ℕ) (behind : List ℕ) → place ≤ length bytes → length rest < length (drop place bytes) → rest ≡ behind

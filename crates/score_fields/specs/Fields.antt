@@ -1,5 +1,5 @@
 -- The fields of a table, and the layouts that are made of them.
-use Rattle.std.specs.Prelude.{◌≡◌, ℕ, ◌+◌, ◌-◌, ◌≤◌, ◌<◌, ◌^◌, List, [], ◌∷◌, ◌++◌, length, map, take, drop, slice_range, Option, Some, None, All, nat_lt, ◌==◌, if◌then◌else◌}
+use Rattle.std.specs.Prelude.{◌≡◌, ℕ, ◌+◌, ◌-◌, ◌≤◌, ◌<◌, ◌^◌, List, [], ◌∷◌, ◌++◌, length, map, take, drop, slice_range, Option, Some, None, All}
 use Rattle.score_fields.specs.declared.fields.Field.{Field}
 use Rattle.score_fields.specs.declared.fields.Field.TheVariants as field
 use Rattle.score_fields.specs.declared.fields.Datum.{Datum}

@@ -1,10 +1,9 @@
 -- What stands first in the bytes: a value and the bytes behind it, or nothing that is spelled so.
-use Rattle.std.specs.Prelude.{ℕ, zero, suc, ◌-◌, ◌==◌, ◌&&◌, not, nat_le, nat_lt, Bool, true, false, List, [], ◌∷◌, length, take, drop, Option, Some, None, if◌then◌else◌}
+use Rattle.std.specs.Prelude.{ℕ, zero, suc, ◌==◌, ◌&&◌, nat_le, nat_lt, Bool, true, List, [], ◌∷◌, length, take, drop, Option, Some, None, if◌then◌else◌}
 use Rattle.std.specs.Int.{w16, w64, from_be_bytes}
 use Rattle.score_base.specs.Keys.{is_key}
 use Rattle.score_base.specs.declared.causes.Outcome.{Outcome}
 use Rattle.score_base.specs.declared.causes.Outcome.TheVariants.{Commit, Abort}
-use Rattle.score_base.specs.declared.causes.Cause.{Cause}
 use Rattle.score_base.specs.declared.causes.Cause.TheVariants.{Holder, Newer}
 use Rattle.score_base.specs.declared.causes.Ballot.{Ballot}
 use Rattle.score_base.specs.declared.causes.Ballot.TheVariants.{Yes, No}

@@ -6,7 +6,6 @@ use Rattle.std.specs.Int.{w16, w64, to_be_bytes}
 use Rattle.score_base.specs.Keys.{is_key}
 use Rattle.score_base.specs.declared.causes.Outcome.{Outcome}
 use Rattle.score_base.specs.declared.causes.Outcome.TheVariants.{Commit, Abort}
-use Rattle.score_base.specs.declared.causes.Cause.{Cause}
 use Rattle.score_base.specs.declared.causes.Cause.TheVariants.{Holder, Newer}
 use Rattle.score_base.specs.declared.causes.Ballot.{Ballot}
 use Rattle.score_base.specs.declared.causes.Ballot.TheVariants.{Yes, No}

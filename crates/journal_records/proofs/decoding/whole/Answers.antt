@@ -1,6 +1,5 @@
 use Rattle.std.proofs.Common.{arith}
 use Rattle.score_fields.specs.Fields.{data_at}
-use Rattle.score_fields.proofs.Places.{if_none}
 use Rattle.journal_records.proofs.Taking.{not_whole_front, not_whole_more}
 use Rattle.journal_records.proofs.decoding.whole.Goals as goal
 

@@ -1,4 +1,4 @@
-use Rattle.std.proofs.Common.{◌≡◌, ◌<◌, ◌≤◌, ◌^◌, ℕ, List, length, slice_range, lit<, lit≤, ap, subst, sym, ◌∙◌, arith, rules, inr}
+use Rattle.std.proofs.Common.{◌≡◌, ◌<◌, ◌^◌, ℕ, List, length, slice_range, lit<, lit≤, ap, subst, sym, ◌∙◌, arith, inr}
 use Rattle.score_base.specs.declared.records.Record.TheVariants.{Prepared}
 use Rattle.score_fields.specs.Spelling.{IsTx, IsNode}
 use Rattle.journal_records.specs.Records.{IsRecord, AreSpelled}

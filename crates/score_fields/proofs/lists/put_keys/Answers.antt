@@ -1,6 +1,6 @@
 use Rattle.std.proofs.Common.{arith}
-use Rattle.score_fields.specs.Spelling.{key_bytes, keys_bytes}
-use Rattle.score_fields.proofs.ListLoops.{room_more, spelled_more}
+use Rattle.score_fields.specs.Spelling.{key_bytes}
+use Rattle.score_fields.proofs.ListLoops.{room_more}
 use Rattle.score_fields.proofs.lists.put_keys.Goals as goal
 
 pub put_key-requires : goal.put_key-requires

@@ -1,6 +1,6 @@
 use Rattle.std.proofs.Common.{arith}
-use Rattle.score_fields.specs.Spelling.{write_bytes, writes_bytes}
-use Rattle.score_fields.proofs.ListLoops.{room_more, spelled_more}
+use Rattle.score_fields.specs.Spelling.{write_bytes}
+use Rattle.score_fields.proofs.ListLoops.{room_more}
 use Rattle.score_fields.proofs.lists.put_writes.Goals as goal
 
 pub put_write-requires : goal.put_write-requires

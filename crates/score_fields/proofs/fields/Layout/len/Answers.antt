@@ -1,8 +1,8 @@
-use Rattle.std.proofs.Common.{◌≡◌, ◌<◌, ◌≤◌, length, map, arith, ap}
+use Rattle.std.proofs.Common.{◌≡◌, ◌<◌, ◌≤◌, length, map, arith}
 use Rattle.std.proofs.lemmas.List.{length-map}
 use Rattle.score_fields.specs.declared.fields.Field.TheVariants.{U8}
 use Rattle.score_fields.specs.Fields.{meaning}
-use Rattle.score_fields.proofs.TableLoops.{Here, here, fit_long, len_more, piece_fits, none_left, layout_small}
+use Rattle.score_fields.proofs.TableLoops.{here, fit_long, len_more, piece_fits, layout_small}
 use Rattle.score_fields.proofs.fields.Layout.len.Goals as goal
 
 pub bounds-values-i : goal.bounds-values-i

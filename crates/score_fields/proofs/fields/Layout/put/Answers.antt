@@ -1,4 +1,4 @@
-use Rattle.std.proofs.Common.{◌≡◌, ◌<◌, ◌≤◌, ◌+◌, ◌++◌, length, map, vec_capacity, arith, ap}
+use Rattle.std.proofs.Common.{◌≡◌, ◌<◌, ◌++◌, length, map, vec_capacity, arith}
 use Rattle.std.proofs.lemmas.List.{length-map}
 use Rattle.score_fields.specs.declared.fields.Field.TheVariants.{U8}
 use Rattle.score_fields.specs.Fields.{meaning, layout_bytes}
