@@ -1,0 +1,3 @@
+pub mod RecordCodec
+pub mod Taking
+pub mod Spelled

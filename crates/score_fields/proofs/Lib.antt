@@ -1,0 +1,11 @@
+pub mod Codecs
+pub mod Lengths
+pub mod NodeCodec
+pub mod ListCodecs
+pub mod ChoiceCodecs
+pub mod FieldCodecs
+pub mod ListLoops
+pub mod Bounds
+pub mod OneSpelling
+pub mod Places
+pub mod TableLoops
