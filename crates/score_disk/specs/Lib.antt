@@ -1,0 +1,4 @@
+pub mod Files
+pub mod Counts
+pub mod Copies
+pub mod MemoryFile
