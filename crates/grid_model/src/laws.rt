@@ -5,9 +5,10 @@ ghost use Rattle.grid_model.specs.Documents.{DocumentData};
 ghost use Rattle.grid_model.specs.Lawful.{Lawful};
 ghost use Rattle.grid_model.specs.Standings.{noted, ShowsStandings};
 
-/// A document has at most one lawful run.
+/// A document has exactly one lawful run.
 pub fn law_one_history()
-    ensures { (d : DocumentData) (h h' : List Act) → Lawful d h → Lawful d h' → h ≡ h' }
+    ensures some { (d : DocumentData) → (h : List Act) × Lawful d h }
+    ensures one { (d : DocumentData) (h h' : List Act) → Lawful d h → Lawful d h' → h ≡ h' }
 {}
 
 /// Standings that are kept act by act tell what the acts tell.
