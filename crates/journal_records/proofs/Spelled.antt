@@ -1,6 +1,5 @@
 -- The lists of a record as they stand in scratch, and how long a record is.
-use Rattle.std.proofs.Common.{◌≡◌, ℕ, ◌-◌, ◌≤◌, Result, Ok, Err, OnErr, OnOk, All, List, [], ◌∷◌, ◌++◌, length, take, drop, slice_range, refl, ap, ◌∙◌, append_assoc, arith, length-append}
-use Rattle.std.proofs.lemmas.List.{take_at, drop_at, take_all}
+use Rattle.std.proofs.Common.{◌≡◌, ℕ, ◌≤◌, Result, Ok, Err, OnErr, OnOk, All, List, [], ◌∷◌, ◌++◌, length, ap, arith, length-append}
 use Rattle.std.specs.List.{AllByRecursion}
 use Rattle.std.proofs.lemmas.List.Elements.{All-from_recursion}
 use Rattle.score_base.specs.declared.causes.Outcome.{Outcome}
@@ -12,39 +11,8 @@ use Rattle.score_fields.proofs.Lengths.{length-two_bytes, length-eight_bytes}
 use Rattle.score_fields.specs.declared.fields.Datum.{Datum}
 use Rattle.score_fields.specs.declared.fields.Datum.TheVariants as datum
 use Rattle.score_fields.specs.Fields.{IsWithin}
-use Rattle.journal_records.specs.Records.{record_bytes, IsRecord, AreSpelled}
+use Rattle.journal_records.specs.Records.{record_bytes, IsRecord}
 use Rattle.journal_records.proofs.RecordCodec.{record_small}
-
--- three texts, one behind the other
-pub three_slices : (a b c : List ℕ) → (slice_range ((a ++ b) ++ c) 0 (length a) ≡ a) × (slice_range ((a ++ b) ++ c) (length a) (length (a ++ b)) ≡ b) × (slice_range ((a ++ b) ++ c) (length (a ++ b)) (length ((a ++ b) ++ c)) ≡ c)
-three_slices a b c =
-    let first : take (length a) ((a ++ b) ++ c) ≡ a = ap (take (length a)) (append_assoc a b c) ∙ take_at a (b ++ c) (length a) refl in
-    let n : length a - 0 ≡ length a = omega arith in
-    let m : length (a ++ b) - length a ≡ length b = omega (arith, length-append a b) in
-    let k : length ((a ++ b) ++ c) - length (a ++ b) ≡ length c = omega (arith, length-append (a ++ b) c) in (
-      ap (λ (j : ℕ). take j ((a ++ b) ++ c)) n ∙ first,
-      ap (λ (j : ℕ). take j (drop (length a) ((a ++ b) ++ c))) m ∙ ap (λ (x : List ℕ). take (length b) (drop (length a) x)) (append_assoc a b c) ∙ ap (take (length b)) (drop_at a (b ++ c) (length a) refl) ∙ take_at b c (length b) refl,
-      ap (λ (j : ℕ). take j (drop (length (a ++ b)) ((a ++ b) ++ c))) k ∙ ap (take (length c)) (drop_at (a ++ b) c (length (a ++ b)) refl) ∙ take_all (length c) c (omega arith),
-    )
-
-pub are_spelled : (parts : List ℕ) (reads : List (List ℕ)) (writes : List (List ℕ × ℕ)) (bytes : List ℕ) (reads_at writes_at : ℕ) → AreNodes parts → AreKeys reads → AreWrites writes
-    → bytes ≡ (nodes_bytes parts ++ keys_bytes reads) ++ writes_bytes writes → reads_at ≡ length (nodes_bytes parts) → writes_at ≡ length (nodes_bytes parts ++ keys_bytes reads)
-    → AreSpelled parts reads writes bytes reads_at writes_at
-are_spelled parts reads writes bytes reads_at writes_at p r w whole at at' =
-    let a : List ℕ = nodes_bytes parts in
-    let b : List ℕ = keys_bytes reads in
-    let c : List ℕ = writes_bytes writes in
-    let s = three_slices a b c in
-    record {
-      parts_are = p;
-      reads_are = r;
-      writes_are = w;
-      order = omega (arith, at, at', length-append a b);
-      within = omega (arith, at', ap length whole, length-append (a ++ b) c);
-      parts_there = ap (λ (x : List ℕ). slice_range x 0 reads_at) whole ∙ ap (slice_range ((a ++ b) ++ c) 0) at ∙ s.0;
-      reads_there = ap (λ (x : List ℕ). slice_range x reads_at writes_at) whole ∙ ap (λ (j : ℕ). slice_range ((a ++ b) ++ c) j writes_at) at ∙ ap (slice_range ((a ++ b) ++ c) (length a)) at' ∙ s.1;
-      writes_there = ap (λ (x : List ℕ). slice_range x writes_at (length x)) whole ∙ ap (λ (j : ℕ). slice_range ((a ++ b) ++ c) j (length ((a ++ b) ++ c))) at' ∙ s.2;
-    }
 
 -- ---- how long
 

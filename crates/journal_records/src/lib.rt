@@ -9,7 +9,7 @@
 //! The layer above may rely on this. [`encode`] appends the spelling, of at most 2,407 bytes, and
 //! cannot fail where both its vectors have room for 4,096 bytes. [`decode`] gives the record that a
 //! body spells and answers `None` exactly where it spells none; only bodies of tag 1 and 4, whose
-//! records hold lists, take memory. No two records share a spelling ([`law_one_spelling`]).
+//! records hold lists, take memory. No two records share a spelling ([`law_record_spelling`]).
 #![tactic(auto)]
 
 mod decoding;
@@ -20,7 +20,7 @@ mod tables;
 
 pub use decoding::decode;
 pub use encoding::encode;
-pub use laws::law_one_spelling;
+pub use laws::law_record_spelling;
 
 #[cfg(test)]
 mod tests;

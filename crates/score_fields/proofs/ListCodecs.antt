@@ -86,11 +86,3 @@ pub many_goes_on : {A : Type 0} (first : List ℕ → Option (A × List ℕ)) (n
 many_goes_on {A} first n i bytes x after lt e =
     let k : n - i ≡ suc (n - (i + 1)) = omega arith in
     sym (ap (λ (m : ℕ). behind (first_many first m bytes)) k ∙ ap (λ (o : Option (A × List ℕ)). behind (o >>= λ y. first_many first (n - (i + 1)) y.1 >>= λ ys. Some (y.0 ∷ ys.0, ys.1))) (sym e) ∙ behind_more x (first_many first (n - (i + 1)) after))
-
-pub many_ends : {A : Type 0} (first : List ℕ → Option (A × List ℕ)) (n i : ℕ) (bytes : List ℕ) → i < n → None ≡ first bytes → behind (first_many first (n - i) bytes) ≡ None
-many_ends {A} first n i bytes lt e =
-    let k : n - i ≡ suc (n - (i + 1)) = omega arith in
-    ap (λ (m : ℕ). behind (first_many first m bytes)) k ∙ ap (λ (o : Option (A × List ℕ)). behind (o >>= λ y. first_many first (n - (i + 1)) y.1 >>= λ ys. Some (y.0 ∷ ys.0, ys.1))) (sym e)
-
-pub many_done : {A : Type 0} (first : List ℕ → Option (A × List ℕ)) (n i : ℕ) (bytes : List ℕ) → n ≤ i → behind (first_many first (n - i) bytes) ≡ Some bytes
-many_done first n i bytes le = let k : n - i ≡ 0 = omega arith in ap (λ (m : ℕ). behind (first_many first m bytes)) k

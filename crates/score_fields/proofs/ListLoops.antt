@@ -1,31 +1,13 @@
 -- Lists that a loop goes through, member by member.
-use Rattle.std.proofs.Common.{◌≡◌, ℕ, suc, ◌+◌, ◌<◌, ◌≤◌, List, [], ◌∷◌, ◌++◌, Option, Some, None, length, get_or, take, drop, refl, sym, ap, subst, ◌∙◌, append_assoc, arith, length-append}
+use Rattle.std.proofs.Common.{◌≡◌, ℕ, suc, ◌+◌, ◌<◌, ◌≤◌, List, [], ◌∷◌, ◌++◌, Option, Some, None, length, get_or, drop, refl, sym, ap, subst, ◌∙◌, append_assoc, arith, length-append}
 use Rattle.std.specs.List.{flat_map, AllByRecursion}
-use Rattle.std.proofs.lemmas.List.Concat.{flat_map-append, flat_map-cons}
-use Rattle.std.proofs.lemmas.List.{append-nil, take_more}
+use Rattle.std.proofs.lemmas.List.Concat.{flat_map-cons}
+use Rattle.std.proofs.lemmas.List.{append-nil}
 use Rattle.std.proofs.Math.Seq.{drop-cons}
-use Rattle.score_fields.specs.Spelling.{IsSpelling, key_bytes, write_bytes}
+use Rattle.score_fields.specs.Spelling.{key_bytes, write_bytes}
 use Rattle.score_fields.specs.Reading.{first_key, first_write}
 use Rattle.score_fields.proofs.Lengths.{length-write_bytes}
 use Rattle.score_fields.proofs.Codecs.{IsCodec}
-
--- one more member
-
-more : {A : Type 0} (xs : List A) (i : ℕ) (x : A) → i < length xs → x ≡ get_or xs i x → take (i + 1) xs ≡ take i xs ++ x ∷ []
-more {A} xs i x lt is = take_more xs i x lt ∙ ap (λ (y : A). take i xs ++ y ∷ []) (sym is)
-
-all_push : {A : Type 0} (P : A → Type 0) (xs : List A) (x : A) → AllByRecursion P xs → P x → AllByRecursion P (xs ++ x ∷ [])
-all_push P [] x each here = (here, tt)
-all_push P (y ∷ ys) x each here = (each.0, all_push P ys x each.1 here)
-
-pub all_more : {A : Type 0} (P : A → Type 0) (xs : List A) (i : ℕ) (x : A) → i < length xs → x ≡ get_or xs i x → AllByRecursion P (take i xs) → P x → AllByRecursion P (take (i + 1) xs)
-all_more P xs i x lt is each here = subst (AllByRecursion P) (sym (more xs i x lt is)) (all_push P (take i xs) x each here)
-
-pub flat_map_more : {A : Type 0} (f : A → List ℕ) (xs : List A) (i : ℕ) (x : A) → i < length xs → x ≡ get_or xs i x → flat_map f (take (i + 1) xs) ≡ flat_map f (take i xs) ++ f x
-flat_map_more f xs i x lt is = ap (flat_map f) (more xs i x lt is) ∙ flat_map-append f (take i xs) (x ∷ []) ∙ ap (λ (y : List ℕ). flat_map f (take i xs) ++ y) (flat_map-cons f x [] ∙ append-nil (f x))
-
-pub length_more : {A : Type 0} (f : A → List ℕ) (xs : List A) (i : ℕ) (x : A) → i < length xs → x ≡ get_or xs i x → length (flat_map f (take (i + 1) xs)) ≡ length (flat_map f (take i xs)) + length (f x)
-length_more f xs i x lt is = ap length (flat_map_more f xs i x lt is) ∙ length-append (flat_map f (take i xs)) (f x)
 
 -- the members from this one on
 pub flat_map_rest : {A : Type 0} (f : A → List ℕ) (xs : List A) (i : ℕ) (x : A) → i < length xs → x ≡ get_or xs i x → flat_map f (drop i xs) ≡ f x ++ flat_map f (drop (i + 1) xs)
@@ -44,12 +26,6 @@ room_more f xs i x out old total cap lt is e room =
     let here = ap length (flat_map_rest f xs i x lt is) in
     omega (arith, room_for out (flat_map f (drop i xs)) old total cap e room, here, length-append (f x) (flat_map f (drop (i + 1) xs)))
 
-pub spelled_more : {A : Type 0} (f : A → List ℕ) (xs : List A) (i : ℕ) (x : A) (out out' whole : List ℕ) → i < length xs → x ≡ get_or xs i x
-    → out' ≡ out ++ f x → out ++ flat_map f (drop i xs) ≡ whole → out' ++ flat_map f (drop (i + 1) xs) ≡ whole
-spelled_more f xs i x out out' whole lt is put e =
-    let rest = flat_map f (drop (i + 1) xs) in
-    ap (λ (y : List ℕ). y ++ rest) put ∙ append_assoc out (f x) rest ∙ ap (λ (y : List ℕ). out ++ y) (sym (flat_map_rest f xs i x lt is)) ∙ e
-
 -- ---- reading what is left
 
 -- the rest spells what is still to come of a list
@@ -59,10 +35,6 @@ pub record Left {A : Type 0} (Is : A → Type 0) (Are : List A → Type 0) (f : 
   pub spelled : rest ≡ flat_map f left
   pub whole : bytes ≡ length (list ++ left) ∷ flat_map f (list ++ left)
   pub are : Are (list ++ left)
-
-pub left_first : {A : Type 0} (Is : A → Type 0) (Are : List A → Type 0) (f : A → List ℕ) (bytes : List ℕ) → ((xs : List A) → Are xs → AllByRecursion Is xs)
-    → IsSpelling Are (λ xs. length xs ∷ flat_map f xs) bytes → Left Is Are f [] (drop 1 bytes) bytes
-left_first Is Are f bytes each h = record { left = h.value; each = each h.value h.fits; spelled = ap (drop 1) h.spelled; whole = h.spelled; are = h.fits }
 
 -- a member that was read is the next
 next_is : {A : Type 0} (Is : A → Type 0) (f : A → List ℕ) (first : List ℕ → Option (A × List ℕ)) → IsCodec Is f first → first [] ≡ None

@@ -9,7 +9,7 @@ ghost use Rattle.score_fields.specs.Fields.{Meaning, AllFit, layout_bytes};
 /// No spelling begins another: where two spellings, each with something behind it, are the same
 /// bytes, the values are the same, and so is what is behind them. This holds of every table and of
 /// each kind of field whose bytes a span gives.
-pub fn law_one_spelling()
+pub fn law_field_spelling()
     ensures layouts { (tag : ℕ) (fields : List Field) (a b : List Meaning) (x y : List ℕ) → AllFit fields a → AllFit fields b
         → layout_bytes tag fields a ++ x ≡ layout_bytes tag fields b ++ y → (a ≡ b) × (x ≡ y) }
     ensures nodes { (a b : List ℕ) (x y : List ℕ) → AreNodes a → AreNodes b → nodes_bytes a ++ x ≡ nodes_bytes b ++ y → (a ≡ b) × (x ≡ y) }

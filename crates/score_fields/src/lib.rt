@@ -9,7 +9,7 @@
 //! The layer above may rely on this. [`Layout::put`] appends the spelling of what the values mean.
 //! [`Layout::take`] takes the spelling that stands first, whatever follows, with each span where its
 //! bytes stand, and answers `None` exactly where nothing that stands first is spelled so. No spelling
-//! of a table begins another ([`law_one_spelling`]), so what was put is what is taken. `take` and the
+//! of a table begins another ([`law_field_spelling`]), so what was put is what is taken. `take` and the
 //! calls that read a choice take no memory. A call that appends fails only where the buffer has no
 //! room for the spelling, and leaves the buffer as before.
 #![tactic(auto)]
@@ -24,7 +24,7 @@ mod room;
 
 pub use choices::{put_ballot, put_date, put_outcome, read_ballot, read_date, read_outcome};
 pub use fields::{Datum, Field, Layout, Taken};
-pub use laws::law_one_spelling;
+pub use laws::law_field_spelling;
 pub use lists::{list_keys, list_nodes, list_writes, put_keys, put_nodes, put_writes};
 
 #[cfg(test)]

@@ -1,6 +1,6 @@
 use Rattle.journal_records.proofs.RecordCodec.{decode_again, decode_takes, record_small}
 use Rattle.journal_records.proofs.Taking.{can_encode}
-use Rattle.journal_records.proofs.laws.law_one_spelling.Goals as goal
+use Rattle.journal_records.proofs.laws.law_record_spelling.Goals as goal
 
 pub returns-clause-reads : goal.returns-clause-reads
 returns-clause-reads c = decode_again

@@ -2,7 +2,7 @@ use Rattle.score_fields.proofs.OneSpelling.{same_value, same_data}
 use Rattle.score_fields.proofs.NodeCodec.{codec_nodes}
 use Rattle.score_fields.proofs.ListCodecs.{codec_keys, codec_writes}
 use Rattle.score_fields.proofs.ChoiceCodecs.{codec_outcome, codec_ballot, codec_date}
-use Rattle.score_fields.proofs.laws.law_one_spelling.Goals as goal
+use Rattle.score_fields.proofs.laws.law_field_spelling.Goals as goal
 
 pub returns-clause-layouts : goal.returns-clause-layouts
 returns-clause-layouts c = same_data
