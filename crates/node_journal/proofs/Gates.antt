@@ -1,8 +1,7 @@
 -- What a gate tells of the file.
-use Rattle.std.proofs.Common.{◌≡◌, ◌≢◌, ◌⊎◌, ℕ, ◌+◌, ◌-◌, ◌<◌, ◌≤◌, min, List, [], ◌∷◌, ◌++◌, length, take, drop, refl, sym, ap, subst, ◌∙◌, arith, get_or, length-take, length-drop, Option, Some, None, Result, Ok, Err}
+use Rattle.std.proofs.Common.{◌≡◌, ℕ, ◌+◌, ◌-◌, ◌<◌, ◌≤◌, min, List, [], ◌∷◌, ◌++◌, length, take, drop, refl, sym, ap, subst, ◌∙◌, arith, get_or, length-drop, None, Result, Ok, Err}
 use Rattle.std.specs.Prelude.{IfOk, IfErr, slice_range}
 use Rattle.std.proofs.lemmas.List.{drop-take, take_min}
-use Rattle.std.proofs.lemmas.Grind.{common_steps}
 use Rattle.score_base.specs.declared.records.Record.{Record}
 use Rattle.node_journal.specs.declared.reading.Gate.{Gate}
 use Rattle.node_journal.specs.declared.reading.Gate.TheVariants.{Closed, Open}

@@ -1,12 +1,12 @@
 -- What the images are when one of the four calls of an append fails.
-use Rattle.std.proofs.Common.{◌≡◌, ◌≢◌, ◌⊎◌, ℕ, ◌+◌, ◌<◌, ◌≤◌, false, max, List, [], ◌∷◌, ◌++◌, length, take, refl, sym, ap, ◌∙◌, inl, inr, arith, get_or, length-take-le, get_or-take}
+use Rattle.std.proofs.Common.{◌≡◌, ◌≢◌, ◌⊎◌, ℕ, ◌+◌, ◌<◌, ◌≤◌, false, max, List, [], ◌∷◌, length, take, refl, sym, ap, ◌∙◌, inl, inr, arith, get_or, length-take-le, get_or-take}
 use Rattle.std.specs.Prelude.{slice_index}
 use Rattle.std.proofs.lemmas.Bool.Decides.{eqb_tells}
 use Rattle.std.proofs.lemmas.Bool.{cases_lt}
 use Rattle.std.proofs.lemmas.Grind.{elements, same_number_lists}
 use Rattle.score_disk.specs.Files.{File, IsImage, IsSettled, Missed, Unsynced, put_at, written, synced}
 use Rattle.score_disk.proofs.Places.{both, uncovered, length-put_at, get_or-put_at, take-put_at}
-use Rattle.node_journal.specs.Torn.{Near, KeepsClosed, LeavesClosed, LeavesOneOf, opened_at}
+use Rattle.node_journal.specs.Torn.{Near, LeavesClosed, LeavesOneOf}
 
 touched_written : (f : File) (at : ℕ) (bytes : List ℕ) (i : ℕ) → IsSettled f → (i < at) ⊎ (at + length bytes ≤ i) → (written at bytes f).touched i ≡ false
 touched_written f at bytes i s h = both (f.touched i) _ (s.touched i) (uncovered at (length bytes) i h)
