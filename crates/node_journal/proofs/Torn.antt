@@ -68,9 +68,6 @@ closed_near f g gate n h closed a c m =
       closed = λ e. closed (sym same ∙ e);
     }
 
-pub one_of_near : (f g : File) (gate n : ℕ) (frame : List ℕ) → gate < length f.seen → slice_index f.seen gate ≢ 1 → Near f (gate + 1) n g → LeavesOneOf f.seen gate frame g
-one_of_near f g gate n frame h closed a c m = inl (closed_near f g gate n h closed a c m)
-
 apart : (i gate : ℕ) → i ≢ gate → (i < gate) ⊎ (gate + 1 ≤ i)
 apart i gate h = elim (cases_lt i gate) [ inl e ↦ inl e | inr e ↦ inr (omega (arith, h)) ]
 
