@@ -1,11 +1,11 @@
 -- What an append leaves, done or stopped.
-use Rattle.std.proofs.Common.{◌≡◌, ◌⊎◌, ℕ, ◌+◌, ◌<◌, ◌≤◌, List, [], ◌∷◌, ◌++◌, length, refl, sym, ap, subst, ◌∙◌, inl, inr, arith, length-append, Result, Ok, Err}
+use Rattle.std.proofs.Common.{◌≡◌, ℕ, ◌+◌, List, [], ◌∷◌, ◌++◌, length, sym, ap, subst, ◌∙◌, inl, inr, arith, length-append, Ok}
 use Rattle.std.proofs.lemmas.Grind.{elements}
 use Rattle.score_base.specs.declared.records.Record.{Record}
-use Rattle.score_disk.specs.Files.{File, IsImage, IsSettled, synced, written}
+use Rattle.score_disk.specs.Files.{File, IsSettled, synced, written}
 use Rattle.journal_records.specs.Records.{record_bytes, IsRecord}
 use Rattle.node_journal.specs.Log.{log, records_of, framed, IsLog}
-use Rattle.node_journal.specs.Torn.{LeavesClosed, LeavesOneOf, LeavesOld, LeavesOldOrNew, IsAtRest, opened_at}
+use Rattle.node_journal.specs.Torn.{LeavesClosed, LeavesOneOf, LeavesOld, LeavesOldOrNew, opened_at}
 use Rattle.node_journal.proofs.Frames.{record_block}
 use Rattle.node_journal.proofs.Logs.{log_is, log_kept, log_opened}
 use Rattle.node_journal.proofs.Torn.{settled_synced}

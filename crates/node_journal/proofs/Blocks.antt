@@ -1,15 +1,15 @@
 -- How a log is read block by block.
-use Rattle.std.proofs.Common.{◌≡◌, ◌≢◌, ◌⊎◌, ℕ, zero, suc, ◌+◌, ◌-◌, ◌<◌, ◌≤◌, ◌==◌, ◌&&◌, ◌^◌, nat_le, nat_lt, min, Bool, true, false, List, [], ◌∷◌, ◌++◌, length, take, drop, refl, sym, ap, ◌∙◌, inl, inr, arith, get_or, append_assoc, append-nil, length-append, length-take-le, length-drop, add-zero, add-one, drop-cons, Option, Some, None, Result, Ok, Err, subst, cond}
+use Rattle.std.proofs.Common.{◌≡◌, ◌≢◌, ◌⊎◌, ℕ, suc, ◌+◌, ◌<◌, ◌≤◌, ◌&&◌, nat_le, nat_lt, min, Bool, true, false, List, [], ◌∷◌, ◌++◌, length, take, drop, refl, sym, ap, ◌∙◌, inl, inr, arith, append_assoc, length-append, length-take-le, add-zero, Option, Some, None, Result, Ok, Err}
 use Rattle.std.specs.Prelude.{if◌then◌else◌}
 use Rattle.std.specs.Int.{w16, to_be_bytes, from_be_bytes}
 use Rattle.std.proofs.lemmas.Grind.{common_steps, elements}
 use Rattle.std.proofs.lemmas.Bool.Decides.{eqb_tells}
-use Rattle.std.proofs.lemmas.List.{take-append-drop, take-append-le, drop-take, length-take}
+use Rattle.std.proofs.lemmas.List.{take-append-le, drop-take, length-take}
 use Rattle.std.proofs.Math.Seq.{take-append_seam}
 use Rattle.std.proofs.lemmas.Nat.{from_be_bytes-to_be_bytes_2}
 use Rattle.score_base.specs.declared.records.Record.{Record}
 use Rattle.journal_records.specs.Records.{decode_of}
-use Rattle.node_journal.specs.Log.{log_from, log, block_at, body_length, has_body, sized, behind, opened, framed, Spells, IsLog}
+use Rattle.node_journal.specs.Log.{log_from, block_at, body_length, has_body, sized, behind, opened, framed, Spells}
 
 same_place : (p q n : ℕ) (rest : List ℕ) → p ≡ q → log_from p n rest ≡ log_from q n rest
 same_place p q n rest e = ap (λ k. log_from k n rest) e

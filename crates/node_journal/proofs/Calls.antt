@@ -1,5 +1,5 @@
 -- How the calls that a fuse counts add up.
-use Rattle.std.proofs.Common.{◌≡◌, ℕ, ◌+◌, ◌-◌, ◌≤◌, Option, Some, None, refl, ap, ◌∙◌, arith}
+use Rattle.std.proofs.Common.{◌≡◌, ℕ, ◌+◌, ◌-◌, Option, Some, None, refl, ap, ◌∙◌, arith}
 use Rattle.node_journal.specs.Calls.{lowered, LoweredAtMost}
 
 lowered-lowered : (m n : ℕ) (left : Option ℕ) → lowered m (lowered n left) ≡ lowered (n + m) left

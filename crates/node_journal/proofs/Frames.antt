@@ -1,5 +1,5 @@
 -- The frame of a record is its block.
-use Rattle.std.proofs.Common.{◌≡◌, ℕ, ◌≤◌, List, [], ◌∷◌, length, Some, None, arith}
+use Rattle.std.proofs.Common.{◌≡◌, ℕ, ◌≤◌, List, [], ◌∷◌, length, Some, arith}
 use Rattle.score_base.specs.declared.records.Record.{Record}
 use Rattle.journal_records.specs.Records.{record_bytes, decode_of, IsRecord}
 use Rattle.journal_records.proofs.RecordCodec.{decode_again, record_small}

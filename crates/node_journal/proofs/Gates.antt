@@ -1,15 +1,14 @@
 -- What a gate tells of the file.
-use Rattle.std.proofs.Common.{◌≡◌, ◌≢◌, ◌⊎◌, ℕ, ◌+◌, ◌-◌, ◌<◌, ◌≤◌, min, List, [], ◌∷◌, ◌++◌, length, take, drop, refl, sym, ap, subst, ◌∙◌, arith, get_or, length-take, length-drop, Option, Some, None, Result, Ok, Err}
+use Rattle.std.proofs.Common.{◌≡◌, ℕ, ◌+◌, ◌-◌, ◌<◌, ◌≤◌, min, List, [], ◌∷◌, ◌++◌, length, take, drop, refl, sym, ap, subst, ◌∙◌, arith, get_or, length-drop, None, Result, Ok, Err}
 use Rattle.std.specs.Prelude.{IfOk, IfErr, slice_range}
 use Rattle.std.proofs.lemmas.List.{drop-take, take_min}
-use Rattle.std.proofs.lemmas.Grind.{common_steps}
 use Rattle.score_base.specs.declared.records.Record.{Record}
 use Rattle.node_journal.specs.declared.reading.Gate.{Gate}
 use Rattle.node_journal.specs.declared.reading.Gate.TheVariants.{Closed, Open}
 use Rattle.node_journal.specs.declared.reading.ReadEnd.{ReadEnd}
 use Rattle.node_journal.specs.declared.reading.ReadEnd.TheVariants.{Failed, Bad, Memory}
 use Rattle.node_journal.specs.Gates.{IsGate, IsFault, IfBad}
-use Rattle.node_journal.specs.Log.{block_at, log, Spells, IsLog}
+use Rattle.node_journal.specs.Log.{block_at, log, Spells}
 use Rattle.node_journal.proofs.Blocks.{block_front}
 use Rattle.node_journal.proofs.Logs.{at_gate, log_bad, spells_next}
 
@@ -61,17 +60,3 @@ pub next_at : (bytes : List ℕ) (rs : List Record) (r : Record) (at n : ℕ) �
 next_at bytes rs r at n low high s h =
     let here : drop at bytes ≡ get_or bytes at 0 ∷ drop (at + 1) bytes = at_gate bytes at high in
     spells_next bytes rs r at n low high s (sym (ap (λ l. get_or l 0 0) here) ∙ h.0) (sym (ap (λ l. block_at (drop 1 l)) here) ∙ h.1)
-
--- a closed gate at this place
-pub closed_at : (bytes : List ℕ) (rs : List Record) (at : ℕ) → get_or bytes 0 0 ≡ 1 → 1 ≤ at → at < length bytes → Spells (drop 1 (take at bytes)) rs → IsGate (drop at bytes) Closed → IsLog bytes rs at
-closed_at bytes rs at v low high s h = record {
-  version = first_byte bytes v (omega (arith, high));
-  place = low;
-  within = high;
-  closed = λ e. h (ap (λ l. get_or l 0 0) (at_gate bytes at high) ∙ e);
-  spelled = s;
-}
-  where
-    first_byte : (xs : List ℕ) → get_or xs 0 0 ≡ 1 → 0 < length xs → take 1 xs ≡ 1 ∷ []
-    first_byte [] e h = absurd (omega (arith, h))
-    first_byte (x ∷ xs) e h = ap (λ b. b ∷ []) e

@@ -1,15 +1,14 @@
 -- What a file reads as, from the place up to which it was read.
-use Rattle.std.proofs.Common.{◌≡◌, ◌≢◌, ◌⊎◌, ℕ, ◌+◌, ◌-◌, ◌<◌, ◌≤◌, ◌==◌, nat_le, true, false, List, [], ◌∷◌, ◌++◌, length, take, drop, refl, sym, ap, ◌∙◌, inl, inr, arith, get_or, subst, append_assoc, append-nil, length-append, length-take-le, length-drop, add-one, drop-cons, take-take, take_at, drop_at, Option, Some, None, Result, Ok, Err}
-use Rattle.std.specs.Prelude.{slice_index}
-use Rattle.std.proofs.lemmas.Grind.{common_steps, elements}
+use Rattle.std.proofs.Common.{◌≡◌, ◌≢◌, ℕ, ◌+◌, ◌<◌, ◌≤◌, nat_le, true, false, List, [], ◌∷◌, ◌++◌, length, take, drop, refl, sym, ap, ◌∙◌, inl, inr, arith, get_or, subst, append_assoc, append-nil, length-append, length-take-le, length-drop, add-one, drop-cons, take-take, take_at, drop_at, Some, None, Ok, Err}
+use Rattle.std.proofs.lemmas.Grind.{common_steps}
 use Rattle.std.proofs.lemmas.Bool.{cases_lt}
 use Rattle.std.proofs.lemmas.Bool.Decides.{eqb_tells}
 use Rattle.std.proofs.lemmas.List.{take-append-drop, take-append-le}
 use Rattle.std.proofs.Math.Seq.{take-add}
 use Rattle.score_base.specs.declared.records.Record.{Record}
-use Rattle.score_disk.specs.Files.{File, IsImage, put_at}
+use Rattle.score_disk.specs.Files.{put_at}
 use Rattle.score_disk.proofs.Places.{take-put_at}
-use Rattle.node_journal.specs.Log.{log_from, log, block_at, behind, framed, Spells, IsLog}
+use Rattle.node_journal.specs.Log.{log_from, log, block_at, behind, Spells, IsLog}
 use Rattle.node_journal.specs.Torn.{KeepsClosed, opened_at}
 use Rattle.node_journal.proofs.Blocks.{log_closed, log_fault, IsBlock, taken_block, spells_more}
 

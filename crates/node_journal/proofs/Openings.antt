@@ -1,10 +1,8 @@
 -- What an opening reads, and what a log that is made anew leaves.
-use Rattle.std.proofs.Common.{◌≡◌, ◌≢◌, ℕ, ◌+◌, ◌<◌, ◌≤◌, List, [], ◌∷◌, ◌++◌, length, take, drop, refl, sym, ap, subst, ◌∙◌, arith, get_or, Result, Ok, Err, OnOk, OnErr}
-use Rattle.std.specs.Prelude.{IfOk, slice_range}
-use Rattle.std.proofs.lemmas.Grind.{common_steps, elements}
-use Rattle.score_base.specs.declared.records.Record.{Record}
-use Rattle.node_journal.specs.Log.{log, IsLog}
-use Rattle.node_journal.proofs.Logs.{log_is, log_unversioned}
+use Rattle.std.proofs.Common.{◌≡◌, ◌≢◌, ℕ, ◌+◌, ◌<◌, List, [], ◌∷◌, length, ap, ◌∙◌, arith, get_or, Result, Ok, Err, OnErr}
+use Rattle.std.specs.Prelude.{slice_range}
+use Rattle.node_journal.specs.Log.{log}
+use Rattle.node_journal.proofs.Logs.{log_unversioned}
 
 first_read : (seen piece : List ℕ) → piece ≡ slice_range seen 0 (0 + 1) → 0 < length seen → get_or piece 0 0 ≡ get_or seen 0 0
 first_read [] piece e h = absurd (omega (arith, h))

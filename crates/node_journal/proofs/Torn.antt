@@ -1,12 +1,12 @@
 -- What the images are when one of the four calls of an append fails.
-use Rattle.std.proofs.Common.{◌≡◌, ◌≢◌, ◌⊎◌, ℕ, ◌+◌, ◌<◌, ◌≤◌, false, max, List, [], ◌∷◌, ◌++◌, length, take, refl, sym, ap, ◌∙◌, inl, inr, arith, get_or, length-take-le, get_or-take}
+use Rattle.std.proofs.Common.{◌≡◌, ◌≢◌, ◌⊎◌, ℕ, ◌+◌, ◌<◌, ◌≤◌, false, max, List, [], ◌∷◌, length, take, refl, sym, ap, ◌∙◌, inl, inr, arith, get_or, length-take-le, get_or-take}
 use Rattle.std.specs.Prelude.{slice_index}
 use Rattle.std.proofs.lemmas.Bool.Decides.{eqb_tells}
 use Rattle.std.proofs.lemmas.Bool.{cases_lt}
 use Rattle.std.proofs.lemmas.Grind.{elements, same_number_lists}
 use Rattle.score_disk.specs.Files.{File, IsImage, IsSettled, Missed, Unsynced, put_at, written, synced}
 use Rattle.score_disk.proofs.Places.{both, uncovered, length-put_at, get_or-put_at, take-put_at}
-use Rattle.node_journal.specs.Torn.{Near, KeepsClosed, LeavesClosed, LeavesOneOf, opened_at}
+use Rattle.node_journal.specs.Torn.{Near, LeavesClosed, LeavesOneOf}
 
 touched_written : (f : File) (at : ℕ) (bytes : List ℕ) (i : ℕ) → IsSettled f → (i < at) ⊎ (at + length bytes ≤ i) → (written at bytes f).touched i ≡ false
 touched_written f at bytes i s h = both (f.touched i) _ (s.touched i) (uncovered at (length bytes) i h)
@@ -67,9 +67,6 @@ closed_near f g gate n h closed a c m =
       place = omega arith;
       closed = λ e. closed (sym same ∙ e);
     }
-
-pub one_of_near : (f g : File) (gate n : ℕ) (frame : List ℕ) → gate < length f.seen → slice_index f.seen gate ≢ 1 → Near f (gate + 1) n g → LeavesOneOf f.seen gate frame g
-one_of_near f g gate n frame h closed a c m = inl (closed_near f g gate n h closed a c m)
 
 apart : (i gate : ℕ) → i ≢ gate → (i < gate) ⊎ (gate + 1 ≤ i)
 apart i gate h = elim (cases_lt i gate) [ inl e ↦ inl e | inr e ↦ inr (omega (arith, h)) ]

@@ -1,5 +1,5 @@
 -- What a reading of the log meets at a gate, and how it ends.
-use Rattle.std.specs.Prelude.{◌≡◌, ◌≢◌, ℕ, ◌+◌, ◌<◌, List, length, drop, slice_index, Some, None, Result, Ok, Err}
+use Rattle.std.specs.Prelude.{◌≡◌, ◌≢◌, ℕ, ◌+◌, ◌<◌, List, drop, slice_index, Some, None, Result, Ok, Err}
 use Rattle.node_journal.specs.declared.reading.Gate.{Gate}
 use Rattle.node_journal.specs.declared.reading.Gate.TheVariants.{Closed, Open}
 use Rattle.node_journal.specs.declared.reading.ReadEnd.{ReadEnd}

@@ -2,7 +2,7 @@
 use Rattle.std.specs.Prelude.{◌≡◌, ◌≢◌, ℕ, zero, suc, ◌+◌, ◌<◌, ◌≤◌, ◌==◌, ◌&&◌, nat_le, nat_lt, Bool, List, [], ◌∷◌, ◌++◌, length, take, drop, slice_index, Option, Some, None, Result, Ok, Err, if◌then◌else◌}
 use Rattle.std.specs.Int.{w16, to_be_bytes, from_be_bytes}
 use Rattle.score_base.specs.declared.records.Record.{Record}
-use Rattle.journal_records.specs.Records.{decode_of, record_bytes}
+use Rattle.journal_records.specs.Records.{decode_of}
 
 -- the length that stands behind an open gate
 unfoldable pub body_length : List ℕ → ℕ

@@ -1,6 +1,6 @@
 -- A log is of a form in at most one way.
 use Rattle.std.specs.Prelude.{ℕ, List, Result}
-use Rattle.std.specs.Coded.{coded_ℕ, coded_list, coded_result, Coded-set, le_prop}
+use Rattle.std.specs.Coded.{coded_ℕ, coded_list, coded_result, Coded-set}
 use Rattle.std.proofs.Props.{props}
 use Rattle.score_base.specs.declared.records.Record.{Record}
 use Rattle.score_base.specs.contracts.records.Record as record_code

@@ -1,5 +1,5 @@
 -- A call that changed nothing, or all, has failed within its bounds.
-use Rattle.std.proofs.Common.{◌≡◌, ℕ, ◌+◌, ◌≤◌, max, List, length, refl, sym, ◌∙◌, arith, le_refl, subst, Result, Ok, Err, OnOk, OnErr}
+use Rattle.std.proofs.Common.{◌≡◌, ℕ, ◌+◌, ◌≤◌, max, List, length, refl, sym, arith, le_refl, subst, Result, Ok, Err, OnOk, OnErr}
 use Rattle.score_disk.specs.Files.{File, Missed, IsSound, written, covers, put_at}
 use Rattle.score_disk.proofs.Places.{neither, outside, length-put_at, get_or-put_at}
 

@@ -1,5 +1,5 @@
 -- The file of a disk in memory, and which of its calls fail.
-use Rattle.std.specs.Prelude.{◌≡◌, ℕ, ◌+◌, ◌-◌, ◌^◌, ◌<◌, ◌≤◌, ◌↔◌, min, length, Result, IsErr, Contains}
+use Rattle.std.specs.Prelude.{◌≡◌, ◌+◌, ◌-◌, ◌^◌, ◌<◌, ◌↔◌, min, length, Result, IsErr, Contains}
 use Rattle.std.proofs.Common.{arith}
 use Rattle.score_disk.specs.declared.memory.MemDisk.{MemDisk}
 use Rattle.score_disk.specs.Copies.{is_marked}

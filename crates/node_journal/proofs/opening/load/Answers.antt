@@ -1,4 +1,4 @@
-use Rattle.std.proofs.Common.{◌≡◌, ◌≤◌, ◌∙◌, Ok, sym, ap, arith, length}
+use Rattle.std.proofs.Common.{◌≤◌, ◌∙◌, Ok, sym, ap, arith, length}
 use Rattle.std.proofs.lemmas.Result.{IfOk-weaker}
 use Rattle.node_journal.proofs.Openings.{at_errors}
 use Rattle.node_journal.proofs.Logs.{log_is, log_short}

@@ -1,7 +1,7 @@
-use Rattle.std.proofs.Common.{◌≡◌, ◌+◌, ◌<◌, ◌∷◌, [], ◌++◌, IsTrue, length, sym, ap, subst, rules, arith, drop, take}
+use Rattle.std.proofs.Common.{◌+◌, ◌<◌, IsTrue, length, sym, subst, rules, arith, drop, take}
 use Rattle.std.proofs.lemmas.Grind.{common_steps}
 use Rattle.node_journal.specs.declared.reading.Gate.TheVariants.{Open}
-use Rattle.node_journal.specs.Gates.{IsGate, IsFault, IfBad}
+use Rattle.node_journal.specs.Gates.{IsGate}
 use Rattle.node_journal.specs.Log.{Spells}
 use Rattle.node_journal.proofs.Gates.{bad_at, next_at}
 use Rattle.node_journal.proofs.reading.read_records.Goals as goal

@@ -1,6 +1,6 @@
-use Rattle.std.proofs.Common.{◌≡◌, ◌+◌, ◌≤◌, ◌<◌, ◌∷◌, [], ◌++◌, List, IsTrue, length, sym, ap, subst, ◌∙◌, arith, rules, length-append}
+use Rattle.std.proofs.Common.{◌≡◌, ◌+◌, ◌∷◌, [], ◌++◌, List, IsTrue, length, ap, subst, ◌∙◌, arith, rules, length-append}
 use Rattle.score_base.specs.declared.records.Record.{Record}
-use Rattle.score_disk.specs.Files.{File, IsSettled}
+use Rattle.score_disk.specs.Files.{File}
 use Rattle.journal_records.specs.Records.{record_bytes}
 use Rattle.node_journal.specs.Log.{framed, log, records_of, IsLog}
 use Rattle.node_journal.proofs.Appends.{append_done, append_torn, append_early, append_settled, log_read, log_own, records_are, length-frame}

@@ -1,7 +1,7 @@
-use Rattle.std.proofs.Common.{◌≡◌, ◌≤◌, List, IsTrue, length, sym, ap, subst, ◌∙◌, arith, rules}
+use Rattle.std.proofs.Common.{◌≡◌, List, IsTrue, length, sym, ap, subst, ◌∙◌, arith, rules}
 use Rattle.score_base.specs.declared.records.Record.{Record}
 use Rattle.score_disk.specs.Files.{File}
-use Rattle.node_journal.specs.Log.{log, records_of, IsLog}
+use Rattle.node_journal.specs.Log.{log, records_of}
 use Rattle.node_journal.proofs.Appends.{log_own, records_are}
 use Rattle.node_journal.proofs.Logs.{log_is}
 use Rattle.node_journal.proofs.journal.Journal.open.Goals as goal
