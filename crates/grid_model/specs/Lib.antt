@@ -5,3 +5,13 @@ pub mod Phases
 pub mod Standings
 pub mod Rules
 pub mod Lawful
+pub mod Journals
+pub mod Serials
+pub mod Nodes
+pub mod Stories
+pub mod Views
+pub mod Advances
+pub mod Fitness
+pub mod Rows
+pub mod Schedules
+pub mod Runs

@@ -15,6 +15,8 @@ mod laws;
 mod messages;
 mod phases;
 mod standings;
+mod stories;
+mod versions;
 
 pub use acts::{Act, Flag, Head};
 pub use documents::{Document, ScriptList};
@@ -24,3 +26,5 @@ pub use laws::{law_one_history, law_standings};
 pub use messages::{Envelope, Message, Prepare, ReadRep, ReadReq};
 pub use phases::{first_sid, is_answered, reading, script_of, snapshot, taken_value, waiting};
 pub use standings::{Standing, Standings};
+pub use stories::{HeldRead, Story, Voted};
+pub use versions::Version;

@@ -1,0 +1,96 @@
+-- Which messages are fit at a node. A message that is not fit has no act but its Got.
+use Rattle.std.specs.Prelude.{◌+◌, Bool, true, ◌&&◌, ◌||◌, ◌==◌, not, nat_lt, nat_le, List, [], ◌∷◌, length, Option, Some, None}
+use Rattle.score_base.specs.declared.ids.NodeId.{NodeId}
+use Rattle.score_base.specs.declared.ids.TxId.{TxId}
+use Rattle.score_base.specs.declared.ids.Ident.{Ident}
+use Rattle.score_base.specs.declared.causes.Date.{Date}
+use Rattle.score_base.specs.declared.causes.Date.TheVariants as date
+use Rattle.score_base.specs.declared.causes.Outcome.{Outcome}
+use Rattle.score_base.specs.declared.causes.Outcome.TheVariants as outcome
+use Rattle.placement.specs.Places.{is_among, holds}
+use Rattle.placement.specs.Clusters.{ClusterData}
+use Rattle.grid_model.specs.declared.messages.Message.{Message}
+use Rattle.grid_model.specs.declared.messages.Message.TheVariants as message
+use Rattle.grid_model.specs.declared.messages.Prepare.{Prepare}
+use Rattle.grid_model.specs.declared.messages.ReadReq.{ReadReq}
+use Rattle.grid_model.specs.declared.messages.ReadRep.{ReadRep}
+use Rattle.grid_model.specs.Journals.{are_own_keys, keys_in, pending}
+use Rattle.grid_model.specs.Stories.{is_small, is_small_node, is_fit_ballot}
+use Rattle.grid_model.specs.Views.{View, Stage, Reads, Collects, Commits, stage}
+use Rattle.grid_model.specs.Advances.{parts_now}
+
+-- the number of a date
+abbrev pub date_ident : Date → Ident
+date_ident (date.First sid0) = sid0
+date_ident (date.At sid) = sid
+
+-- a read request names an operation, and n holds its key
+abbrev pub is_fit_request : ClusterData → NodeId → ReadReq → Bool
+is_fit_request c n q = is_small (date_ident q.date) && (nat_le 1 q.op && (nat_le q.op 32 && holds c.places n q.key))
+
+abbrev pub is_same_ident : Ident → Option Ident → Bool
+is_same_ident sid None = true
+is_same_ident sid (Some s) = s == sid
+
+-- where the transaction reads that operation and has a snapshot, it is that of the reply
+abbrev pub is_fit_reply : ReadRep → Stage → Bool
+is_fit_reply q (Reads x j) = not (j == q.op) || is_same_ident q.sid x.sid
+is_fit_reply q s = true
+
+-- rising nodes
+abbrev pub is_rising : List NodeId → Bool
+is_rising [] = true
+is_rising (n ∷ []) = true
+is_rising (n ∷ (m ∷ ns)) = nat_lt n m && is_rising (m ∷ ns)
+
+-- 1 to 16 parts, rising, with n among them; at least one key, at most 32 a list, distinct in their list
+-- and held by n
+abbrev pub is_fit_prepare : ClusterData → NodeId → Prepare → Bool
+is_fit_prepare c n q =
+    is_small q.sid
+    && (nat_le 1 (length q.parts) && (nat_le (length q.parts) 16 && (is_rising q.parts && (is_among n q.parts
+    && (nat_le 1 (length q.reads + length q.writes) && (nat_le (length q.reads) 32 && (nat_le (length q.writes) 32
+    && (are_own_keys c n q.reads && are_own_keys c n (keys_in q.writes)))))))))
+
+-- a sender of votes and acknowledgements is a part, where the transaction is collecting or decided
+abbrev pub is_part_at : ClusterData → Stage → NodeId → Bool
+is_part_at c (Collects x) y = is_among y (parts_now c x)
+is_part_at c (Commits x acks) y = is_among y x.parts
+is_part_at c s y = true
+
+abbrev pub is_at_least : Option Ident → Ident → Bool
+is_at_least None f = true
+is_at_least (Some p) f = nat_le p f
+
+-- a final identifier is small, and at least the proposal where the transaction is pending
+abbrev pub is_fit_outcome : Option Ident → Outcome → Bool
+is_fit_outcome p (outcome.Commit f) = is_small f && is_at_least p f
+is_fit_outcome p outcome.Abort = true
+
+-- what the message says is fit at n, which got it from x and where its transaction stands so
+abbrev pub is_fit_content : NodeId → View → Stage → NodeId → Message → Bool
+is_fit_content n v s x (message.ReadReq q) = is_fit_request v.cluster n q
+is_fit_content n v s x (message.ReadRep q) = is_small q.sid && is_fit_reply q s
+is_fit_content n v s x (message.Prepare q) = is_fit_prepare v.cluster n q
+is_fit_content n v s x (message.Vote t b) = is_fit_ballot b && is_part_at v.cluster s x
+is_fit_content n v s x (message.Tell t o) = is_fit_outcome (pending t v.journal) o
+is_fit_content n v s x (message.Ack t) = is_part_at v.cluster s x
+is_fit_content n v s x (message.Ask t) = true
+
+-- the transaction of a message
+abbrev pub tx_in : Message → TxId
+tx_in (message.ReadReq q) = q.t
+tx_in (message.ReadRep q) = q.t
+tx_in (message.Prepare q) = q.t
+tx_in (message.Vote t b) = t
+tx_in (message.Tell t o) = t
+tx_in (message.Ack t) = t
+tx_in (message.Ask t) = t
+
+-- the message is fit where its transaction stands so
+abbrev pub is_fit_at : NodeId → View → Stage → NodeId → Message → Bool
+is_fit_at n v s x said = is_small_node v.journal v.next && is_fit_content n v s x said
+
+-- the message is fit at n, which got it from x
+abbrev pub is_fit : NodeId → View → NodeId → Message → Bool
+is_fit n v x said = is_fit_at n v (stage v (tx_in said)) x said

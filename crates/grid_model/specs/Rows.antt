@@ -1,0 +1,220 @@
+-- The rule table: what a node gives where a message comes, by its view. Outs are acts and messages
+-- without a number. Each row is stated on the words that decide it.
+use Rattle.std.specs.Prelude.{ℕ, ◌+◌, ◌*◌, ◌/◌, max, Bool, true, false, ◌==◌, not, nat_lt, filter, map, List, [], ◌∷◌, ◌++◌, Option, Some, None, is_some, if◌then◌else◌}
+use Rattle.std.specs.List.{list_all}
+use Rattle.score_base.specs.declared.ids.TxId.{TxId}
+use Rattle.score_base.specs.declared.ids.NodeId.{NodeId}
+use Rattle.score_base.specs.declared.ids.Ident.{Ident}
+use Rattle.score_base.specs.declared.keys.Key.{Key}
+use Rattle.score_base.specs.declared.causes.Ballot.{Ballot}
+use Rattle.score_base.specs.declared.causes.Ballot.TheVariants as ballot
+use Rattle.score_base.specs.declared.causes.Cause.{Cause}
+use Rattle.score_base.specs.declared.causes.Cause.TheVariants as cause
+use Rattle.score_base.specs.declared.causes.Date.{Date}
+use Rattle.score_base.specs.declared.causes.Date.TheVariants as date
+use Rattle.score_base.specs.declared.causes.Outcome.{Outcome}
+use Rattle.score_base.specs.declared.causes.Outcome.TheVariants as outcome
+use Rattle.score_base.specs.declared.records.Record.{Record}
+use Rattle.score_base.specs.declared.records.Record.TheVariants as record'
+use Rattle.script_lang.specs.Scripts.{ScriptData}
+use Rattle.placement.specs.Places.{is_among, others}
+use Rattle.placement.specs.Clusters.{ClusterData, init}
+use Rattle.grid_model.specs.declared.acts.Act.TheVariants as act
+use Rattle.grid_model.specs.declared.events.Out.{Out}
+use Rattle.grid_model.specs.declared.events.Out.TheVariants as out
+use Rattle.grid_model.specs.declared.messages.Message.{Message}
+use Rattle.grid_model.specs.declared.messages.Message.TheVariants as message
+use Rattle.grid_model.specs.declared.messages.Prepare.{Prepare}
+use Rattle.grid_model.specs.declared.messages.ReadReq.{ReadReq}
+use Rattle.grid_model.specs.declared.messages.ReadRep.{ReadRep}
+use Rattle.grid_model.specs.declared.stories.HeldRead.{HeldRead}
+use Rattle.grid_model.specs.declared.stories.Voted.{Voted}
+use Rattle.grid_model.specs.declared.versions.Version.{Version}
+use Rattle.grid_model.specs.Journals.{commit_id, floor, is_clear, version_at, ended, is_commit, pending, holder, newer, home_of}
+use Rattle.grid_model.specs.Stories.{has_voted, first_sid}
+use Rattle.grid_model.specs.Views.{View, Open, Stage, Apart, Reads, Collects, Commits, stage}
+use Rattle.grid_model.specs.Advances.{advance, request, prepares, parts_now, to_node}
+use Rattle.grid_model.specs.Fitness.{is_fit_at, tx_in}
+
+-- ---- reads
+
+-- the read is served with this version, and the answer goes to x
+abbrev pub served : NodeId → TxId → ℕ → Key → Ident → NodeId → Version → List Out
+served n t op k sid x w = out.Act (act.Served n t op k sid w.ident w.value) ∷ (out.Send x (message.ReadRep (record { t = t; op = op; sid = sid; value = w.value })) ∷ [])
+
+-- the version of a key at an identifier
+abbrev pub version_for : ClusterData → List Record → Key → Ident → Version
+version_for c r k sid = version_at r k (init c k) sid
+
+-- Release: the held reads that no pending proposal holds any more are served, in the order of their arrival
+abbrev pub release : ClusterData → List Record → NodeId → List HeldRead → List Out
+release c r n [] = []
+release c r n (h ∷ hs) = (if is_clear h.sid r then served n h.t h.op h.key h.sid h.from (version_for c r h.key h.sid) else []) ++ release c r n hs
+
+-- the identifier of a read: a first read is dated by its server
+abbrev pub dated : Date → Ident → Ident
+dated (date.First sid0) c = max sid0 c
+dated (date.At sid) c = sid
+
+-- the least multiple of 64 that is at least sid
+abbrev pub ceiling_of : Ident → Ident
+ceiling_of sid = 64 * ((sid + 63) / 64)
+
+abbrev pub ceilings : NodeId → Ident → Ident → List Out
+ceilings n floor sid = if nat_lt floor sid then out.Act (act.Ceiling n (ceiling_of sid)) ∷ [] else []
+
+abbrev pub raises : NodeId → Ident → Ident → List Out
+raises n next sid = if nat_lt next sid then out.Act (act.Raised n sid) ∷ [] else []
+
+-- served where no pending proposal is at most sid, else held
+abbrev pub answered : Bool → NodeId → NodeId → ReadReq → Ident → Version → List Out
+answered true n x q sid w = served n q.t q.op q.key sid x w
+answered false n x q sid w = out.Act (act.Held n q.t q.op sid) ∷ []
+
+-- a read request at n from x, at this identifier
+abbrev pub read_row : NodeId → View → NodeId → ReadReq → Ident → List Out
+read_row n v x q sid = ceilings n (floor v.journal) sid ++ (raises n v.next sid ++ answered (is_clear sid v.journal) n x q sid (version_for v.cluster v.journal q.key sid))
+
+-- a read reply at the home
+abbrev pub reply_row : ClusterData → ReadRep → Stage → List Out
+reply_row c q (Reads x j) = if j == q.op then out.Act (act.Taken q.t q.op q.sid q.value) ∷ advance c (record x { turn = 0; sid = Some (first_sid x.sid q.sid); values = x.values ++ (q.op, q.value) ∷ [] }) q.op else []
+reply_row c q s = []
+
+-- ---- votes
+
+abbrev pub refused : NodeId → NodeId → TxId → Cause → List Out
+refused n x t why = out.Act (act.Refused n t why) ∷ (out.Send x (message.Vote t (ballot.No why)) ∷ [])
+
+-- a Prepare of t that n has neither ended nor pending: a holder refuses it, then a newer version, and
+-- else n votes yes with the proposal p
+abbrev pub judged : NodeId → NodeId → TxId → Option TxId → Option (Key × Ident) → Ident → List Out
+judged n x t (Some u) newer p = refused n x t (cause.Holder u)
+judged n x t None (Some y) p = refused n x t (cause.Newer y.0 y.1)
+judged n x t None None p = out.Act (act.Prepared n t p) ∷ (out.Send x (message.Vote t (ballot.Yes p)) ∷ [])
+
+-- a Prepare of t at n from x, by the outcome and the proposal that t has there
+abbrev pub prepare_row : NodeId → NodeId → TxId → Option Outcome → Option Ident → Option TxId → Option (Key × Ident) → Ident → List Out
+prepare_row n x t (Some o) mine holder newer p = []
+prepare_row n x t None (Some q) holder newer p = out.Send x (message.Vote t (ballot.Yes q)) ∷ []
+prepare_row n x t None None holder newer p = judged n x t holder newer p
+
+-- a Prepare at n from x
+abbrev pub prepare_outs : NodeId → View → NodeId → Prepare → List Out
+prepare_outs n v x q = prepare_row n x q.t (ended q.t v.journal) (pending q.t v.journal) (holder v.journal q.t q.reads q.writes) (newer v.journal q.reads q.sid) (1 + max v.next q.sid)
+
+-- ---- the coordinator
+
+-- how t ended, to each of these nodes
+abbrev pub tells : TxId → Outcome → List NodeId → List Out
+tells t o ns = map (λ n. out.Send n (message.Tell t o)) ns
+
+abbrev pub greatest_vote : List Voted → Ident
+greatest_vote [] = 0
+greatest_vote (v ∷ vs) = max v.p (greatest_vote vs)
+
+-- each of these nodes has voted
+abbrev pub have_voted : List NodeId → List Voted → Bool
+have_voted ns votes = list_all (λ n. has_voted n votes) ns
+
+-- the commit with the final identifier f
+abbrev pub decides : TxId → Ident → List NodeId → List Out
+decides t f ns = out.Act (act.Decided t f) ∷ (out.Act (act.Finished t) ∷ tells t (outcome.Commit f) ns)
+
+abbrev pub full_row : TxId → List NodeId → List Voted → List Out
+full_row t ns votes = if have_voted ns votes then decides t (greatest_vote votes) ns else []
+
+-- the vote of x on a transaction that is collecting
+abbrev pub ballot_row : TxId → List NodeId → List Voted → NodeId → Ballot → List Out
+ballot_row t ns votes x (ballot.Yes p) = full_row t ns (votes ++ record { from = x; p = p } ∷ [])
+ballot_row t ns votes x (ballot.No why) = out.Act (act.Aborted t x why) ∷ tells t outcome.Abort (others x ns)
+
+-- a vote from x at the home
+abbrev pub vote_row : ClusterData → TxId → NodeId → Ballot → Stage → List Out
+vote_row c t x b (Collects o) = if has_voted x o.votes then [] else ballot_row t (parts_now c o) o.votes x b
+vote_row c t x b s = []
+
+-- each of these nodes is among those
+abbrev pub are_all_among : List NodeId → List NodeId → Bool
+are_all_among ns ms = list_all (λ n. is_among n ms) ns
+
+abbrev pub closed_row : TxId → List NodeId → List NodeId → List Out
+closed_row t ns acks = if are_all_among ns acks then out.Act (act.Closed t) ∷ [] else []
+
+-- an acknowledgement from x at the home
+abbrev pub ack_row : TxId → NodeId → Stage → List Out
+ack_row t x (Commits y acks) = if is_among x acks then [] else closed_row t y.parts (acks ++ x ∷ [])
+ack_row t x s = []
+
+-- a question of x at the home: no record and no open transaction means abort
+abbrev pub ask_row : TxId → NodeId → Stage → List Out
+ask_row t x (Reads o j) = []
+ask_row t x (Collects o) = []
+ask_row t x (Commits y acks) = out.Send x (message.Tell t (outcome.Commit y.final)) ∷ []
+ask_row t x Apart = out.Send x (message.Tell t outcome.Abort) ∷ []
+
+-- ---- ends
+
+-- a commit that is told at n
+abbrev pub commit_row : NodeId → TxId → Ident → Option Ident → Bool → List Out → List Out → List Out
+commit_row n t f (Some p) done ack freed = out.Act (act.Ended n t (outcome.Commit f)) ∷ (ack ++ freed)
+commit_row n t f None true ack freed = ack
+commit_row n t f None false ack freed = []
+
+-- an abort that is told at n
+abbrev pub abort_row : NodeId → TxId → Option Ident → List Out → List Out
+abort_row n t (Some p) freed = out.Act (act.Ended n t outcome.Abort) ∷ freed
+abort_row n t None freed = []
+
+-- the held reads that an end of t frees
+abbrev pub freed_by : NodeId → View → TxId → Outcome → List Out
+freed_by n v t o = release v.cluster (record'.Ended t o ∷ v.journal) n v.held
+
+-- how t ended, told at n
+abbrev pub tell_outs : NodeId → View → TxId → Outcome → List Out
+tell_outs n v t (outcome.Commit f) = commit_row n t f (pending t v.journal) (is_commit (ended t v.journal)) (to_node (home_of t v.journal) (message.Ack t)) (freed_by n v t (outcome.Commit f))
+tell_outs n v t outcome.Abort = abort_row n t (pending t v.journal) (freed_by n v t outcome.Abort)
+
+-- ---- the table
+
+-- what n gives where a fit message comes from x, whose transaction stands so
+abbrev pub row_of : NodeId → View → Stage → NodeId → Message → List Out
+row_of n v s x (message.ReadReq q) = read_row n v x q (dated q.date (commit_id v.journal))
+row_of n v s x (message.ReadRep q) = reply_row v.cluster q s
+row_of n v s x (message.Prepare q) = prepare_outs n v x q
+row_of n v s x (message.Vote t b) = vote_row v.cluster t x b s
+row_of n v s x (message.Tell t o) = tell_outs n v t o
+row_of n v s x (message.Ack t) = ack_row t x s
+row_of n v s x (message.Ask t) = ask_row t x s
+
+-- what n gives where a message comes from x, whose transaction stands so
+abbrev pub answer_at : NodeId → View → Stage → NodeId → Message → List Out
+answer_at n v s x said = if is_fit_at n v s x said then row_of n v s x said else []
+
+-- what n gives where a message comes from x
+abbrev pub answer : NodeId → View → NodeId → Message → List Out
+answer n v x said = answer_at n v (stage v (tx_in said)) x said
+
+-- a transaction that begins at n
+abbrev pub begun_at : ScriptData → Ident → Open
+begun_at s sid0 = record { script = s; sid0 = sid0; sid = None; values = []; votes = []; turn = 0 }
+
+-- what n gives where a transaction of its own begins
+abbrev pub begin_outs : NodeId → View → ScriptData → List Out
+begin_outs n v s = out.Act (act.Began s.number n (commit_id v.journal)) ∷ advance v.cluster (begun_at s (commit_id v.journal)) 0
+
+abbrev pub not_voted : List NodeId → List Voted → List NodeId
+not_voted ns votes = filter (λ n. not (has_voted n votes)) ns
+
+abbrev pub not_among : List NodeId → List NodeId → List NodeId
+not_among ns ms = filter (λ n. not (is_among n ms)) ns
+
+-- what the home sends again; nothing where nothing is outstanding
+abbrev pub retry_row : ClusterData → TxId → Stage → List Out
+retry_row c t (Reads x j) = request c x j x.turn
+retry_row c t (Collects x) = prepares c x (not_voted (parts_now c x) x.votes)
+retry_row c t (Commits y acks) = tells t (outcome.Commit y.final) (not_among y.parts acks)
+retry_row c t Apart = []
+
+-- what n asks the home of t; nothing where t is not pending at n
+abbrev pub ask_outs : View → TxId → List Out
+ask_outs v t = if is_some (pending t v.journal) then to_node (home_of t v.journal) (message.Ask t) else []

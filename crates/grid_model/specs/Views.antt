@@ -1,0 +1,97 @@
+-- What a node knows: its view.
+use Rattle.std.specs.Prelude.{ℕ, ◌&&◌, ◌==◌, List, [], Option, Some, None, is_some, if◌then◌else◌}
+use Rattle.score_base.specs.declared.ids.TxId.{TxId}
+use Rattle.score_base.specs.declared.ids.NodeId.{NodeId}
+use Rattle.score_base.specs.declared.ids.Ident.{Ident}
+use Rattle.score_base.specs.declared.ids.Value.{Value}
+use Rattle.score_base.specs.declared.records.Record.{Record}
+use Rattle.script_lang.specs.Scripts.{ScriptData}
+use Rattle.placement.specs.Clusters.{ClusterData}
+use Rattle.grid_model.specs.declared.acts.Act.{Act}
+use Rattle.grid_model.specs.declared.stories.Story.{Story}
+use Rattle.grid_model.specs.declared.stories.Voted.{Voted}
+use Rattle.grid_model.specs.declared.stories.HeldRead.{HeldRead}
+use Rattle.grid_model.specs.Documents.{DocumentData}
+use Rattle.grid_model.specs.Journals.{Decision, undone}
+use Rattle.grid_model.specs.Nodes.{Node, node, script_of}
+use Rattle.grid_model.specs.Stories.{Phase, phase_at, is_open, waiting, story}
+
+-- what a home knows of a transaction that is reading or collecting
+pub record Open : Type 0 where
+  pub script : ScriptData
+  pub sid0 : Ident
+  pub sid : Option Ident
+  pub values : List (ℕ × Value)
+  pub votes : List Voted
+  pub turn : ℕ
+
+-- what a node knows: the cluster; the records of its journal, the newest first; its clock; the held
+-- reads in the order of their arrival; the transactions of this home that are reading or collecting;
+-- the acknowledgements taken of those that are decided
+pub record View : Type 0 where
+  pub cluster : ClusterData
+  pub journal : List Record
+  pub next : Ident
+  pub held : List HeldRead
+  pub desk : TxId → Option Open
+  pub acks : TxId → List NodeId
+
+-- ---- the view behind a history
+
+abbrev pub open_of : ScriptData → Story → Open
+open_of s x = record { script = s; sid0 = x.sid0; sid = x.sid; values = x.values; votes = x.votes; turn = x.turn }
+
+abbrev pub open_by : ScriptData → Phase → Option Story → Option Open
+open_by s p None = None
+open_by s p (Some x) = if is_open p then Some (open_of s x) else None
+
+-- a transaction of home n that is reading or collecting
+abbrev pub open_at : NodeId → Node → Option ScriptData → Option Story → Option Open
+open_at n h None o = None
+open_at n h (Some s) o = if s.home == n then open_by s (phase_at s o h) o else None
+
+abbrev pub acks_by : Option Story → List NodeId
+acks_by None = []
+acks_by (Some x) = x.acks
+
+-- the acknowledgements taken of a decided transaction of home n
+abbrev pub acks_at : NodeId → Node → TxId → Option ScriptData → Option Story → List NodeId
+acks_at n h t None o = []
+acks_at n h t (Some s) o = if (s.home == n) && is_some (undone t h.journal) then acks_by o else []
+
+-- the view of node n, by the node and by what happened to the transactions
+abbrev pub view_of : DocumentData → NodeId → Node → (TxId → Option Story) → View
+view_of d n h stories =
+    record {
+      cluster = d.cluster;
+      journal = h.journal;
+      next = h.next;
+      held = h.held;
+      desk = λ t. open_at n h (script_of t d.scripts) (stories t);
+      acks = λ t. acks_at n h t (script_of t d.scripts) (stories t);
+    }
+
+-- the view of node n behind these acts
+abbrev pub view : DocumentData → List Act → NodeId → View
+view d past n = view_of d n (node d past n) (story d past)
+
+-- ---- where a transaction stands for its home
+
+pub data Stage : Type 0 where
+  Apart : Stage
+  Reads : Open → ℕ → Stage
+  Collects : Open → Stage
+  Commits : Decision → List NodeId → Stage
+
+abbrev pub open_stage : Open → Option ℕ → Stage
+open_stage x None = Collects x
+open_stage x (Some j) = Reads x j
+
+abbrev pub stage_by : Option Decision → Option Open → List NodeId → Stage
+stage_by (Some y) o acks = Commits y acks
+stage_by None (Some x) acks = open_stage x (waiting x.script.ops x.values)
+stage_by None None acks = Apart
+
+-- where t stands: decided with these acknowledgements, reading an operation, collecting, or none of these
+abbrev pub stage : View → TxId → Stage
+stage v t = stage_by (undone t v.journal) (v.desk t) (v.acks t)
