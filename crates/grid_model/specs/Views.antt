@@ -92,6 +92,10 @@ stage_by (Some y) o acks = Commits y acks
 stage_by None (Some x) acks = open_stage x (waiting x.script.ops x.values)
 stage_by None None acks = Apart
 
+-- where t stands at n, by the node, the script of t and its story
+abbrev pub stage_at : NodeId → Node → TxId → Option ScriptData → Option Story → Stage
+stage_at n h t s o = stage_by (undone t h.journal) (open_at n h s o) (acks_at n h t s o)
+
 -- where t stands: decided with these acknowledgements, reading an operation, collecting, or none of these
 abbrev pub stage : View → TxId → Stage
 stage v t = stage_by (undone t v.journal) (v.desk t) (v.acks t)
