@@ -1,5 +1,6 @@
 pub mod Places
 pub mod Shows
 pub mod FirstOpen
+pub mod FirstWaiting
 pub mod OneHistory
 pub mod Examples

@@ -19,3 +19,4 @@ pub mod Acts
 pub mod Copies
 pub mod Facts
 pub mod Claims
+pub mod Waits
