@@ -17,4 +17,4 @@ pub use conflicts::{holder, newer};
 pub use decisions::{Decided, decided_final, decision, is_closed, undone};
 pub use endings::{ended, floor, pending};
 pub use proposals::{Prepared, home_of, prepared_of};
-pub use values::{newest, version_at};
+pub use values::{newest, newest_version, version_at};

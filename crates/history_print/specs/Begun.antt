@@ -5,13 +5,8 @@ use Rattle.score_base.specs.declared.ids.Ident.{Ident}
 use Rattle.script_lang.specs.declared.scripts.Op.{Op}
 use Rattle.script_lang.specs.Reads.{is_update}
 use Rattle.grid_model.specs.declared.stories.Story.{Story}
-use Rattle.grid_model.specs.Journals.{Decision}
 use Rattle.grid_model.specs.Stories.{waiting}
 use Rattle.grid_model.specs.Copies.{snapshot_in}
-
-abbrev pub final_in : Option Decision → Option Ident
-final_in None = None
-final_in (Some y) = Some y.final
 
 -- an open transaction reads an operation or collects votes
 unfoldable pub open_words : Option ℕ → List (List ℕ)
