@@ -8,7 +8,7 @@ ghost use Rattle.grid_model.specs.Journals.{is_above, are_distinct_keys, are_own
 use super::conflicts::{holder, is_key_among, keys_in, newer};
 use super::decisions::undone;
 use super::endings::{floor, pending};
-use super::proposals::prepared_of;
+use super::proposals::{Prepared, prepared_of};
 use placement::Cluster;
 use score_base::{Ident, Key, Memory, NodeId, Outcome, Record, TxId, Value};
 use std::alloc::Global;
@@ -121,7 +121,7 @@ fn are_free(
     )
 }
 
-/// Whether a Prepared record fits the records before it.
+/// Whether a Prepared record of t, with these parts, fits the records before it.
 fn fits_prepared(
     alloc: Global,
     cluster: &Cluster,
@@ -129,16 +129,15 @@ fn fits_prepared(
     before: &[Record],
     t: TxId,
     parts: &[NodeId],
-    sid: Ident,
-    p: Ident,
-    reads: &[Key],
-    writes: &[(Key, Value)],
+    said: &Prepared,
 ) -> Result<bool, Memory>
-    ensures { IfOk result (λ fit. fit ≡ fits_prepared cluster.now me (reverse before.now) t parts.now sid p reads.now writes.now) }
+    ensures { IfOk result (λ fit. fit ≡ fits_prepared cluster.now me (reverse before.now) t parts.now said.now.sid said.now.proposal said.now.reads said.now.writes) }
 {
-    let is_new = prepared_of(before, t).is_none() && sid < p && is_above(before, p);
-    let is_sound = is_among(me, parts) && are_lists(alloc, cluster, me, reads, writes)?;
-    Ok(is_new && is_sound && are_free(alloc, before, t, sid, reads, writes)?)
+    let is_new = prepared_of(before, t).is_none()
+        && said.sid < said.proposal
+        && is_above(before, said.proposal);
+    let is_sound = is_among(me, parts) && are_lists(alloc, cluster, me, said.reads, said.writes)?;
+    Ok(is_new && is_sound && are_free(alloc, before, t, said.sid, said.reads, said.writes)?)
 }
 
 /// Whether an outcome fits a transaction with this pending proposal.
@@ -165,24 +164,22 @@ pub fn fits(
     match rec {
         Record::Prepared {
             t,
+            home,
             parts,
             sid,
             p,
             reads,
             writes,
-            ..
-        } => fits_prepared(
-            alloc,
-            cluster,
-            me,
-            before,
-            *t,
-            parts.as_slice(),
-            *sid,
-            *p,
-            reads.as_slice(),
-            writes.as_slice(),
-        ),
+        } => {
+            let said = Prepared {
+                home: *home,
+                sid: *sid,
+                proposal: *p,
+                reads: reads.as_slice(),
+                writes: writes.as_slice(),
+            };
+            fits_prepared(alloc, cluster, me, before, *t, parts.as_slice(), &said)
+        }
         Record::Ended { t, outcome } => Ok(fits_outcome(pending(before, *t), outcome)),
         Record::Ceiling { c } => Ok(c.0 % 64 == 0 && floor(before) < *c),
         Record::Decided { t, f, .. } => Ok(undone(before, *t).is_none() && f.0 >= 1),
