@@ -3,3 +3,10 @@ pub mod Shows
 pub mod FirstOpen
 pub mod OneHistory
 pub mod Examples
+pub mod Plays
+pub mod TransferActs
+pub mod RunsThatCommit
+pub mod RunsOnThreeNodes
+pub mod RunsWithConflicts
+pub mod RunsWithReads
+pub mod RunsThatStop
