@@ -2,7 +2,6 @@ pub mod Places
 pub mod Shows
 pub mod FirstOpen
 pub mod OneHistory
-pub mod Examples
 pub mod Plays
 pub mod TransferActs
 pub mod RunsThatCommit
@@ -10,3 +9,7 @@ pub mod RunsOnThreeNodes
 pub mod RunsWithConflicts
 pub mod RunsWithReads
 pub mod RunsThatStop
+pub mod Unarmed
+pub mod LawfulStops
+pub mod Fitting
+pub mod ViewsOnTheWay

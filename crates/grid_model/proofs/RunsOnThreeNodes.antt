@@ -14,9 +14,10 @@ use Rattle.grid_model.specs.declared.items.Item.TheVariants as item
 use Rattle.grid_model.specs.declared.messages.Message.TheVariants as message
 use Rattle.grid_model.specs.Documents.{DocumentData}
 use Rattle.grid_model.specs.Histories.{after}
-use Rattle.grid_model.specs.Runs.{IsRun}
+use Rattle.grid_model.specs.Runs.{Lawful}
 use Rattle.grid_model.specs.Stories.{Closed, Answered}
 use Rattle.grid_model.proofs.Plays.{a, b, c, usually, all_open, played-run, request, reply, prepare, phases, newest_at}
+use Rattle.grid_model.proofs.Unarmed.{no_rise, calm-lawful}
 
 -- each node holds one key: `a` on n2, `c` on n1
 abbrev pub three_nodes : ClusterData
@@ -68,8 +69,8 @@ bystander_gets_nothing_acts =
     ∷ act.Closed 1
     ∷ []
 
-pub bystander_gets_nothing-run : IsRun bystander_gets_nothing bystander_gets_nothing.items bystander_gets_nothing_acts
-bystander_gets_nothing-run = played-run bystander_gets_nothing all_open (usually bystander_gets_nothing.items) refl
+pub bystander_gets_nothing-lawful : Lawful bystander_gets_nothing bystander_gets_nothing_acts no_rise
+bystander_gets_nothing-lawful = calm-lawful bystander_gets_nothing bystander_gets_nothing_acts (played-run bystander_gets_nothing all_open (usually bystander_gets_nothing.items) refl) (λ n. refl) (λ n. refl)
 
 pub bystander_gets_nothing-phases : phases bystander_gets_nothing (after [] bystander_gets_nothing_acts) ≡ Closed 1 ∷ []
 bystander_gets_nothing-phases = refl
@@ -146,8 +147,8 @@ replicated_transfer_acts =
     ∷ act.Closed 1
     ∷ []
 
-pub replicated_transfer-run : IsRun replicated_transfer replicated_transfer.items replicated_transfer_acts
-replicated_transfer-run = played-run replicated_transfer all_open (usually replicated_transfer.items) refl
+pub replicated_transfer-lawful : Lawful replicated_transfer replicated_transfer_acts no_rise
+replicated_transfer-lawful = calm-lawful replicated_transfer replicated_transfer_acts (played-run replicated_transfer all_open (usually replicated_transfer.items) refl) (λ n. refl) (λ n. refl)
 
 pub replicated_transfer-phases : phases replicated_transfer (after [] replicated_transfer_acts) ≡ Closed 1 ∷ []
 replicated_transfer-phases = refl
@@ -197,8 +198,8 @@ retry_at_the_other_holder_acts =
     ∷ act.Got 4
     ∷ []
 
-pub retry_at_the_other_holder-run : IsRun retry_at_the_other_holder retry_at_the_other_holder.items retry_at_the_other_holder_acts
-retry_at_the_other_holder-run = played-run retry_at_the_other_holder all_open (usually retry_at_the_other_holder.items) refl
+pub retry_at_the_other_holder-lawful : Lawful retry_at_the_other_holder retry_at_the_other_holder_acts no_rise
+retry_at_the_other_holder-lawful = calm-lawful retry_at_the_other_holder retry_at_the_other_holder_acts (played-run retry_at_the_other_holder all_open (usually retry_at_the_other_holder.items) refl) (λ n. refl) (λ n. refl)
 
 pub retry_at_the_other_holder-phases : phases retry_at_the_other_holder (after [] retry_at_the_other_holder_acts) ≡ Answered ∷ []
 retry_at_the_other_holder-phases = refl

@@ -11,9 +11,10 @@ use Rattle.grid_model.specs.declared.items.Item.TheVariants as item
 use Rattle.grid_model.specs.declared.messages.Message.TheVariants as message
 use Rattle.grid_model.specs.Documents.{DocumentData}
 use Rattle.grid_model.specs.Histories.{after}
-use Rattle.grid_model.specs.Runs.{IsRun}
+use Rattle.grid_model.specs.Runs.{Lawful}
 use Rattle.grid_model.specs.Stories.{Closed, Decided, Collecting}
 use Rattle.grid_model.proofs.Plays.{a, b, two_nodes, usually, all_open, played-run, prepare, phases, newest_at}
+use Rattle.grid_model.proofs.Unarmed.{no_rise, calm-lawful}
 use Rattle.grid_model.proofs.TransferActs.{copy_script, asks, votes, decides, ends, closes}
 
 -- one transaction reads `a` and writes `b`
@@ -27,8 +28,8 @@ read_then_write = record {
 abbrev pub read_then_write_acts : List Act
 read_then_write_acts = asks ++ (votes ++ (decides ++ (ends ++ closes)))
 
-pub read_then_write-run : IsRun read_then_write read_then_write.items read_then_write_acts
-read_then_write-run = played-run read_then_write all_open (usually read_then_write.items) refl
+pub read_then_write-lawful : Lawful read_then_write read_then_write_acts no_rise
+read_then_write-lawful = calm-lawful read_then_write read_then_write_acts (played-run read_then_write all_open (usually read_then_write.items) refl) (λ n. refl) (λ n. refl)
 
 pub read_then_write-phases : phases read_then_write (after [] read_then_write_acts) ≡ Closed 1 ∷ []
 read_then_write-phases = refl
@@ -67,8 +68,8 @@ next_update_acts =
     ∷ act.Closed 2
     ∷ []
 
-pub next_update-run : IsRun next_update next_update.items next_update_acts
-next_update-run = played-run next_update all_open (usually next_update.items) refl
+pub next_update-lawful : Lawful next_update next_update_acts no_rise
+next_update-lawful = calm-lawful next_update next_update_acts (played-run next_update all_open (usually next_update.items) refl) (λ n. refl) (λ n. refl)
 
 pub next_update-phases : phases next_update (after [] next_update_acts) ≡ Closed 1 ∷ Closed 2 ∷ []
 next_update-phases = refl
@@ -94,8 +95,8 @@ repeats_after_the_end_acts =
     ∷ act.Got 11
     ∷ []
 
-pub repeats_after_the_end-run : IsRun repeats_after_the_end repeats_after_the_end.items repeats_after_the_end_acts
-repeats_after_the_end-run = played-run repeats_after_the_end all_open (usually repeats_after_the_end.items) refl
+pub repeats_after_the_end-lawful : Lawful repeats_after_the_end repeats_after_the_end_acts no_rise
+repeats_after_the_end-lawful = calm-lawful repeats_after_the_end repeats_after_the_end_acts (played-run repeats_after_the_end all_open (usually repeats_after_the_end.items) refl) (λ n. refl) (λ n. refl)
 
 -- each vote comes twice
 abbrev pub repeated_votes : DocumentData
@@ -120,8 +121,8 @@ repeated_votes_acts =
     ∷ act.Got 5
     ∷ []
 
-pub repeated_votes-run : IsRun repeated_votes repeated_votes.items repeated_votes_acts
-repeated_votes-run = played-run repeated_votes all_open (usually repeated_votes.items) refl
+pub repeated_votes-lawful : Lawful repeated_votes repeated_votes_acts no_rise
+repeated_votes-lawful = calm-lawful repeated_votes repeated_votes_acts (played-run repeated_votes all_open (usually repeated_votes.items) refl) (λ n. refl) (λ n. refl)
 
 pub repeated_votes-phases : phases repeated_votes (after [] repeated_votes_acts) ≡ Decided (record { final = 1; parts = (1 ∷ 2 ∷ []) }) ∷ []
 repeated_votes-phases = refl
@@ -145,8 +146,8 @@ own_read_acts =
     ∷ act.Sent 2 1 2 (prepare 1 0 (1 ∷ 2 ∷ []) [] ((a, 4) ∷ []))
     ∷ []
 
-pub own_read-run : IsRun own_read own_read.items own_read_acts
-own_read-run = played-run own_read all_open (usually own_read.items) refl
+pub own_read-lawful : Lawful own_read own_read_acts no_rise
+own_read-lawful = calm-lawful own_read own_read_acts (played-run own_read all_open (usually own_read.items) refl) (λ n. refl) (λ n. refl)
 
 pub own_read-phases : phases own_read (after [] own_read_acts) ≡ Collecting ∷ []
 own_read-phases = refl

@@ -13,10 +13,11 @@ use Rattle.grid_model.specs.declared.items.Item.TheVariants as item
 use Rattle.grid_model.specs.declared.messages.Message.TheVariants as message
 use Rattle.grid_model.specs.Documents.{DocumentData}
 use Rattle.grid_model.specs.Histories.{after}
-use Rattle.grid_model.specs.Runs.{IsRun}
+use Rattle.grid_model.specs.Runs.{IsRun, Lawful}
 use Rattle.grid_model.specs.Schedules.{Choice}
 use Rattle.grid_model.specs.Stories.{Unbegun, Lost, Closed, Decided, Reading}
 use Rattle.grid_model.proofs.Plays.{a, b, two_nodes, usual, broken, unfound, unopened, usually, all_open, played-run, request, prepare, phases}
+use Rattle.grid_model.proofs.Unarmed.{no_rise, calm-lawful}
 use Rattle.grid_model.proofs.TransferActs.{copy_script, asks, votes}
 
 -- one vote is taken, and the fuse of n1 is armed
@@ -96,8 +97,8 @@ presumed_abort_acts =
     ∷ act.Ended 1 1 outcome.Abort
     ∷ []
 
-pub presumed_abort-run : IsRun presumed_abort presumed_abort.items presumed_abort_acts
-presumed_abort-run = played-run presumed_abort all_open (usually presumed_abort.items) refl
+pub presumed_abort-lawful : Lawful presumed_abort presumed_abort_acts no_rise
+presumed_abort-lawful = calm-lawful presumed_abort presumed_abort_acts (played-run presumed_abort all_open (usually presumed_abort.items) refl) (λ n. refl) (λ n. refl)
 
 pub presumed_abort-phases : phases presumed_abort (after [] presumed_abort_acts) ≡ Lost ∷ []
 presumed_abort-phases = refl
@@ -130,8 +131,8 @@ void_events_acts =
     ∷ act.Dropped 1
     ∷ []
 
-pub void_events-run : IsRun void_events void_events.items void_events_acts
-void_events-run = played-run void_events all_open (usually void_events.items) refl
+pub void_events-lawful : Lawful void_events void_events_acts no_rise
+void_events-lawful = calm-lawful void_events void_events_acts (played-run void_events all_open (usually void_events.items) refl) (λ n. refl) (λ n. refl)
 
 pub void_events-phases : phases void_events (after [] void_events_acts) ≡ Reading 1 ∷ Unbegun ∷ []
 void_events-phases = refl

@@ -13,9 +13,10 @@ use Rattle.grid_model.specs.declared.items.Item.TheVariants as item
 use Rattle.grid_model.specs.declared.messages.Message.TheVariants as message
 use Rattle.grid_model.specs.Documents.{DocumentData}
 use Rattle.grid_model.specs.Histories.{after}
-use Rattle.grid_model.specs.Runs.{IsRun}
+use Rattle.grid_model.specs.Runs.{Lawful}
 use Rattle.grid_model.specs.Stories.{Closed, Decided, Aborted, Collecting}
 use Rattle.grid_model.proofs.Plays.{a, b, c, two_nodes, usually, all_open, played-run, request, reply, prepare, phases, newest_at}
+use Rattle.grid_model.proofs.Unarmed.{no_rise, calm-lawful}
 
 -- two transactions write the same key at once
 abbrev pub write_conflict : DocumentData
@@ -44,8 +45,8 @@ write_conflict_acts =
     ∷ act.Aborted 2 2 (cause.Holder 1)
     ∷ []
 
-pub write_conflict-run : IsRun write_conflict write_conflict.items write_conflict_acts
-write_conflict-run = played-run write_conflict all_open (usually write_conflict.items) refl
+pub write_conflict-lawful : Lawful write_conflict write_conflict_acts no_rise
+write_conflict-lawful = calm-lawful write_conflict write_conflict_acts (played-run write_conflict all_open (usually write_conflict.items) refl) (λ n. refl) (λ n. refl)
 
 pub write_conflict-phases : phases write_conflict (after [] write_conflict_acts) ≡ Collecting ∷ Aborted ∷ []
 write_conflict-phases = refl
@@ -99,8 +100,8 @@ stale_read_refused_acts =
     ∷ act.Ended 1 1 outcome.Abort
     ∷ []
 
-pub stale_read_refused-run : IsRun stale_read_refused stale_read_refused.items stale_read_refused_acts
-stale_read_refused-run = played-run stale_read_refused all_open (usually stale_read_refused.items) refl
+pub stale_read_refused-lawful : Lawful stale_read_refused stale_read_refused_acts no_rise
+stale_read_refused-lawful = calm-lawful stale_read_refused stale_read_refused_acts (played-run stale_read_refused all_open (usually stale_read_refused.items) refl) (λ n. refl) (λ n. refl)
 
 pub stale_read_refused-phases : phases stale_read_refused (after [] stale_read_refused_acts) ≡ Aborted ∷ Closed 1 ∷ []
 stale_read_refused-phases = refl
@@ -142,8 +143,8 @@ lock_until_applied_acts =
     ∷ act.Sent 8 2 1 (message.Vote 3 (ballot.No (cause.Holder 2)))
     ∷ []
 
-pub lock_until_applied-run : IsRun lock_until_applied lock_until_applied.items lock_until_applied_acts
-lock_until_applied-run = played-run lock_until_applied all_open (usually lock_until_applied.items) refl
+pub lock_until_applied-lawful : Lawful lock_until_applied lock_until_applied_acts no_rise
+lock_until_applied-lawful = calm-lawful lock_until_applied lock_until_applied_acts (played-run lock_until_applied all_open (usually lock_until_applied.items) refl) (λ n. refl) (λ n. refl)
 
 pub lock_until_applied-phases : phases lock_until_applied (after [] lock_until_applied_acts) ≡ Collecting ∷ Decided (record { final = 2; parts = (2 ∷ []) }) ∷ Collecting ∷ []
 lock_until_applied-phases = refl

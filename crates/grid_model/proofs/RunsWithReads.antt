@@ -1,4 +1,4 @@
--- Runs in which a read is held, promised, or served beside equal finals.
+-- Runs of reads: served at once, held, promised over a crash, or behind equal finals.
 use Rattle.std.proofs.Common.{List, [], ◌∷◌, ◌++◌, ◌≡◌, refl, None}
 use Rattle.score_base.specs.declared.causes.Date.TheVariants as date
 use Rattle.score_base.specs.declared.causes.Ballot.TheVariants as ballot
@@ -12,10 +12,64 @@ use Rattle.grid_model.specs.declared.items.Item.TheVariants as item
 use Rattle.grid_model.specs.declared.messages.Message.TheVariants as message
 use Rattle.grid_model.specs.Documents.{DocumentData}
 use Rattle.grid_model.specs.Histories.{after}
-use Rattle.grid_model.specs.Runs.{IsRun}
+use Rattle.grid_model.specs.Runs.{Lawful}
 use Rattle.grid_model.specs.Stories.{Closed, Decided, Answered, Reading, Collecting}
-use Rattle.grid_model.proofs.Plays.{a, b, two_nodes, usually, all_open, played-run, request, reply, prepare, phases}
+use Rattle.grid_model.proofs.Plays.{a, b, two_nodes, usually, all_open, played-run, request, reply, prepare, phases, newest_at}
+use Rattle.grid_model.proofs.Unarmed.{no_rise, calm-lawful}
 use Rattle.grid_model.proofs.TransferActs.{copy_script, asks, votes, decides}
+
+-- nothing is scheduled: the nodes are opened
+abbrev pub empty_schedule : DocumentData
+empty_schedule = record {
+  cluster = two_nodes;
+  scripts = [];
+  items = [];
+}
+
+-- both come up
+abbrev pub empty_schedule_acts : List Act
+empty_schedule_acts =
+    act.Up 1 flag.Untouched
+    ∷ act.Up 2 flag.Untouched
+    ∷ []
+
+pub empty_schedule-lawful : Lawful empty_schedule empty_schedule_acts no_rise
+empty_schedule-lawful = calm-lawful empty_schedule empty_schedule_acts (played-run empty_schedule all_open (usually empty_schedule.items) refl) (λ n. refl) (λ n. refl)
+
+-- one transaction reads `a`; its request and the reply are delivered
+abbrev pub first_read : DocumentData
+first_read = record {
+  cluster = two_nodes;
+  scripts = record { number = 1; home = 1; ops = (op.Read a ∷ []) } ∷ [];
+  items = item.Begin 1 ∷ item.Deliver 1 ∷ item.Deliver 2 ∷ [];
+}
+
+-- the read is served, and the client is told
+abbrev pub first_read_acts : List Act
+first_read_acts =
+    act.Up 1 flag.Untouched
+    ∷ act.Up 2 flag.Untouched
+    ∷ act.Began 1 1 0
+    ∷ act.Sent 1 1 2 (request 1 1 a (date.First 0))
+    ∷ act.Got 1
+    ∷ act.Served 2 1 1 a 0 0 10
+    ∷ act.Sent 2 2 1 (reply 1 1 0 10)
+    ∷ act.Got 2
+    ∷ act.Taken 1 1 0 10
+    ∷ act.Finished 1
+    ∷ []
+
+pub first_read-lawful : Lawful first_read first_read_acts no_rise
+first_read-lawful = calm-lawful first_read first_read_acts (played-run first_read all_open (usually first_read.items) refl) (λ n. refl) (λ n. refl)
+
+pub first_read-phases : phases first_read (after [] first_read_acts) ≡ Answered ∷ []
+first_read-phases = refl
+
+pub first_read-a_at_2 : newest_at first_read (after [] first_read_acts) 2 a ≡ (10, 0)
+first_read-a_at_2 = refl
+
+pub first_read-b_at_1 : newest_at first_read (after [] first_read_acts) 1 b ≡ (0, 0)
+first_read-b_at_1 = refl
 
 -- a read comes to a node at which a transaction is pending
 abbrev pub held_read : DocumentData
@@ -59,8 +113,8 @@ held_read_acts =
     ∷ act.Finished 2
     ∷ []
 
-pub held_read-run : IsRun held_read held_read.items held_read_acts
-held_read-run = played-run held_read all_open (usually held_read.items) refl
+pub held_read-lawful : Lawful held_read held_read_acts no_rise
+held_read-lawful = calm-lawful held_read held_read_acts (played-run held_read all_open (usually held_read.items) refl) (λ n. refl) (λ n. refl)
 
 pub held_read-phases : phases held_read (after [] held_read_acts) ≡ Decided (record { final = 1; parts = (1 ∷ 2 ∷ []) }) ∷ Answered ∷ []
 held_read-phases = refl
@@ -108,8 +162,8 @@ ceiling_after_crash_acts =
     ∷ act.Sent 8 2 1 (message.Vote 3 (ballot.Yes 65))
     ∷ []
 
-pub ceiling_after_crash-run : IsRun ceiling_after_crash ceiling_after_crash.items ceiling_after_crash_acts
-ceiling_after_crash-run = played-run ceiling_after_crash all_open (usually ceiling_after_crash.items) refl
+pub ceiling_after_crash-lawful : Lawful ceiling_after_crash ceiling_after_crash_acts no_rise
+ceiling_after_crash-lawful = calm-lawful ceiling_after_crash ceiling_after_crash_acts (played-run ceiling_after_crash all_open (usually ceiling_after_crash.items) refl) (λ n. refl) (λ n. refl)
 
 pub ceiling_after_crash-phases : phases ceiling_after_crash (after [] ceiling_after_crash_acts) ≡ Closed 1 ∷ Reading 1 ∷ Collecting ∷ []
 ceiling_after_crash-phases = refl
@@ -171,8 +225,8 @@ equal_finals_acts =
     ∷ act.Finished 3
     ∷ []
 
-pub equal_finals-run : IsRun equal_finals equal_finals.items equal_finals_acts
-equal_finals-run = played-run equal_finals all_open (usually equal_finals.items) refl
+pub equal_finals-lawful : Lawful equal_finals equal_finals_acts no_rise
+equal_finals-lawful = calm-lawful equal_finals equal_finals_acts (played-run equal_finals all_open (usually equal_finals.items) refl) (λ n. refl) (λ n. refl)
 
 pub equal_finals-phases : phases equal_finals (after [] equal_finals_acts) ≡ Closed 1 ∷ Closed 1 ∷ Answered ∷ []
 equal_finals-phases = refl

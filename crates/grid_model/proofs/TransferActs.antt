@@ -1,5 +1,5 @@
 -- The acts of one transaction that reads `a` on n2 and writes `b` on n1, in stages.
-use Rattle.std.proofs.Common.{List, [], ◌∷◌}
+use Rattle.std.proofs.Common.{List, [], ◌∷◌, ◌++◌}
 use Rattle.score_base.specs.declared.causes.Date.TheVariants as date
 use Rattle.score_base.specs.declared.causes.Ballot.TheVariants as ballot
 use Rattle.score_base.specs.declared.causes.Outcome.TheVariants as outcome
@@ -17,14 +17,24 @@ use Rattle.grid_model.proofs.Plays.{a, b, request, reply, prepare}
 abbrev pub copy_script : ScriptData
 copy_script = record { number = 1; home = 1; ops = (op.Read a ∷ op.Write b (record { first = atom.Key a; steps = (step.Add (atom.Number 1) ∷ []) }) ∷ []) }
 
--- both nodes are opened; the read, and a Prepare to each part
-abbrev pub asks : List Act
-asks =
+-- both nodes are opened
+abbrev pub opened : List Act
+opened =
     act.Up 1 flag.Untouched
     ∷ act.Up 2 flag.Untouched
-    ∷ act.Began 1 1 0
+    ∷ []
+
+-- it asks for `a`
+abbrev pub begins : List Act
+begins =
+    act.Began 1 1 0
     ∷ act.Sent 1 1 2 (request 1 1 a (date.First 0))
-    ∷ act.Got 1
+    ∷ []
+
+-- the read is served and taken, and a Prepare goes to each part
+abbrev pub reads : List Act
+reads =
+    act.Got 1
     ∷ act.Served 2 1 1 a 0 0 10
     ∷ act.Sent 2 2 1 (reply 1 1 0 10)
     ∷ act.Got 2
@@ -32,6 +42,10 @@ asks =
     ∷ act.Sent 3 1 1 (prepare 1 0 (1 ∷ 2 ∷ []) [] ((b, 11) ∷ []))
     ∷ act.Sent 4 1 2 (prepare 1 0 (1 ∷ 2 ∷ []) (a ∷ []) [])
     ∷ []
+
+-- all of this
+abbrev pub asks : List Act
+asks = opened ++ (begins ++ reads)
 
 -- both parts vote yes
 abbrev pub votes : List Act
