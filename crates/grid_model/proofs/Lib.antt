@@ -1,6 +1,7 @@
 pub mod Places
 pub mod Shows
 pub mod FirstOpen
+pub mod FirstWaiting
 pub mod OneHistory
 pub mod Plays
 pub mod TransferActs
