@@ -5,4 +5,14 @@ pub mod Shows
 pub mod FirstOpen
 pub mod FirstWaiting
 pub mod OneHistory
-pub mod Examples
+pub mod Plays
+pub mod TransferActs
+pub mod RunsThatCommit
+pub mod RunsOnThreeNodes
+pub mod RunsWithConflicts
+pub mod RunsWithReads
+pub mod RunsThatStop
+pub mod Unarmed
+pub mod LawfulStops
+pub mod Fitting
+pub mod ViewsOnTheWay
