@@ -6,3 +6,4 @@ pub mod Examples
 pub mod KeyLists
 pub mod Fits
 pub mod Pairs
+pub mod Once
