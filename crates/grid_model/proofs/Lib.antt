@@ -7,3 +7,7 @@ pub mod KeyLists
 pub mod Fits
 pub mod Pairs
 pub mod Once
+pub mod Pendings
+pub mod Floors
+pub mod Applied
+pub mod Bests
