@@ -11,3 +11,5 @@ pub mod Pendings
 pub mod Floors
 pub mod Applied
 pub mod Bests
+pub mod Stands
+pub mod Readable
