@@ -13,3 +13,5 @@ pub mod Applied
 pub mod Bests
 pub mod Stands
 pub mod Readable
+pub mod Locks
+pub mod Conflicts
