@@ -1,10 +1,7 @@
 pub mod Newest
 pub mod Removed
 pub mod Places
-pub mod Shows
-pub mod FirstOpen
 pub mod FirstWaiting
-pub mod OneHistory
 pub mod Plays
 pub mod TransferActs
 pub mod RunsThatCommit
@@ -16,3 +13,15 @@ pub mod Unarmed
 pub mod LawfulStops
 pub mod Fitting
 pub mod ViewsOnTheWay
+pub mod KeyLists
+pub mod Fits
+pub mod Pairs
+pub mod Once
+pub mod Pendings
+pub mod Floors
+pub mod Applied
+pub mod Bests
+pub mod Stands
+pub mod Readable
+pub mod Locks
+pub mod Conflicts
