@@ -1,3 +1,4 @@
 pub mod Exprs
+pub mod Values
 pub mod Scripts
 pub mod Reads

@@ -8,7 +8,9 @@
 mod exprs;
 mod reads;
 mod scripts;
+mod values;
 
 pub use exprs::{Atom, Expr, Step, StepList};
-pub use reads::{is_named, is_update, key_of};
+pub use reads::{is_named, is_update, key_of, keys, read_keys, write_keys};
 pub use scripts::{Op, OpList, Script, ScriptDraft};
+pub use values::{Reads, eval};
