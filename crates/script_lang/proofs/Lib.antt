@@ -1,3 +1,4 @@
 pub mod Sound
 pub mod Entries
 pub mod Seen
+pub mod ReadSteps

@@ -20,6 +20,12 @@ abbrev pub keys_named : List Op → List Key
 keys_named [] = []
 keys_named (o ∷ ops) = key_of o ∷ keys_named ops
 
+-- the keys that a read among these operations names
+abbrev pub known_keys : List Op → List Key
+known_keys [] = []
+known_keys (op.Read k ∷ ops) = k ∷ known_keys ops
+known_keys (op.Write k e ∷ ops) = known_keys ops
+
 -- the key, unless it is among these
 abbrev pub unless_among : List Key → Key → List Key
 unless_among seen k = if is_key_among k seen then [] else (k ∷ [])

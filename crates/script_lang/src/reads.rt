@@ -1,5 +1,5 @@
-ghost use Rattle.std.specs.Prelude.{◌≡◌, ◌++◌, [], IfOk, OnOk};
-ghost use Rattle.script_lang.specs.Reads.{key_of, keys_named, is_key_among, is_update, unless_among, keys_of, remote_key, remote_keys, written_key, written_keys};
+ghost use Rattle.std.specs.Prelude.{◌≡◌, ◌++◌, ◌∷◌, [], IfOk, OnOk};
+ghost use Rattle.script_lang.specs.Reads.{key_of, keys_named, is_key_among, is_update, known_keys, unless_among, keys_of, remote_key, remote_keys, written_key, written_keys};
 
 use crate::scripts::{Op, Script};
 use score_base::{Key, KeyList, Memory};
@@ -25,6 +25,27 @@ pub fn is_named(key: Key, ops: &[Op]) -> bool
         }
     }
     false
+}
+
+/// Whether a read among these operations names the key.
+pub fn is_known(key: Key, ops: &[Op]) -> bool
+    ensures { result ≡ is_key_among key (known_keys ops.now) }
+{
+    for op in ops {
+        if is_read_of(key, op) {
+            return true;
+        }
+    }
+    false
+}
+
+fn is_read_of(key: Key, op: &Op) -> bool
+    ensures { result ≡ is_key_among key (known_keys (op.now ∷ [])) }
+{
+    match op {
+        Op::Read(read) => key == *read,
+        Op::Write(_, _) => false,
+    }
 }
 
 /// Whether an operation is a write.
