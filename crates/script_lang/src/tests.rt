@@ -1,5 +1,5 @@
 use super::*;
-use score_base::{Key, KeyList, Memory, TryCopy, Value};
+use score_base::{Key, Memory, TryCopy, Value};
 use std::alloc::Global;
 use std::test::Fail;
 
@@ -97,7 +97,7 @@ fn keys_of_a_script(rt: HostRuntime) -> Result<(), Fail> {
             assert_eq!(rt; read_keys(rt.alloc(), &copy)?.len(), 1);
             assert_eq!(rt; write_keys(rt.alloc(), &copy)?.len(), 2);
         }
-        Err(_) => return Err(Fail),
+        Err(_) => return Err(Fail::new("no script")),
     }
     Ok(())
 }
