@@ -25,7 +25,7 @@ use Rattle.cluster_file.specs.declared.drafts.Draft.{Draft}
 use Rattle.cluster_file.specs.declared.drafts.Part.{Part}
 use Rattle.cluster_file.specs.declared.drafts.Part.TheVariants as part
 use Rattle.cluster_file.specs.Reading.{is_word, word_at, end_at, number_at, in_range, steps}
-use Rattle.cluster_file.specs.Lines.{node_of, node_in, key_of, tx_of, is_known, is_taken, with_key, name_key, name_new_key, new_number, known_number, nodes_line, new_node, node_step, is_next, partition_line, init_line, tx_line, read_line, end_line, schedule_line, with_item, begin_line, deliver_line, script_line, later_line, init_or_later, is_later_item, item_line, part_line, line_in, words_line, is_printed, line_of}
+use Rattle.cluster_file.specs.Lines.{node_of, node_in, key_of, tx_of, is_known, is_taken, with_key, name_key, name_new_key, new_number, known_number, nodes_line, new_node, node_step, is_next, partition_line, init_line, tx_line, read_line, end_line, schedule_line, with_item, begin_line, deliver_line, drop_line, more_events, next_line, script_line, later_line, init_or_later, is_later_item, item_line, part_line, line_in, words_line, is_printed, line_of}
 use Rattle.cluster_file.specs.Doc.{close, is_whole, pieces_from, at_line, blank, document_of}
 use Rattle.cluster_file.proofs.Bools.{and_parts}
 use Rattle.cluster_file.proofs.Members.{among_numbers, among_keys, distinct_more}
@@ -130,11 +130,11 @@ plan_none nodes ts us items events none h = record {
   few = h.few;
 }
 
-plan_item : (nodes : ℕ) (ts : List TxId) (items : List Item) (events : ℕ) (i : Item) → IsPlan nodes ts items events → is_item nodes ts i ≡ true → events_of i ≡ 1 → nat_le 50000 events ≡ false → IsPlan nodes ts (items ++ i ∷ []) (events + 1)
-plan_item nodes ts items events i h ok one room = record {
+plan_item : (nodes : ℕ) (ts : List TxId) (items : List Item) (events : ℕ) (i : Item) → IsPlan nodes ts items events → is_item nodes ts i ≡ true → events + events_of i ≤ 50000 → IsPlan nodes ts (items ++ i ∷ []) (events + events_of i)
+plan_item nodes ts items events i h ok room = record {
   each = all_last (is_item nodes ts) items i h.each ok;
-  counted = omega (arith, h.counted, one, sum_by_push events_of items i);
-  few = grind (arith, nat_tests, room);
+  counted = omega (arith, h.counted, sum_by_push events_of items i);
+  few = room;
 }
 
 no_script : (ss : List ScriptData) (o : Option ScriptData) → o ≡ None → ss ++ opened o ≡ ss
@@ -231,24 +231,44 @@ init_or_later_keeps d w ws h ss none items some = either (is_word w (codes "init
 abbrev planned : Draft → Draft
 planned d = record d { script = None; part = part.Items }
 
-item_keeps : (d : Draft) (i : Item) → IsBegun (planned d) → is_item d.nodes (script_numbers (d.scripts ++ [])) i ≡ true → events_of i ≡ 1 → nat_le 50000 d.events ≡ false → IsBegun (with_item (planned d) i 1)
-item_keeps d i h ok one room = record {
+item_keeps : (d : Draft) (i : Item) → IsBegun (planned d) → is_item d.nodes (script_numbers (d.scripts ++ [])) i ≡ true → d.events + events_of i ≤ 50000 → IsBegun (with_item (planned d) i (events_of i))
+item_keeps d i h ok room = record {
   head = h.head;
   named = h.named;
-  plan = plan_item d.nodes (script_numbers (d.scripts ++ [])) d.items d.events i h.plan ok one room;
+  plan = plan_item d.nodes (script_numbers (d.scripts ++ [])) d.items d.events i h.plan ok room;
   stage = h.stage;
 }
 
+one_more : (events : ℕ) → nat_le 50000 events ≡ false → events + 1 ≤ 50000
+one_more events room = grind (arith, nat_tests, room)
+
+is_count : (c : ℕ) → 1 ≤ c → c ≤ 50000 → (nat_le 1 c && nat_le c 50000) ≡ true
+is_count c low high =
+    let least : nat_le 1 c ≡ true = grind (arith, nat_tests, low) in
+    let most : nat_le c 50000 ≡ true = grind (arith, nat_tests, high) in
+    rw (least, most) refl
+
 begin_keeps : (d : Draft) (ws : List (List ℕ)) → IsBegun (planned d) → IfOk (begin_line (planned d) ws) IsBegun
 unfolding begin_line
-begin_keeps d ws h = either (nat_le 50000 d.events) _ _ _ (λ e. tt) (λ room. then (word_at ws) _ _ (λ w. then (tx_of w.0) _ _ (λ t. behind (known_number d.numbers t) _ (λ _. is_taken d.numbers t ≡ true) _ (either (is_taken d.numbers t) _ _ _ (λ e. e) (λ e. tt)) (λ z known. then (end_at w.1) _ _ (λ _. item_keeps d (item.Begin t) h (sym (among_numbers t (script_numbers (d.scripts ++ []))) ∙ ap (list_any (λ u. u == t)) (sym h.named.taken) ∙ known) refl room)))))
+begin_keeps d ws h = either (nat_le 50000 d.events) _ _ _ (λ e. tt) (λ room. then (word_at ws) _ _ (λ w. then (tx_of w.0) _ _ (λ t. behind (known_number d.numbers t) _ (λ _. is_taken d.numbers t ≡ true) _ (either (is_taken d.numbers t) _ _ _ (λ e. e) (λ e. tt)) (λ z known. then (end_at w.1) _ _ (λ _. item_keeps d (item.Begin t) h (sym (among_numbers t (script_numbers (d.scripts ++ []))) ∙ ap (list_any (λ u. u == t)) (sym h.named.taken) ∙ known) (one_more d.events room))))))
 
 deliver_keeps : (d : Draft) (ws : List (List ℕ)) → IsBegun (planned d) → IfOk (deliver_line (planned d) ws) IsBegun
 unfolding deliver_line
-deliver_keeps d ws h = either (nat_le 50000 d.events) _ _ _ (λ e. tt) (λ room. then (number_at ws) _ _ (λ n. behind (in_range 1 4294967295 n.0) _ _ _ (in_range_keeps 1 4294967295 n.0) (λ m low. then (end_at n.1) _ _ (λ _. item_keeps d (item.Deliver m) h (grind (arith, nat_tests, low.0)) refl room))))
+deliver_keeps d ws h = either (nat_le 50000 d.events) _ _ _ (λ e. tt) (λ room. then (number_at ws) _ _ (λ n. behind (in_range 1 4294967295 n.0) _ _ _ (in_range_keeps 1 4294967295 n.0) (λ m low. then (end_at n.1) _ _ (λ _. item_keeps d (item.Deliver m) h (grind (arith, nat_tests, low.0)) (one_more d.events room)))))
+
+drop_keeps : (d : Draft) (ws : List (List ℕ)) → IsBegun (planned d) → IfOk (drop_line (planned d) ws) IsBegun
+unfolding drop_line
+drop_keeps d ws h = either (nat_le 50000 d.events) _ _ _ (λ e. tt) (λ room. then (number_at ws) _ _ (λ n. behind (in_range 1 4294967295 n.0) _ _ _ (in_range_keeps 1 4294967295 n.0) (λ m low. then (end_at n.1) _ _ (λ _. item_keeps d (item.Drop m) h (grind (arith, nat_tests, low.0)) (one_more d.events room)))))
+
+more_events_keeps : (events c : ℕ) → IfOk (more_events events c) (λ _. events + c ≤ 50000)
+more_events_keeps events c = either (nat_le (events + c) 50000) _ _ _ (λ e. grind (arith, nat_tests, e)) (λ e. tt)
+
+next_keeps : (d : Draft) (ws : List (List ℕ)) → IsBegun (planned d) → IfOk (next_line (planned d) ws) IsBegun
+unfolding next_line
+next_keeps d ws h = then (number_at ws) _ _ (λ n. behind (in_range 1 50000 n.0) _ _ _ (in_range_keeps 1 50000 n.0) (λ c low. behind (more_events d.events c) _ _ _ (more_events_keeps d.events c) (λ z room. then (end_at n.1) _ _ (λ _. item_keeps d (item.Next c) h (is_count c low.0 low.1) room))))
 
 item_line_keeps : (d : Draft) (w : List ℕ) (ws : List (List ℕ)) → IsBegun (planned d) → IfOk (item_line (planned d) w ws) IsBegun
-item_line_keeps d w ws h = either (is_word w (codes "begin")) _ _ _ (λ e. begin_keeps d ws h) (λ e. either (is_word w (codes "deliver")) _ _ _ (λ e. deliver_keeps d ws h) (λ e. either (is_later_item w) _ _ _ (λ e. tt) (λ e. tt)))
+item_line_keeps d w ws h = either (is_word w (codes "begin")) _ _ _ (λ e. begin_keeps d ws h) (λ e. either (is_word w (codes "deliver")) _ _ _ (λ e. deliver_keeps d ws h) (λ e. either (is_word w (codes "drop")) _ _ _ (λ e. drop_keeps d ws h) (λ e. either (is_word w (codes "next")) _ _ _ (λ e. next_keeps d ws h) (λ e. either (is_later_item w) _ _ _ (λ e. tt) (λ e. tt)))))
 
 part_keeps : (p : Part) (d : Draft) (w : List ℕ) (ws : List (List ℕ)) → IsBegun (record d { script = None; part = p }) → IfOk (part_line p (record d { script = None; part = p }) w ws) IsBegun
 part_keeps part.Start d w ws h = absurd h.stage
