@@ -148,12 +148,12 @@ nodes_keeps ws = then (number_at ws) _ _ (λ n. behind (in_range 1 16 n.0) _ _ _
   head = record { least = h.0; most = h.1; few = omega arith; each = refl; within = refl };
   named = record { fresh = refl; few = omega arith; distinct = refl; homes = refl; ordered = refl; few_keys = omega arith; taken = refl };
   plan = record { each = refl; counted = refl; few = omega arith };
-  stage = (refl, refl, refl);
+  stage = (refl, refl, refl, refl);
 })))
 
-partition_keeps : (d : Draft) (ws : List (List ℕ)) → IsBegun d → d.scripts ≡ [] → d.script ≡ None → d.items ≡ [] → IfOk (partition_line d ws) IsBegun
+partition_keeps : (d : Draft) (ws : List (List ℕ)) → IsBegun d → d.scripts ≡ [] → d.script ≡ None → d.items ≡ [] → d.inits ≡ [] → IfOk (partition_line d ws) IsBegun
 unfolding partition_line
-partition_keeps d ws h ss none items = either (nat_le 64 (length d.places)) _ _ _ (λ e. tt) (λ room. then (number_at ws) _ _ (λ i. behind (is_next (length d.places) i.0 i.1) _ _ _ (is_next_keeps (length d.places) i.0 i.1) (λ z some. behind (steps (node_step d.nodes) [] i.1) _ _ _ (steps_keep d.nodes [] i.1 (record { distinct = refl; within = refl }) (omega (arith, some))) (λ ns k.
+partition_keeps d ws h ss none items bare = either (nat_le 64 (length d.places)) _ _ _ (λ e. tt) (λ room. then (number_at ws) _ _ (λ i. behind (is_next (length d.places) i.0 i.1) _ _ _ (is_next_keeps (length d.places) i.0 i.1) (λ z some. behind (steps (node_step d.nodes) [] i.1) _ _ _ (steps_keep d.nodes [] i.1 (record { distinct = refl; within = refl }) (omega (arith, some))) (λ ns k.
     let long : length (d.places ++ ns ∷ []) ≡ length d.places + 1 = length-append d.places (ns ∷ []) in
     let less : length d.places < 64 = grind (arith, nat_tests, room) in
     let least : nat_le 1 (length ns) ≡ true = grind (arith, nat_tests, k.1) in
@@ -162,7 +162,7 @@ partition_keeps d ws h ss none items = either (nat_le 64 (length d.places)) _ _ 
       head = record { least = h.head.least; most = h.head.most; few = omega (arith, long, less); each = all_last is_partition d.places ns h.head.each one; within = all_last (list_all (λ n. nat_le n d.nodes)) d.places ns h.head.within k.0.within };
       named = h.named;
       plan = h.plan;
-      stage = (ss, none, items, omega (arith, long));
+      stage = (ss, none, items, bare, omega (arith, long));
     }))))
 
 init_keeps : (d : Draft) (ws : List (List ℕ)) → IsBegun d → d.scripts ≡ [] → d.script ≡ None → d.items ≡ [] → 1 ≤ length d.places → IfOk (init_line d ws) IsBegun
@@ -272,8 +272,8 @@ item_line_keeps d w ws h = either (is_word w (codes "begin")) _ _ _ (λ e. begin
 
 part_keeps : (p : Part) (d : Draft) (w : List ℕ) (ws : List (List ℕ)) → IsBegun (record d { script = None; part = p }) → IfOk (part_line p (record d { script = None; part = p }) w ws) IsBegun
 part_keeps part.Start d w ws h = absurd h.stage
-part_keeps part.Nodes d w ws h = either (is_word w (codes "partition")) _ _ _ (λ e. partition_keeps (record d { script = None; part = part.Nodes }) ws h h.stage.0 h.stage.1 h.stage.2) (λ e. tt)
-part_keeps part.Partitions d w ws h = either (is_word w (codes "partition")) _ _ _ (λ e. partition_keeps (record d { script = None; part = part.Partitions }) ws h h.stage.0 h.stage.1 h.stage.2) (λ e. init_or_later_keeps (record d { script = None; part = part.Partitions }) w ws h h.stage.0 h.stage.1 h.stage.2 h.stage.3)
+part_keeps part.Nodes d w ws h = either (is_word w (codes "partition")) _ _ _ (λ e. partition_keeps (record d { script = None; part = part.Nodes }) ws h h.stage.0 h.stage.1 h.stage.2 h.stage.3) (λ e. tt)
+part_keeps part.Partitions d w ws h = either (is_word w (codes "partition")) _ _ _ (λ e. partition_keeps (record d { script = None; part = part.Partitions }) ws h h.stage.0 h.stage.1 h.stage.2 h.stage.3) (λ e. init_or_later_keeps (record d { script = None; part = part.Partitions }) w ws h h.stage.0 h.stage.1 h.stage.2 h.stage.4)
 part_keeps part.Inits d w ws h = init_or_later_keeps (record d { script = None; part = part.Inits }) w ws h h.stage.0 h.stage.1 h.stage.2 h.stage.3
 part_keeps part.Scripts d w ws h = later_keeps (record d { script = None; part = part.Scripts }) w ws h refl h.stage.0 h.stage.1
 part_keeps part.Items d w ws h = item_line_keeps d w ws h
@@ -295,17 +295,18 @@ blank_words_keep : (ws : List (List ℕ)) → IfOk (words_line blank ws) IsBegun
 blank_words_keep [] = tt
 blank_words_keep (w ∷ ws) = either (is_word w (codes "nodes")) _ _ _ (λ e. nodes_keeps ws) (λ e. tt)
 
-line_keeps : (d : Draft) (line : List ℕ) → IsBegun d → IfOk (line_of d line) IsBegun
+pub line_keeps : (d : Draft) (line : List ℕ) → IsBegun d → IfOk (line_of d line) IsBegun
 unfolding line_of
 line_keeps d line h = either (list_all is_printed line) _ _ _ (λ e. words_keep d (slice_split (λ b. b == 32) line) h) (λ e. tt)
 
-blank_line_keeps : (line : List ℕ) → IfOk (line_of blank line) IsBegun
+pub blank_line_keeps : (line : List ℕ) → IfOk (line_of blank line) IsBegun
 unfolding line_of
 blank_line_keeps line = either (list_all is_printed line) _ _ _ (λ e. blank_words_keep (slice_split (λ b. b == 32) line)) (λ e. tt)
 
 -- The whole text.
 
-record IsWhole (d : Draft) : Type 0 where
+-- what was read to the end
+pub record IsWhole (d : Draft) : Type 0 where
   pub begun : IsBegun d
   pub ended : d.part ≡ part.Items
 
@@ -328,7 +329,7 @@ unfolding pieces_from
 pieces_keep d n [] h = tt
 pieces_keep d n (x ∷ xs) h = either (length xs == 0) _ _ _ (λ e. numbered n (close d x) IsWhole (close_keeps d x h)) (λ e. below (at_line n (line_of d x)) _ IsBegun _ (numbered n (line_of d x) IsBegun (line_keeps d x h)) (λ f k. pieces_keep f (n + 1) xs k))
 
-blank_pieces_keep : (n : ℕ) (xs : List (List ℕ)) → IfOk (pieces_from blank n xs) IsWhole
+pub blank_pieces_keep : (n : ℕ) (xs : List (List ℕ)) → IfOk (pieces_from blank n xs) IsWhole
 unfolding pieces_from
 blank_pieces_keep n [] = tt
 blank_pieces_keep n (x ∷ xs) = either (length xs == 0) _ _ _ (λ e. numbered n (close blank x) IsWhole (blank_close_keeps x)) (λ e. below (at_line n (line_of blank x)) _ IsBegun _ (numbered n (line_of blank x) IsBegun (blank_line_keeps x)) (λ f k. pieces_keep f (n + 1) xs k))
@@ -336,7 +337,7 @@ blank_pieces_keep n (x ∷ xs) = either (length xs == 0) _ _ _ (λ e. numbered n
 IsDocument-from_whole : (d : Draft) → IsWhole d → IsDocument (document_of d)
 IsDocument-from_whole d w =
     let h = w.begun in
-    let stage : (d.script ≡ None) × (1 ≤ length d.places) = subst (λ p. IsStage p d.places d.scripts d.script d.items) w.ended h.stage in
+    let stage : (d.script ≡ None) × (1 ≤ length d.places) = subst (λ p. IsStage p d.places d.inits d.scripts d.script d.items) w.ended h.stage in
     let all : all_scripts d ≡ d.scripts = no_script d.scripts d.script stage.0 in
     let named : IsNamed d.nodes d.inits d.scripts d.known.keys d.numbers.keys = subst (λ l. IsNamed d.nodes d.inits l d.known.keys d.numbers.keys) all h.named in
     let plan : IsPlan d.nodes (script_numbers d.scripts) d.items d.events = subst (λ l. IsPlan d.nodes (script_numbers l) d.items d.events) all h.plan in

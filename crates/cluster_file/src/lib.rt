@@ -8,6 +8,7 @@
 
 mod documents;
 mod drafts;
+mod laws;
 mod lines;
 #[cfg(test)]
 mod tests;
@@ -15,4 +16,5 @@ mod whys;
 mod words;
 
 pub use documents::read_document;
+pub use laws::law_one_spelling;
 pub use whys::{DocEnd, Refusal};

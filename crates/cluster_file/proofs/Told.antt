@@ -1,0 +1,280 @@
+-- Whatever is read is the words of its spelling.
+use Rattle.std.proofs.Common.{◌≡◌, ℕ, ◌+◌, ◌<◌, ◌≤◌, true, false, ◌&&◌, ◌==◌, List, [], ◌∷◌, ◌++◌, length, nat_le, Bool, cond, Option, Some, None, Result, Ok, Err, IfOk, refl, sym, ap, ◌∙◌, subst, map, append_assoc, arith, codes}
+use Rattle.std.specs.Cmp.Lexicographic.{bytes_decides}
+use Rattle.std.specs.Fmt.{decimal}
+use Rattle.std.specs.List.{list_any, flat_map}
+use Rattle.std.proofs.lemmas.Bool.Decides.{nat_tests}
+use Rattle.std.proofs.lemmas.Grind.{flat_map-append}
+use Rattle.std.proofs.lemmas.List.{append-nil, map-append}
+use Rattle.score_base.specs.declared.ids.NodeId.{NodeId}
+use Rattle.score_base.specs.Keys.{is_key}
+use Rattle.score_base.specs.Numbers.{number}
+use Rattle.score_base.proofs.Spelling.{decimal-number}
+use Rattle.script_lang.specs.Scripts.{ScriptData}
+use Rattle.script_lang.specs.declared.scripts.Op.TheVariants as op
+use Rattle.grid_model.specs.declared.items.Item.{Item}
+use Rattle.grid_model.specs.declared.items.Item.TheVariants as item
+use Rattle.cluster_file.specs.declared.drafts.Draft.{Draft}
+use Rattle.cluster_file.specs.declared.drafts.Part.{Part}
+use Rattle.cluster_file.specs.declared.drafts.Part.TheVariants as part
+use Rattle.cluster_file.specs.Reading.{◌>>=◌, is_word, word_at, end_at, or_why, number_at, in_range, steps}
+use Rattle.cluster_file.specs.Lines.{node_of, node_in, key_of, tx_of, tx_in, name_key, name_new_key, new_number, known_number, nodes_line, new_node, node_step, is_next, partition_line, init_line, tx_line, read_line, end_line, schedule_line, with_item, begin_line, deliver_line, drop_line, more_events, next_line, script_line, later_line, init_or_later, is_later_item, item_line, part_line, line_in, words_line}
+use Rattle.cluster_file.specs.Doc.{blank}
+use Rattle.cluster_file.specs.Spelling.{node_word, nodes_words, partition_words, init_words, tx_words, op_words, item_words, partition_lines, script_lines}
+use Rattle.cluster_file.proofs.Steps.{behind, then, either}
+use Rattle.cluster_file.proofs.SoFar.{IsStage, IsBegun}
+
+-- The words.
+
+word_told : (ws : List (List ℕ)) → IfOk (word_at ws) (λ x. ws ≡ x.0 ∷ x.1)
+word_told [] = tt
+word_told (w ∷ ws) = refl
+
+end_told : (ws : List (List ℕ)) → IfOk (end_at ws) (λ _. ws ≡ [])
+end_told [] = refl
+end_told (w ∷ ws) = tt
+
+number_told : (ws : List (List ℕ)) → IfOk (number_at ws) (λ x. ws ≡ decimal x.0 ∷ x.1)
+unfolding number_at
+number_told [] = tt
+number_told (w ∷ ws) = by (number w) refl
+  where
+    by : (o : Option ℕ) → number w ≡ o → IfOk {T = ℕ × List (List ℕ)} (or_why 2 o >>= λ n. Ok (n, ws)) (λ x. w ∷ ws ≡ decimal x.0 ∷ x.1)
+    by None e = tt
+    by (Some n) e = ap (λ v. v ∷ ws) (decimal-number w n e)
+
+in_range_told : (low high n : ℕ) → IfOk (in_range low high n) (λ m. m ≡ n)
+in_range_told low high n = either (nat_le low n && nat_le n high) _ _ _ (λ e. refl) (λ e. tt)
+
+node_told : (nodes : ℕ) (w : List ℕ) → IfOk (node_of nodes w) (λ n. w ≡ node_word n)
+node_told nodes [] = tt
+node_told nodes (b ∷ bs) = either (b == 110) _ _ _ (λ e. by (number bs) refl (grind (arith, nat_tests, e))) (λ e. tt)
+  where
+    by : (o : Option ℕ) → number bs ≡ o → b ≡ 110 → IfOk (node_in nodes o) (λ n. b ∷ bs ≡ node_word n)
+    by None e f = tt
+    by (Some n) e f = either (nat_le 1 n && nat_le n nodes) _ _ _ (λ _. let same : bs ≡ decimal n = decimal-number bs n e in rw (f, same) refl) (λ _. tt)
+
+key_told : (w : List ℕ) → IfOk (key_of w) (λ k. w ≡ k)
+key_told w = either (is_key w) _ _ _ (λ e. refl) (λ e. tt)
+
+tx_told : (w : List ℕ) → IfOk (tx_of w) (λ t. w ≡ decimal t)
+tx_told w = by (number w) refl
+  where
+    by : (o : Option ℕ) → number w ≡ o → IfOk (tx_in o) (λ t. w ≡ decimal t)
+    by None e = tt
+    by (Some t) e = either (nat_le 1 t && nat_le t 65535) _ _ _ (λ _. decimal-number w t e) (λ _. tt)
+
+node_step_told : (nodes : ℕ) (ns : List NodeId) (w : List ℕ) → IfOk (node_step nodes ns w) (λ ms. map node_word ms ≡ map node_word ns ++ w ∷ [])
+unfolding node_step
+node_step_told nodes ns w = behind (node_of nodes w) _ _ _ (node_told nodes w) (λ n e. then (new_node ns n) _ _ (λ _. map-append node_word ns (n ∷ []) ∙ ap (λ v. map node_word ns ++ v ∷ []) (sym e)))
+
+nodes_told : (nodes : ℕ) (ns : List NodeId) (ws : List (List ℕ)) → IfOk (steps (node_step nodes) ns ws) (λ ms. map node_word ms ≡ map node_word ns ++ ws)
+unfolding steps
+nodes_told nodes ns [] = sym (append-nil (map node_word ns))
+nodes_told nodes ns (w ∷ ws) = behind (node_step nodes ns w) _ _ _ (node_step_told nodes ns w) (λ ms e. weaker (steps (node_step nodes) ms ws) (nodes_told nodes ms ws) (ap (λ l. l ++ ws) e ∙ append_assoc (map node_word ns) (w ∷ []) ws))
+  where
+    weaker : {a b : List (List ℕ)} (m : Result (List NodeId) ℕ) → IfOk m (λ ks. map node_word ks ≡ a) → a ≡ b → IfOk m (λ ks. map node_word ks ≡ b)
+    weaker (Ok x) h e = h ∙ e
+    weaker (Err w) h e = tt
+
+-- The lines of what was read.
+
+abbrev pub open_lines : Option ScriptData → List (List (List ℕ))
+open_lines None = []
+open_lines (Some s) = tx_words s ∷ map op_words s.ops
+
+abbrev pub schedule_lines : Part → List Item → List (List (List ℕ))
+schedule_lines part.Start items = []
+schedule_lines part.Nodes items = []
+schedule_lines part.Partitions items = []
+schedule_lines part.Inits items = []
+schedule_lines part.Scripts items = []
+schedule_lines part.Items items = (codes "schedule" ∷ []) ∷ map item_words items
+
+-- the lines that were read, the first at least
+abbrev pub lines_so_far : Draft → List (List (List ℕ))
+lines_so_far d =
+    nodes_words d.nodes ∷ (partition_lines 0 d.places ++ (map init_words d.inits
+    ++ (flat_map script_lines d.scripts ++ (open_lines d.script ++ schedule_lines d.part d.items))))
+
+-- one line more
+abbrev pub Adds : Draft → List (List ℕ) → Draft → Type 0
+Adds d ws e = lines_so_far e ≡ lines_so_far d ++ ws ∷ []
+
+module _ {X : Type 0} (n x : X) where
+  more_schedule : (p i s o c c' : List X) → c' ≡ c ++ x ∷ [] → n ∷ (p ++ (i ++ (s ++ (o ++ c')))) ≡ (n ∷ (p ++ (i ++ (s ++ (o ++ c))))) ++ x ∷ []
+  more_schedule p i s o c c' e = rw e (simp append_assoc refl)
+
+  in_front : (p i s o : List X) → p ++ (i ++ (s ++ (o ++ x ∷ []))) ≡ (p ++ (i ++ (s ++ o))) ++ x ∷ []
+  in_front p i s o = sym (append_assoc p (i ++ (s ++ o)) (x ∷ []) ∙ ap (λ l. p ++ l) (append_assoc i (s ++ o) (x ∷ []) ∙ ap (λ l. i ++ l) (append_assoc s o (x ∷ []))))
+
+  more_script : (p i s o o' c : List X) → o' ≡ o ++ x ∷ [] → c ≡ [] → n ∷ (p ++ (i ++ (s ++ (o' ++ [])))) ≡ (n ∷ (p ++ (i ++ (s ++ (o ++ c))))) ++ x ∷ []
+  more_script p i s o o' c e f = rw (e, f) (
+      ap (λ l. n ∷ (p ++ (i ++ (s ++ l)))) (append-nil (o ++ x ∷ []))
+      ∙ ap (λ l. n ∷ l) (in_front p i s o)
+      ∙ ap (λ l. n ∷ ((p ++ (i ++ (s ++ l))) ++ x ∷ [])) (sym (append-nil o)))
+
+  more_scripts : (p i s s' o : List X) → s' ≡ s ++ (o ++ x ∷ []) → n ∷ (p ++ (i ++ (s' ++ []))) ≡ (n ∷ (p ++ (i ++ (s ++ (o ++ []))))) ++ x ∷ []
+  more_scripts p i s s' o e = rw e (simp append-nil (simp append_assoc refl))
+
+  more_inits : (p i i' s o c : List X) → i' ≡ i ++ x ∷ [] → s ≡ [] → o ≡ [] → c ≡ [] → n ∷ (p ++ (i' ++ (s ++ (o ++ [])))) ≡ (n ∷ (p ++ (i ++ (s ++ (o ++ c))))) ++ x ∷ []
+  more_inits p i i' s o c e f g h = rw (e, f, g, h) (
+      ap (λ l. n ∷ (p ++ l)) (append-nil (i ++ x ∷ []))
+      ∙ ap (λ l. n ∷ l) (sym (append_assoc p i (x ∷ [])))
+      ∙ ap (λ l. n ∷ ((p ++ l) ++ x ∷ [])) (sym (append-nil i)))
+
+  more_partitions : (p p' i s o c : List X) → p' ≡ p ++ x ∷ [] → i ≡ [] → s ≡ [] → o ≡ [] → c ≡ [] → n ∷ (p' ++ (i ++ (s ++ (o ++ [])))) ≡ (n ∷ (p ++ (i ++ (s ++ (o ++ c))))) ++ x ∷ []
+  more_partitions p p' i s o c e d f g h = rw (e, d, f, g, h) (ap (λ l. n ∷ l) (append-nil (p ++ x ∷ [])) ∙ ap (λ l. n ∷ (l ++ x ∷ [])) (sym (append-nil p)))
+
+partition_last : (i : ℕ) (ps : List (List NodeId)) (ns : List NodeId) → partition_lines i (ps ++ ns ∷ []) ≡ partition_lines i ps ++ partition_words (i + length ps) ns ∷ []
+partition_last i [] ns = let same : i ≡ i + 0 = omega arith in ap (λ j. partition_words j ns ∷ []) same
+partition_last i (p ∷ ps) ns =
+    let same : i + 1 + length ps ≡ i + length (p ∷ ps) = omega arith in
+    ap (λ l. partition_words i p ∷ l) (partition_last (i + 1) ps ns ∙ ap (λ j. partition_lines (i + 1) ps ++ partition_words j ns ∷ []) same)
+
+partition_next : (ps : List (List NodeId)) (ns : List NodeId) → partition_lines 0 (ps ++ ns ∷ []) ≡ partition_lines 0 ps ++ partition_words (length ps) ns ∷ []
+partition_next ps ns =
+    let same : 0 + length ps ≡ length ps = omega arith in
+    partition_last 0 ps ns ∙ ap (λ j. partition_lines 0 ps ++ partition_words j ns ∷ []) same
+
+-- The lines.
+
+-- the first line
+first_told : (ws : List (List ℕ)) → IfOk (nodes_line blank ws) (λ d. lines_so_far d ≡ (codes "nodes" ∷ ws) ∷ [])
+unfolding nodes_line
+first_told ws = behind (number_at ws) _ _ _ (number_told ws) (λ n words. behind (in_range 1 16 n.0) _ _ _ (in_range_told 1 16 n.0) (λ c same. behind (end_at n.1) _ _ _ (end_told n.1) (λ z none.
+    let all : ws ≡ decimal c ∷ [] = cc in
+    ap (λ l. (codes "nodes" ∷ l) ∷ []) (sym all))))
+
+partition_told : (d : Draft) (ws : List (List ℕ)) → d.inits ≡ [] → d.scripts ≡ [] → d.script ≡ None → schedule_lines d.part d.items ≡ [] → IfOk (partition_line d ws) (Adds d (codes "partition" ∷ ws))
+unfolding partition_line
+partition_told d ws bare ss none quiet = either (nat_le 64 (length d.places)) _ _ _ (λ _. tt) (λ _. behind (number_at ws) _ _ _ (number_told ws) (λ i words. behind (is_next (length d.places) i.0 i.1) _ _ _ (next_told (length d.places) i.0 i.1) (λ z same. behind (steps (node_step d.nodes) [] i.1) _ _ _ (nodes_told d.nodes [] i.1) (λ ns nodes.
+    let all : partition_words (length d.places) ns ≡ codes "partition" ∷ ws = ap (λ l. codes "partition" ∷ decimal (length d.places) ∷ l) nodes ∙ ap (λ j. codes "partition" ∷ decimal j ∷ i.1) (sym same) ∙ ap (λ l. codes "partition" ∷ l) (sym words) in
+    more_partitions _ _ (partition_lines 0 d.places) (partition_lines 0 (d.places ++ ns ∷ [])) (map init_words d.inits) (flat_map script_lines d.scripts) (open_lines d.script) (schedule_lines d.part d.items)
+        (partition_next d.places ns ∙ ap (λ l. partition_lines 0 d.places ++ l ∷ []) all)
+        (ap (map init_words) bare) (ap (flat_map script_lines) ss) (ap open_lines none) quiet))))
+  where
+    next_told : (next i : ℕ) (us : List (List ℕ)) → IfOk (is_next next i us) (λ _. i ≡ next)
+    next_told next i us = either (i == next) _ _ _ (λ e. either (length us == 0) _ _ _ (λ f. tt) (λ f. grind (arith, nat_tests, e))) (λ e. tt)
+
+init_told : (d : Draft) (ws : List (List ℕ)) → d.scripts ≡ [] → d.script ≡ None → schedule_lines d.part d.items ≡ [] → IfOk (init_line d ws) (Adds d (codes "init" ∷ ws))
+unfolding init_line
+init_told d ws ss none quiet = behind (word_at ws) _ _ _ (word_told ws) (λ w words. behind (key_of w.0) _ _ _ (key_told w.0) (λ k key. then (name_new_key d.known k) _ _ (λ known. behind (number_at w.1) _ _ _ (number_told w.1) (λ v value. behind (end_at v.1) _ _ _ (end_told v.1) (λ z none_left.
+    let all : ws ≡ k ∷ decimal v.0 ∷ [] = cc in
+    more_inits _ _ (partition_lines 0 d.places) (map init_words d.inits) (map init_words (d.inits ++ (k, v.0) ∷ [])) (flat_map script_lines d.scripts) (open_lines d.script) (schedule_lines d.part d.items)
+        (map-append init_words d.inits ((k, v.0) ∷ []) ∙ ap (λ l. map init_words d.inits ++ (codes "init" ∷ l) ∷ []) (sym all))
+        (ap (flat_map script_lines) ss) (ap open_lines none) quiet)))))
+
+tx_lines_told : (d : Draft) (ws : List (List ℕ)) → d.script ≡ None → schedule_lines d.part d.items ≡ [] → IfOk (tx_line d ws) (Adds d (codes "tx" ∷ ws))
+unfolding tx_line
+tx_lines_told d ws none quiet = either (nat_le 4096 (length d.scripts)) _ _ _ (λ _. tt) (λ _. behind (word_at ws) _ _ _ (word_told ws) (λ w words. behind (tx_of w.0) _ _ _ (tx_told w.0) (λ t number. then (new_number d.numbers t) _ _ (λ _. behind (word_at w.1) _ _ _ (word_told w.1) (λ v more. behind (node_of d.nodes v.0) _ _ _ (node_told d.nodes v.0) (λ n home. behind (end_at v.1) _ _ _ (end_told v.1) (λ z none_left.
+    let all : ws ≡ decimal t ∷ node_word n ∷ [] = cc in
+    more_script _ _ (partition_lines 0 d.places) (map init_words d.inits) (flat_map script_lines d.scripts) (open_lines d.script) ((codes "tx" ∷ decimal t ∷ node_word n ∷ []) ∷ []) (schedule_lines d.part d.items)
+        (ap (λ l. (codes "tx" ∷ l) ∷ []) (sym all) ∙ ap (λ l. l ++ (codes "tx" ∷ ws) ∷ []) (sym (ap open_lines none)))
+        quiet)))))))
+
+-- d with a script that is being read
+abbrev inside : Draft → ScriptData → Draft
+inside d s = record d { script = Some s; part = part.Scripts }
+
+-- d with that script taken out
+abbrev outside : Draft → Draft
+outside d = record d { script = None; part = part.Scripts }
+
+read_told : (d : Draft) (s : ScriptData) (ws : List (List ℕ)) → IfOk (read_line (outside d) s ws) (Adds (inside d s) (codes "read" ∷ ws))
+unfolding read_line
+read_told d s ws = either (nat_le 32 (length s.ops)) _ _ _ (λ _. tt) (λ _. behind (word_at ws) _ _ _ (word_told ws) (λ w words. behind (key_of w.0) _ _ _ (key_told w.0) (λ k key. then (name_key d.known k) _ _ (λ known. behind (end_at w.1) _ _ _ (end_told w.1) (λ z none_left.
+    let all : ws ≡ k ∷ [] = cc in
+    more_script _ _ (partition_lines 0 d.places) (map init_words d.inits) (flat_map script_lines d.scripts) (tx_words s ∷ map op_words s.ops) (tx_words s ∷ map op_words (s.ops ++ op.Read k ∷ [])) []
+        (ap (λ l. tx_words s ∷ l) (map-append op_words s.ops (op.Read k ∷ []) ∙ ap (λ l. map op_words s.ops ++ (codes "read" ∷ l) ∷ []) (sym all)))
+        refl)))))
+
+end_lines_told : (d : Draft) (s : ScriptData) (ws : List (List ℕ)) → IfOk (end_line (outside d) s ws) (Adds (inside d s) (codes "end" ∷ ws))
+unfolding end_line
+end_lines_told d s ws = either (length s.ops == 0) _ _ _ (λ _. tt) (λ _. behind (end_at ws) _ _ _ (end_told ws) (λ z none_left.
+    more_scripts _ _ (partition_lines 0 d.places) (map init_words d.inits) (flat_map script_lines d.scripts) (flat_map script_lines (d.scripts ++ s ∷ [])) (tx_words s ∷ map op_words s.ops)
+        (flat_map-append script_lines d.scripts (s ∷ []) ∙ ap (λ l. flat_map script_lines d.scripts ++ l) (append-nil (script_lines s) ∙ ap (λ l. tx_words s ∷ (map op_words s.ops ++ (codes "end" ∷ l) ∷ [])) (sym none_left)))))
+
+schedule_told : (d : Draft) (ws : List (List ℕ)) → d.items ≡ [] → schedule_lines d.part d.items ≡ [] → IfOk (schedule_line d ws) (Adds d (codes "schedule" ∷ ws))
+unfolding schedule_line
+schedule_told d ws none quiet = behind (end_at ws) _ _ _ (end_told ws) (λ z none_left.
+    more_schedule _ _ (partition_lines 0 d.places) (map init_words d.inits) (flat_map script_lines d.scripts) (open_lines d.script) (schedule_lines d.part d.items) ((codes "schedule" ∷ []) ∷ map item_words d.items)
+        (ap (λ l. (codes "schedule" ∷ []) ∷ map item_words l) none ∙ ap (λ l. (codes "schedule" ∷ l) ∷ []) (sym none_left) ∙ ap (λ l. l ++ (codes "schedule" ∷ ws) ∷ []) (sym quiet)))
+
+-- d in the schedule
+abbrev planned : Draft → Draft
+planned d = record d { script = None; part = part.Items }
+
+item_told : (d : Draft) (i : Item) (c : ℕ) (ws : List (List ℕ)) → item_words i ≡ ws → Adds (planned d) ws (with_item (planned d) i c)
+item_told d i c ws e =
+    more_schedule _ _ (partition_lines 0 d.places) (map init_words d.inits) (flat_map script_lines d.scripts) [] ((codes "schedule" ∷ []) ∷ map item_words d.items) ((codes "schedule" ∷ []) ∷ map item_words (d.items ++ i ∷ []))
+        (ap (λ l. (codes "schedule" ∷ []) ∷ l) (map-append item_words d.items (i ∷ []) ∙ ap (λ l. map item_words d.items ++ l ∷ []) e))
+
+begin_told : (d : Draft) (ws : List (List ℕ)) → IfOk (begin_line (planned d) ws) (Adds (planned d) (codes "begin" ∷ ws))
+unfolding begin_line
+begin_told d ws = either (nat_le 50000 d.events) _ _ _ (λ _. tt) (λ _. behind (word_at ws) _ _ _ (word_told ws) (λ w words. behind (tx_of w.0) _ _ _ (tx_told w.0) (λ t number. then (known_number d.numbers t) _ _ (λ _. behind (end_at w.1) _ _ _ (end_told w.1) (λ z none_left.
+    let all : ws ≡ decimal t ∷ [] = cc in
+    item_told d (item.Begin t) 1 _ (ap (λ l. codes "begin" ∷ l) (sym all)))))))
+
+deliver_told : (d : Draft) (ws : List (List ℕ)) → IfOk (deliver_line (planned d) ws) (Adds (planned d) (codes "deliver" ∷ ws))
+unfolding deliver_line
+deliver_told d ws = either (nat_le 50000 d.events) _ _ _ (λ _. tt) (λ _. behind (number_at ws) _ _ _ (number_told ws) (λ n words. behind (in_range 1 4294967295 n.0) _ _ _ (in_range_told 1 4294967295 n.0) (λ m same. behind (end_at n.1) _ _ _ (end_told n.1) (λ z none_left.
+    let all : ws ≡ decimal m ∷ [] = cc in
+    item_told d (item.Deliver m) 1 _ (ap (λ l. codes "deliver" ∷ l) (sym all))))))
+
+drop_told : (d : Draft) (ws : List (List ℕ)) → IfOk (drop_line (planned d) ws) (Adds (planned d) (codes "drop" ∷ ws))
+unfolding drop_line
+drop_told d ws = either (nat_le 50000 d.events) _ _ _ (λ _. tt) (λ _. behind (number_at ws) _ _ _ (number_told ws) (λ n words. behind (in_range 1 4294967295 n.0) _ _ _ (in_range_told 1 4294967295 n.0) (λ m same. behind (end_at n.1) _ _ _ (end_told n.1) (λ z none_left.
+    let all : ws ≡ decimal m ∷ [] = cc in
+    item_told d (item.Drop m) 1 _ (ap (λ l. codes "drop" ∷ l) (sym all))))))
+
+next_item_told : (d : Draft) (ws : List (List ℕ)) → IfOk (next_line (planned d) ws) (Adds (planned d) (codes "next" ∷ ws))
+unfolding next_line
+next_item_told d ws = behind (number_at ws) _ _ _ (number_told ws) (λ n words. behind (in_range 1 50000 n.0) _ _ _ (in_range_told 1 50000 n.0) (λ c same. then (more_events d.events c) _ _ (λ _. behind (end_at n.1) _ _ _ (end_told n.1) (λ z none_left.
+    let all : ws ≡ decimal c ∷ [] = cc in
+    item_told d (item.Next c) c _ (ap (λ l. codes "next" ∷ l) (sym all))))))
+
+-- Which lines may stand where.
+
+-- a line whose first word is c, or another
+word_or : (w c : List ℕ) (ws : List (List ℕ)) (d : Draft) (x y : Result Draft ℕ) → IfOk x (Adds d (c ∷ ws)) → IfOk y (Adds d (w ∷ ws)) → IfOk (cond (is_word w c) x y) (Adds d (w ∷ ws))
+word_or w c ws d x y h k = either (is_word w c) x y _ (λ e. subst (λ v. IfOk x (Adds d (v ∷ ws))) (sym ((bytes_decides w c).0 e)) h) (λ _. k)
+
+script_told : (d : Draft) (s : ScriptData) (w : List ℕ) (ws : List (List ℕ)) → IfOk (script_line (outside d) s w ws) (Adds (inside d s) (w ∷ ws))
+script_told d s w ws = word_or w (codes "read") ws (inside d s) _ _ (read_told d s ws) (word_or w (codes "write") ws (inside d s) _ _ tt (word_or w (codes "end") ws (inside d s) _ _ (end_lines_told d s ws) tt))
+
+later_told : (d : Draft) (w : List ℕ) (ws : List (List ℕ)) → d.script ≡ None → d.items ≡ [] → schedule_lines d.part d.items ≡ [] → IfOk (later_line d w ws) (Adds d (w ∷ ws))
+later_told d w ws none items quiet = word_or w (codes "tx") ws d _ _ (tx_lines_told d ws none quiet) (word_or w (codes "schedule") ws d _ _ (schedule_told d ws items quiet) tt)
+
+init_or_later_told : (d : Draft) (w : List ℕ) (ws : List (List ℕ)) → d.scripts ≡ [] → d.script ≡ None → d.items ≡ [] → schedule_lines d.part d.items ≡ [] → IfOk (init_or_later d w ws) (Adds d (w ∷ ws))
+init_or_later_told d w ws ss none items quiet = word_or w (codes "init") ws d _ _ (init_told d ws ss none quiet) (later_told d w ws none items quiet)
+
+item_line_told : (d : Draft) (w : List ℕ) (ws : List (List ℕ)) → IfOk (item_line (planned d) w ws) (Adds (planned d) (w ∷ ws))
+item_line_told d w ws = word_or w (codes "begin") ws (planned d) _ _ (begin_told d ws) (word_or w (codes "deliver") ws (planned d) _ _ (deliver_told d ws) (word_or w (codes "drop") ws (planned d) _ _ (drop_told d ws) (word_or w (codes "next") ws (planned d) _ _ (next_item_told d ws) (either (is_later_item w) _ _ _ (λ _. tt) (λ _. tt)))))
+
+part_told : (p : Part) (d : Draft) (w : List ℕ) (ws : List (List ℕ)) → IsStage p d.places d.inits d.scripts None d.items → IfOk (part_line p (record d { script = None; part = p }) w ws) (Adds (record d { script = None; part = p }) (w ∷ ws))
+part_told part.Start d w ws h = absurd h
+part_told part.Nodes d w ws h = word_or w (codes "partition") ws (record d { script = None; part = part.Nodes }) _ _ (partition_told (record d { script = None; part = part.Nodes }) ws h.3 h.0 refl refl) tt
+part_told part.Partitions d w ws h = word_or w (codes "partition") ws (record d { script = None; part = part.Partitions }) _ _ (partition_told (record d { script = None; part = part.Partitions }) ws h.3 h.0 refl refl) (init_or_later_told (record d { script = None; part = part.Partitions }) w ws h.0 refl h.2 refl)
+part_told part.Inits d w ws h = init_or_later_told (record d { script = None; part = part.Inits }) w ws h.0 refl h.2 refl
+part_told part.Scripts d w ws h = later_told (record d { script = None; part = part.Scripts }) w ws refl h.0 refl
+part_told part.Items d w ws h = item_line_told d w ws
+
+line_in_told : (o : Option ScriptData) (p : Part) (d : Draft) (w : List ℕ) (ws : List (List ℕ)) → IsStage p d.places d.inits d.scripts o d.items → IfOk (line_in o (record d { script = None; part = p }) w ws) (Adds (record d { script = o; part = p }) (w ∷ ws))
+line_in_told None p d w ws h = part_told p d w ws h
+line_in_told (Some s) part.Start d w ws h = absurd h
+line_in_told (Some s) part.Nodes d w ws h = let bad : Some s ≡ None = h.1 in cc
+line_in_told (Some s) part.Partitions d w ws h = let bad : Some s ≡ None = h.1 in cc
+line_in_told (Some s) part.Inits d w ws h = let bad : Some s ≡ None = h.1 in cc
+line_in_told (Some s) part.Scripts d w ws h = script_told d s w ws
+line_in_told (Some s) part.Items d w ws h = let bad : Some s ≡ None = h.0 in cc
+
+-- a line adds itself
+pub words_told : (d : Draft) (ws : List (List ℕ)) → IsBegun d → IfOk (words_line d ws) (Adds d ws)
+words_told d [] h = tt
+words_told d (w ∷ ws) h = line_in_told d.script d.part d w ws h.stage
+
+-- so does the first
+pub blank_words_told : (ws : List (List ℕ)) → IfOk (words_line blank ws) (λ d. lines_so_far d ≡ ws ∷ [])
+blank_words_told [] = tt
+blank_words_told (w ∷ ws) = either (is_word w (codes "nodes")) _ _ _ (λ e. subst (λ v. IfOk (nodes_line blank ws) (λ d. lines_so_far d ≡ (v ∷ ws) ∷ [])) (sym ((bytes_decides w (codes "nodes")).0 e)) (first_told ws)) (λ _. tt)
