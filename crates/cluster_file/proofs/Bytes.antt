@@ -1,5 +1,5 @@
 -- How lines of words lie in the bytes of a document.
-use Rattle.std.proofs.Common.{◌≡◌, ℕ, ◌+◌, ◌-◌, ◌*◌, ◌/◌, ◌%◌, ◌^◌, ◌<◌, ◌≤◌, ◌==◌, ◌&&◌, nat_le, Bool, true, false, List, [], ◌∷◌, ◌++◌, length, length-append, map, refl, sym, ap, ◌∙◌, append_assoc, arith}
+use Rattle.std.proofs.Common.{◌≡◌, ℕ, ◌+◌, ◌-◌, ◌*◌, ◌/◌, ◌%◌, ◌^◌, ◌<◌, ◌≤◌, ◌==◌, ◌&&◌, nat_le, not, Bool, true, false, List, [], ◌∷◌, ◌++◌, length, length-append, map, refl, sym, ap, ◌∙◌, append_assoc, arith}
 use Rattle.std.specs.Prelude.{All}
 use Rattle.std.specs.Fmt.{decimal}
 use Rattle.std.specs.List.{list_all, flat_map, join_with_byte, slice_split}
@@ -49,6 +49,14 @@ plain_key_bytes [] h = refl
 plain_key_bytes (b ∷ bs) h =
     let both = and_parts (is_key_byte b) (list_all is_key_byte bs) h in
     rw (plain_key_byte b both.0, plain_key_bytes bs both.1) refl
+
+pub plain_key : (k : List ℕ) → is_key k ≡ true → list_all is_plain k ≡ true
+plain_key [] h = cc
+plain_key (b ∷ bs) h =
+    let a = and_parts (not (is_digit b) && is_key_byte b && nat_le (length bs) 31) (list_all is_key_byte bs) h in
+    let c = and_parts (not (is_digit b) && is_key_byte b) (nat_le (length bs) 31) a.0 in
+    let e = and_parts (not (is_digit b)) (is_key_byte b) c.0 in
+    rw (plain_key_byte b e.1, plain_key_bytes bs a.1) refl
 
 -- Bytes in words and lines.
 

@@ -7,3 +7,6 @@ pub mod Keeps
 pub mod Bytes
 pub mod Told
 pub mod OneSpelling
+pub mod Again
+pub mod LinesAgain
+pub mod BytesAgain

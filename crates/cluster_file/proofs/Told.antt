@@ -151,8 +151,8 @@ unfolding partition_line
 partition_told d ws bare ss none quiet = either (nat_le 64 (length d.places)) _ _ _ (λ _. tt) (λ _. behind (number_at ws) _ _ _ (number_told ws) (λ i words. behind (is_next (length d.places) i.0 i.1) _ _ _ (next_told (length d.places) i.0 i.1) (λ z same. behind (steps (node_step d.nodes) [] i.1) _ _ _ (nodes_told d.nodes [] i.1) (λ ns nodes.
     let all : partition_words (length d.places) ns ≡ codes "partition" ∷ ws = ap (λ l. codes "partition" ∷ decimal (length d.places) ∷ l) nodes ∙ ap (λ j. codes "partition" ∷ decimal j ∷ i.1) (sym same) ∙ ap (λ l. codes "partition" ∷ l) (sym words) in
     more_partitions _ _ (partition_lines 0 d.places) (partition_lines 0 (d.places ++ ns ∷ [])) (map init_words d.inits) (flat_map script_lines d.scripts) (open_lines d.script) (schedule_lines d.part d.items)
-        (partition_next d.places ns ∙ ap (λ l. partition_lines 0 d.places ++ l ∷ []) all)
-        (ap (map init_words) bare) (ap (flat_map script_lines) ss) (ap open_lines none) quiet))))
+    (partition_next d.places ns ∙ ap (λ l. partition_lines 0 d.places ++ l ∷ []) all)
+    (ap (map init_words) bare) (ap (flat_map script_lines) ss) (ap open_lines none) quiet))))
   where
     next_told : (next i : ℕ) (us : List (List ℕ)) → IfOk (is_next next i us) (λ _. i ≡ next)
     next_told next i us = either (i == next) _ _ _ (λ e. either (length us == 0) _ _ _ (λ f. tt) (λ f. grind (arith, nat_tests, e))) (λ e. tt)
@@ -162,16 +162,16 @@ unfolding init_line
 init_told d ws ss none quiet = behind (word_at ws) _ _ _ (word_told ws) (λ w words. behind (key_of w.0) _ _ _ (key_told w.0) (λ k key. then (name_new_key d.known k) _ _ (λ known. behind (number_at w.1) _ _ _ (number_told w.1) (λ v value. behind (end_at v.1) _ _ _ (end_told v.1) (λ z none_left.
     let all : ws ≡ k ∷ decimal v.0 ∷ [] = cc in
     more_inits _ _ (partition_lines 0 d.places) (map init_words d.inits) (map init_words (d.inits ++ (k, v.0) ∷ [])) (flat_map script_lines d.scripts) (open_lines d.script) (schedule_lines d.part d.items)
-        (map-append init_words d.inits ((k, v.0) ∷ []) ∙ ap (λ l. map init_words d.inits ++ (codes "init" ∷ l) ∷ []) (sym all))
-        (ap (flat_map script_lines) ss) (ap open_lines none) quiet)))))
+    (map-append init_words d.inits ((k, v.0) ∷ []) ∙ ap (λ l. map init_words d.inits ++ (codes "init" ∷ l) ∷ []) (sym all))
+    (ap (flat_map script_lines) ss) (ap open_lines none) quiet)))))
 
 tx_lines_told : (d : Draft) (ws : List (List ℕ)) → d.script ≡ None → schedule_lines d.part d.items ≡ [] → IfOk (tx_line d ws) (Adds d (codes "tx" ∷ ws))
 unfolding tx_line
 tx_lines_told d ws none quiet = either (nat_le 4096 (length d.scripts)) _ _ _ (λ _. tt) (λ _. behind (word_at ws) _ _ _ (word_told ws) (λ w words. behind (tx_of w.0) _ _ _ (tx_told w.0) (λ t number. then (new_number d.numbers t) _ _ (λ _. behind (word_at w.1) _ _ _ (word_told w.1) (λ v more. behind (node_of d.nodes v.0) _ _ _ (node_told d.nodes v.0) (λ n home. behind (end_at v.1) _ _ _ (end_told v.1) (λ z none_left.
     let all : ws ≡ decimal t ∷ node_word n ∷ [] = cc in
     more_script _ _ (partition_lines 0 d.places) (map init_words d.inits) (flat_map script_lines d.scripts) (open_lines d.script) ((codes "tx" ∷ decimal t ∷ node_word n ∷ []) ∷ []) (schedule_lines d.part d.items)
-        (ap (λ l. (codes "tx" ∷ l) ∷ []) (sym all) ∙ ap (λ l. l ++ (codes "tx" ∷ ws) ∷ []) (sym (ap open_lines none)))
-        quiet)))))))
+    (ap (λ l. (codes "tx" ∷ l) ∷ []) (sym all) ∙ ap (λ l. l ++ (codes "tx" ∷ ws) ∷ []) (sym (ap open_lines none)))
+    quiet)))))))
 
 -- d with a script that is being read
 abbrev inside : Draft → ScriptData → Draft
@@ -186,20 +186,20 @@ unfolding read_line
 read_told d s ws = either (nat_le 32 (length s.ops)) _ _ _ (λ _. tt) (λ _. behind (word_at ws) _ _ _ (word_told ws) (λ w words. behind (key_of w.0) _ _ _ (key_told w.0) (λ k key. then (name_key d.known k) _ _ (λ known. behind (end_at w.1) _ _ _ (end_told w.1) (λ z none_left.
     let all : ws ≡ k ∷ [] = cc in
     more_script _ _ (partition_lines 0 d.places) (map init_words d.inits) (flat_map script_lines d.scripts) (tx_words s ∷ map op_words s.ops) (tx_words s ∷ map op_words (s.ops ++ op.Read k ∷ [])) []
-        (ap (λ l. tx_words s ∷ l) (map-append op_words s.ops (op.Read k ∷ []) ∙ ap (λ l. map op_words s.ops ++ (codes "read" ∷ l) ∷ []) (sym all)))
-        refl)))))
+    (ap (λ l. tx_words s ∷ l) (map-append op_words s.ops (op.Read k ∷ []) ∙ ap (λ l. map op_words s.ops ++ (codes "read" ∷ l) ∷ []) (sym all)))
+    refl)))))
 
 end_lines_told : (d : Draft) (s : ScriptData) (ws : List (List ℕ)) → IfOk (end_line (outside d) s ws) (Adds (inside d s) (codes "end" ∷ ws))
 unfolding end_line
 end_lines_told d s ws = either (length s.ops == 0) _ _ _ (λ _. tt) (λ _. behind (end_at ws) _ _ _ (end_told ws) (λ z none_left.
     more_scripts _ _ (partition_lines 0 d.places) (map init_words d.inits) (flat_map script_lines d.scripts) (flat_map script_lines (d.scripts ++ s ∷ [])) (tx_words s ∷ map op_words s.ops)
-        (flat_map-append script_lines d.scripts (s ∷ []) ∙ ap (λ l. flat_map script_lines d.scripts ++ l) (append-nil (script_lines s) ∙ ap (λ l. tx_words s ∷ (map op_words s.ops ++ (codes "end" ∷ l) ∷ [])) (sym none_left)))))
+    (flat_map-append script_lines d.scripts (s ∷ []) ∙ ap (λ l. flat_map script_lines d.scripts ++ l) (append-nil (script_lines s) ∙ ap (λ l. tx_words s ∷ (map op_words s.ops ++ (codes "end" ∷ l) ∷ [])) (sym none_left)))))
 
 schedule_told : (d : Draft) (ws : List (List ℕ)) → d.items ≡ [] → schedule_lines d.part d.items ≡ [] → IfOk (schedule_line d ws) (Adds d (codes "schedule" ∷ ws))
 unfolding schedule_line
 schedule_told d ws none quiet = behind (end_at ws) _ _ _ (end_told ws) (λ z none_left.
     more_schedule _ _ (partition_lines 0 d.places) (map init_words d.inits) (flat_map script_lines d.scripts) (open_lines d.script) (schedule_lines d.part d.items) ((codes "schedule" ∷ []) ∷ map item_words d.items)
-        (ap (λ l. (codes "schedule" ∷ []) ∷ map item_words l) none ∙ ap (λ l. (codes "schedule" ∷ l) ∷ []) (sym none_left) ∙ ap (λ l. l ++ (codes "schedule" ∷ ws) ∷ []) (sym quiet)))
+    (ap (λ l. (codes "schedule" ∷ []) ∷ map item_words l) none ∙ ap (λ l. (codes "schedule" ∷ l) ∷ []) (sym none_left) ∙ ap (λ l. l ++ (codes "schedule" ∷ ws) ∷ []) (sym quiet)))
 
 -- d in the schedule
 abbrev planned : Draft → Draft
@@ -208,7 +208,7 @@ planned d = record d { script = None; part = part.Items }
 item_told : (d : Draft) (i : Item) (c : ℕ) (ws : List (List ℕ)) → item_words i ≡ ws → Adds (planned d) ws (with_item (planned d) i c)
 item_told d i c ws e =
     more_schedule _ _ (partition_lines 0 d.places) (map init_words d.inits) (flat_map script_lines d.scripts) [] ((codes "schedule" ∷ []) ∷ map item_words d.items) ((codes "schedule" ∷ []) ∷ map item_words (d.items ++ i ∷ []))
-        (ap (λ l. (codes "schedule" ∷ []) ∷ l) (map-append item_words d.items (i ∷ []) ∙ ap (λ l. map item_words d.items ++ l ∷ []) e))
+    (ap (λ l. (codes "schedule" ∷ []) ∷ l) (map-append item_words d.items (i ∷ []) ∙ ap (λ l. map item_words d.items ++ l ∷ []) e))
 
 begin_told : (d : Draft) (ws : List (List ℕ)) → IfOk (begin_line (planned d) ws) (Adds (planned d) (codes "begin" ∷ ws))
 unfolding begin_line

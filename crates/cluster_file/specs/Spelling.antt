@@ -114,7 +114,7 @@ has_key (op.Write k e) = is_key k
 
 -- a script of 1 to 32 operations
 abbrev pub is_script : ScriptData → Bool
-is_script s = is_tx s.number && is_node s.home && (nat_le 1 (length s.ops) && nat_le (length s.ops) 32 && list_all has_key s.ops)
+is_script s = is_tx s.number && is_node s.home && nat_le 1 (length s.ops) && nat_le (length s.ops) 32 && list_all has_key s.ops
 
 abbrev pub is_short_item : Item → Bool
 is_short_item (item.Begin t) = is_tx t
