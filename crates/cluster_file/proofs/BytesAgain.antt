@@ -21,7 +21,7 @@ use Rattle.cluster_file.specs.declared.drafts.Part.TheVariants as part
 use Rattle.cluster_file.specs.Reading.{◌>>=◌}
 use Rattle.cluster_file.specs.Lines.{words_line, line_of, is_printed}
 use Rattle.cluster_file.specs.Doc.{◌>>>◌, at_line, is_whole, close, pieces_from, blank, document_of, doc}
-use Rattle.cluster_file.specs.Spelling.{IsBuilt, IsInRange, is_built_item, is_node, is_tx, is_init, has_key, is_script, is_short_item, node_word, nodes_words, partition_words, init_words, tx_words, op_words, item_words, partition_lines, script_lines, document_lines, line, spelling}
+use Rattle.cluster_file.specs.Spelling.{IsBuilt, IsInRange, is_built_item, is_node, is_tx, is_init_in_range, has_key, is_script_in_range, is_item_in_range, node_word, nodes_words, partition_words, init_words, tx_words, op_words, item_words, partition_lines, script_lines, document_lines, line, spelling}
 use Rattle.cluster_file.proofs.Bools.{and_parts}
 use Rattle.cluster_file.proofs.Bytes.{is_plain, are_plain, is_line, plain_decimal, plain_key, words_again, printed_words, lines_again}
 use Rattle.cluster_file.proofs.Again.{small}
@@ -64,7 +64,7 @@ partition_lines_are i (ns ∷ ps) h k =
     let both = and_parts (list_all is_node ns) (list_all (list_all is_node) ps) k in
     rw (partition_line i ns (omega (arith, h)) both.0, partition_lines_are (i + 1) ps (omega (arith, h)) both.1) refl
 
-init_line : (x : Key × Value) → is_init x ≡ true → is_line (init_words x) ≡ true
+init_line : (x : Key × Value) → is_init_in_range x ≡ true → is_line (init_words x) ≡ true
 init_line x h =
     let both = and_parts (is_key x.0) (nat_lt x.1 (2 ^ 64)) h in
     rw (plain_key x.0 both.0, plain_decimal x.1 (grind (arith, nat_tests, both.1))) refl
@@ -73,7 +73,7 @@ op_line : (o : Op) → has_key o ≡ true → is_line (op_words o) ≡ true
 op_line (op.Read k) h = rw (plain_key k h) refl
 op_line (op.Write k e) h = rw (plain_key k h) refl
 
-script_lines_are : (s : ScriptData) → is_script s ≡ true → list_all is_line (script_lines s) ≡ true
+script_lines_are : (s : ScriptData) → is_script_in_range s ≡ true → list_all is_line (script_lines s) ≡ true
 script_lines_are s h =
     let a = and_parts (is_tx s.number && is_node s.home && nat_le 1 (length s.ops) && nat_le (length s.ops) 32) (list_all has_key s.ops) h in
     let b = and_parts (is_tx s.number && is_node s.home && nat_le 1 (length s.ops)) (nat_le (length s.ops) 32) a.0 in
@@ -89,7 +89,7 @@ plain_small m h = plain_decimal m (small m 4294967295 h (omega arith))
 plain_long : (m : ℕ) → nat_lt m (2 ^ 64) ≡ true → list_all is_plain (decimal m) ≡ true
 plain_long m h = plain_decimal m (grind (arith, nat_tests, h))
 
-item_line : (i : Item) → is_short_item i ≡ true → is_line (item_words i) ≡ true
+item_line : (i : Item) → is_item_in_range i ≡ true → is_line (item_words i) ≡ true
 item_line (item.Begin t) h = rw (plain_tx t h) refl
 item_line (item.Deliver m) h = rw (plain_small m h) refl
 item_line (item.Drop m) h = rw (plain_small m h) refl
@@ -109,9 +109,9 @@ item_line (item.Restart n) h = rw (plain_node n h) refl
 
 document_lines_are : (d : DocumentData) → IsDocument d → IsInRange d → list_all is_line (document_lines d) ≡ true
 document_lines_are d h r =
-    let schedule : list_all is_line ((codes "schedule" ∷ []) ∷ map item_words d.items) ≡ true = rw (all_map is_short_item is_line item_words item_line d.items r.items) refl in
-    let scripts : list_all is_line (flat_map script_lines d.scripts ++ ((codes "schedule" ∷ []) ∷ map item_words d.items)) ≡ true = all_both is_line (flat_map script_lines d.scripts) ((codes "schedule" ∷ []) ∷ map item_words d.items) (all_flat_map is_script is_line script_lines script_lines_are d.scripts r.scripts) schedule in
-    let inits : list_all is_line (map init_words d.cluster.inits ++ (flat_map script_lines d.scripts ++ ((codes "schedule" ∷ []) ∷ map item_words d.items))) ≡ true = all_both is_line (map init_words d.cluster.inits) (flat_map script_lines d.scripts ++ ((codes "schedule" ∷ []) ∷ map item_words d.items)) (all_map is_init is_line init_words init_line d.cluster.inits r.inits) scripts in
+    let schedule : list_all is_line ((codes "schedule" ∷ []) ∷ map item_words d.items) ≡ true = rw (all_map is_item_in_range is_line item_words item_line d.items r.items) refl in
+    let scripts : list_all is_line (flat_map script_lines d.scripts ++ ((codes "schedule" ∷ []) ∷ map item_words d.items)) ≡ true = all_both is_line (flat_map script_lines d.scripts) ((codes "schedule" ∷ []) ∷ map item_words d.items) (all_flat_map is_script_in_range is_line script_lines script_lines_are d.scripts r.scripts) schedule in
+    let inits : list_all is_line (map init_words d.cluster.inits ++ (flat_map script_lines d.scripts ++ ((codes "schedule" ∷ []) ∷ map item_words d.items))) ≡ true = all_both is_line (map init_words d.cluster.inits) (flat_map script_lines d.scripts ++ ((codes "schedule" ∷ []) ∷ map item_words d.items)) (all_map is_init_in_range is_line init_words init_line d.cluster.inits r.inits) scripts in
     let places : list_all is_line (partition_lines 0 d.cluster.places ++ (map init_words d.cluster.inits ++ (flat_map script_lines d.scripts ++ ((codes "schedule" ∷ []) ∷ map item_words d.items)))) ≡ true = all_both is_line (partition_lines 0 d.cluster.places) (map init_words d.cluster.inits ++ (flat_map script_lines d.scripts ++ ((codes "schedule" ∷ []) ∷ map item_words d.items))) (partition_lines_are 0 d.cluster.places (omega (arith, h.cluster.places.most)) r.places) inits in
     rw (nodes_line d.cluster.nodes h.cluster.most, places) refl
 

@@ -31,7 +31,7 @@ use Rattle.cluster_file.specs.declared.drafts.Part.TheVariants as part
 use Rattle.cluster_file.specs.Reading.{◌>>=◌}
 use Rattle.cluster_file.specs.Lines.{words_line, init_line, tx_line, schedule_line}
 use Rattle.cluster_file.specs.Doc.{blank, document_of}
-use Rattle.cluster_file.specs.Spelling.{IsBuilt, IsInRange, is_built_op, is_built_item, is_node, is_tx, is_init, has_key, is_script, is_short_item, node_word, nodes_words, partition_words, init_words, tx_words, op_words, item_words, partition_lines, script_lines, document_lines}
+use Rattle.cluster_file.specs.Spelling.{IsBuilt, IsInRange, is_built_op, is_built_item, is_node, is_tx, is_init_in_range, has_key, is_script_in_range, is_item_in_range, node_word, nodes_words, partition_words, init_words, tx_words, op_words, item_words, partition_lines, script_lines, document_lines}
 use Rattle.cluster_file.proofs.Bools.{and_parts}
 use Rattle.cluster_file.proofs.Members.{among_numbers, among_keys, distinct_before, fewer_keys}
 use Rattle.cluster_file.proofs.Named.{numbers_last, key_order_last, number_order_last, keys_read, keys_begun, keys_init, known_in_inits, keys_more_inits, keys_more_scripts, keys_more_ops, numbers_more}
@@ -142,11 +142,11 @@ module _ (n : ℕ) (ps : List (List NodeId)) where
       by part.Scripts h = absurd h
       by part.Items h = absurd h
 
-  inits_again : (p : Part) (xs ys : List (Key × Value)) (tail : List (List (List ℕ))) (r : Result Draft ℕ) → IsEarly p → are_keys_distinct (xs ++ ys) ≡ true → length (key_order (keys_in (xs ++ ys) [])) ≤ 4096 → list_all is_init ys ≡ true
+  inits_again : (p : Part) (xs ys : List (Key × Value)) (tail : List (List (List ℕ))) (r : Result Draft ℕ) → IsEarly p → are_keys_distinct (xs ++ ys) ≡ true → length (key_order (keys_in (xs ++ ys) [])) ≤ 4096 → list_all is_init_in_range ys ≡ true
       → ((q : Part) → IsEarly q → lines_from (scripted q n ps (xs ++ ys) []) tail ≡ r) → lines_from (scripted p n ps xs []) (map init_words ys ++ tail) ≡ r
   inits_again p xs [] tail r early distinct few are next = ap (λ l. lines_from (scripted p n ps l []) tail) (sym (append-nil xs)) ∙ next p early
   inits_again p xs (y ∷ ys) tail r early distinct few are next =
-      let a = and_parts (is_init y) (list_all is_init ys) are in
+      let a = and_parts (is_init_in_range y) (list_all is_init_in_range ys) are in
       let b = and_parts (is_key y.0) (nat_lt y.1 (2 ^ 64)) a.0 in
       let low : y.1 < 2 ^ 64 = grind (arith, nat_tests, b.1) in
       let assoc : (xs ++ y ∷ []) ++ ys ≡ xs ++ y ∷ ys = append_assoc xs (y ∷ []) ys in
@@ -206,7 +206,7 @@ module _ (n : ℕ) (ps : List (List NodeId)) (xs : List (Key × Value)) where
       (ops_again ss s (done ++ op.Read k ∷ []) todo tail (subst (λ l. length l ≤ 32) (sym assoc) room) (subst (λ l. length (key_order (keys_in xs (ss ++ record s { ops = l } ∷ []))) ≤ 4096) (sym assoc) few) built a.1
       ∙ ap (λ l. lines_from (reading n ps xs ss (record s { ops = l })) tail) assoc)
 
-  script_again : (p : Part) (ss : List ScriptData) (s : ScriptData) (more : List ScriptData) (tail : List (List (List ℕ))) → IsOpen p → are_numbers_distinct (script_numbers (ss ++ s ∷ more)) ≡ true → length (key_order (keys_in xs (ss ++ s ∷ []))) ≤ 4096 → length ss < 4096 → nat_le s.home n ≡ true → is_script s ≡ true → list_all is_built_op s.ops ≡ true
+  script_again : (p : Part) (ss : List ScriptData) (s : ScriptData) (more : List ScriptData) (tail : List (List (List ℕ))) → IsOpen p → are_numbers_distinct (script_numbers (ss ++ s ∷ more)) ≡ true → length (key_order (keys_in xs (ss ++ s ∷ []))) ≤ 4096 → length ss < 4096 → nat_le s.home n ≡ true → is_script_in_range s ≡ true → list_all is_built_op s.ops ≡ true
       → lines_from (scripted p n ps xs ss) (script_lines s ++ tail) ≡ lines_from (scripted part.Scripts n ps xs (ss ++ s ∷ [])) tail
   script_again p ss s more tail may distinct few room low is built =
       let a = and_parts (is_tx s.number && is_node s.home && nat_le 1 (length s.ops) && nat_le (length s.ops) 32) (list_all has_key s.ops) is in
@@ -221,12 +221,12 @@ module _ (n : ℕ) (ps : List (List NodeId)) (xs : List (Key × Value)) where
       ∙ ops_again ss s [] s.ops ((codes "end" ∷ []) ∷ tail) most few built a.1
       ∙ then_lines (reading n ps xs ss s) (scripted part.Scripts n ps xs (ss ++ s ∷ [])) (codes "end" ∷ []) tail _ (end_line_again (record (reading n ps xs ss s) { script = None }) s some) refl)
 
-  scripts_again : (p : Part) (ss rest : List ScriptData) (tail : List (List (List ℕ))) (r : Result Draft ℕ) → IsOpen p → are_numbers_distinct (script_numbers (ss ++ rest)) ≡ true → length (key_order (keys_in xs (ss ++ rest))) ≤ 4096 → length (ss ++ rest) ≤ 4096 → list_all (λ s. nat_le s.home n) rest ≡ true → list_all is_script rest ≡ true → list_all (λ s. list_all is_built_op s.ops) rest ≡ true
+  scripts_again : (p : Part) (ss rest : List ScriptData) (tail : List (List (List ℕ))) (r : Result Draft ℕ) → IsOpen p → are_numbers_distinct (script_numbers (ss ++ rest)) ≡ true → length (key_order (keys_in xs (ss ++ rest))) ≤ 4096 → length (ss ++ rest) ≤ 4096 → list_all (λ s. nat_le s.home n) rest ≡ true → list_all is_script_in_range rest ≡ true → list_all (λ s. list_all is_built_op s.ops) rest ≡ true
       → ((q : Part) → IsOpen q → lines_from (scripted q n ps xs (ss ++ rest)) tail ≡ r) → lines_from (scripted p n ps xs ss) (flat_map script_lines rest ++ tail) ≡ r
   scripts_again p ss [] tail r may distinct few room low is built next = ap (λ l. lines_from (scripted p n ps xs l) tail) (sym (append-nil ss)) ∙ next p may
   scripts_again p ss (s ∷ rest) tail r may distinct few room low is built next =
       let l = and_parts (nat_le s.home n) (list_all (λ t. nat_le t.home n) rest) low in
-      let i = and_parts (is_script s) (list_all is_script rest) is in
+      let i = and_parts (is_script_in_range s) (list_all is_script_in_range rest) is in
       let b = and_parts (list_all is_built_op s.ops) (list_all (λ t. list_all is_built_op t.ops) rest) built in
       let assoc : (ss ++ s ∷ []) ++ rest ≡ ss ++ s ∷ rest = append_assoc ss (s ∷ []) rest in
       let all : keys_in xs (ss ++ s ∷ rest) ≡ keys_in xs (ss ++ s ∷ []) ++ flat_map (λ t. keys_named t.ops) rest = ap (keys_in xs) (sym assoc) ∙ keys_more_scripts xs (ss ++ s ∷ []) rest in
@@ -244,7 +244,7 @@ module _ (n : ℕ) (ps : List (List NodeId)) (xs : List (Key × Value)) where
   schedule_again part.Scripts ss h = refl
   schedule_again part.Items ss h = absurd h
 
-  item_words_again : (ss : List ScriptData) (items : List Item) (events : ℕ) (i : Item) → events + events_of i ≤ 50000 → is_item n (script_numbers ss) i ≡ true → is_short_item i ≡ true → is_built_item i ≡ true → words_line (running n ps xs ss items events) (item_words i) ≡ Ok (running n ps xs ss (items ++ i ∷ []) (events + events_of i))
+  item_words_again : (ss : List ScriptData) (items : List Item) (events : ℕ) (i : Item) → events + events_of i ≤ 50000 → is_item n (script_numbers ss) i ≡ true → is_item_in_range i ≡ true → is_built_item i ≡ true → words_line (running n ps xs ss items events) (item_words i) ≡ Ok (running n ps xs ss (items ++ i ∷ []) (events + events_of i))
   item_words_again ss items events (item.Begin t) room is short built = begin_line_again (running n ps xs ss items events) t room short (among_numbers t (script_numbers ss) ∙ is)
   item_words_again ss items events (item.Deliver m) room is short built = deliver_line_again (running n ps xs ss items events) m room is short
   item_words_again ss items events (item.Drop m) room is short built = drop_line_again (running n ps xs ss items events) m room is short
@@ -257,14 +257,14 @@ module _ (n : ℕ) (ps : List (List NodeId)) (xs : List (Key × Value)) where
   item_words_again ss items events (item.Fuse m k how) room is short built = cc
   item_words_again ss items events (item.Restart m) room is short built = cc
 
-  items_again : (ss : List ScriptData) (done todo : List Item) (events : ℕ) → events + sum_by events_of todo ≤ 50000 → list_all (is_item n (script_numbers ss)) todo ≡ true → list_all is_short_item todo ≡ true → list_all is_built_item todo ≡ true → lines_from (running n ps xs ss done events) (map item_words todo) ≡ Ok (running n ps xs ss (done ++ todo) (events + sum_by events_of todo))
+  items_again : (ss : List ScriptData) (done todo : List Item) (events : ℕ) → events + sum_by events_of todo ≤ 50000 → list_all (is_item n (script_numbers ss)) todo ≡ true → list_all is_item_in_range todo ≡ true → list_all is_built_item todo ≡ true → lines_from (running n ps xs ss done events) (map item_words todo) ≡ Ok (running n ps xs ss (done ++ todo) (events + sum_by events_of todo))
   unfolding lines_from
   items_again ss done [] events room is short built =
       let none : events ≡ events + sum_by events_of [] = omega arith in
       ap (λ l. Ok (running n ps xs ss l events)) (sym (append-nil done)) ∙ ap (λ c. Ok (running n ps xs ss (done ++ []) c)) none
   items_again ss done (i ∷ todo) events room is short built =
       let a = and_parts (is_item n (script_numbers ss) i) (list_all (is_item n (script_numbers ss)) todo) is in
-      let b = and_parts (is_short_item i) (list_all is_short_item todo) short in
+      let b = and_parts (is_item_in_range i) (list_all is_item_in_range todo) short in
       let c = and_parts (is_built_item i) (list_all is_built_item todo) built in
       let sums : sum_by events_of (i ∷ todo) ≡ events_of i + sum_by events_of todo = sum_by-cons events_of i todo in
       let count : events + events_of i + sum_by events_of todo ≡ events + sum_by events_of (i ∷ todo) = omega (arith, sums) in

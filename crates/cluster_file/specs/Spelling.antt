@@ -105,31 +105,31 @@ is_node n = nat_le 1 n && nat_le n 16
 abbrev pub is_tx : TxId → Bool
 is_tx t = nat_le 1 t && nat_le t 65535
 
-abbrev pub is_init : Key × Value → Bool
-is_init x = is_key x.0 && nat_lt x.1 (2 ^ 64)
+abbrev pub is_init_in_range : Key × Value → Bool
+is_init_in_range x = is_key x.0 && nat_lt x.1 (2 ^ 64)
 
 abbrev pub has_key : Op → Bool
 has_key (op.Read k) = is_key k
 has_key (op.Write k e) = is_key k
 
 -- a script of 1 to 32 operations
-abbrev pub is_script : ScriptData → Bool
-is_script s = is_tx s.number && is_node s.home && nat_le 1 (length s.ops) && nat_le (length s.ops) 32 && list_all has_key s.ops
+abbrev pub is_script_in_range : ScriptData → Bool
+is_script_in_range s = is_tx s.number && is_node s.home && nat_le 1 (length s.ops) && nat_le (length s.ops) 32 && list_all has_key s.ops
 
-abbrev pub is_short_item : Item → Bool
-is_short_item (item.Begin t) = is_tx t
-is_short_item (item.Deliver m) = nat_le m 4294967295
-is_short_item (item.Drop m) = nat_le m 4294967295
-is_short_item (item.Next c) = nat_le c 4294967295
-is_short_item (item.Retry t) = is_tx t
-is_short_item (item.Ask n t) = is_node n && is_tx t
-is_short_item (item.Crash n how) = is_node n && nat_lt how (2 ^ 64)
-is_short_item (item.Fuse n k how) = is_node n && nat_lt k (2 ^ 64) && nat_lt how (2 ^ 64)
-is_short_item (item.Restart n) = is_node n
+abbrev pub is_item_in_range : Item → Bool
+is_item_in_range (item.Begin t) = is_tx t
+is_item_in_range (item.Deliver m) = nat_le m 4294967295
+is_item_in_range (item.Drop m) = nat_le m 4294967295
+is_item_in_range (item.Next c) = nat_le c 4294967295
+is_item_in_range (item.Retry t) = is_tx t
+is_item_in_range (item.Ask n t) = is_node n && is_tx t
+is_item_in_range (item.Crash n how) = is_node n && nat_lt how (2 ^ 64)
+is_item_in_range (item.Fuse n k how) = is_node n && nat_lt k (2 ^ 64) && nat_lt how (2 ^ 64)
+is_item_in_range (item.Restart n) = is_node n
 
 -- each key is one, each number is in the range of its type, and each script has 1 to 32 operations
 pub record IsInRange (d : DocumentData) : Type 0 where
   pub places : IsTrue (list_all (list_all is_node) d.cluster.places)
-  pub inits : IsTrue (list_all is_init d.cluster.inits)
-  pub scripts : IsTrue (list_all is_script d.scripts)
-  pub items : IsTrue (list_all is_short_item d.items)
+  pub inits : IsTrue (list_all is_init_in_range d.cluster.inits)
+  pub scripts : IsTrue (list_all is_script_in_range d.scripts)
+  pub items : IsTrue (list_all is_item_in_range d.items)
