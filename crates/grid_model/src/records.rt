@@ -8,13 +8,15 @@ mod commits;
 mod conflicts;
 mod decisions;
 mod endings;
+mod fitting;
 mod pairs;
 mod proposals;
 mod values;
 
 pub use commits::{commit_id, is_clear};
-pub use conflicts::{holder, newer};
+pub use conflicts::{holder, is_key_among, keys_in, newer};
 pub use decisions::{Decided, decided_final, decision, is_closed, undone};
 pub use endings::{ended, floor, pending};
+pub use fitting::{are_own_keys, fits, is_among};
 pub use proposals::{Prepared, home_of, prepared_of};
 pub use values::{newest, newest_version, version_at};
