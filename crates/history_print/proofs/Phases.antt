@@ -1,5 +1,5 @@
 -- The words of a transaction's line, by what decides them one after the other, are those of its phase.
-use Rattle.std.proofs.Common.{◌≡◌, ℕ, Bool, true, false, ◌&&◌, not, List, [], ◌∷◌, Option, Some, None, refl, if◌then◌else◌}
+use Rattle.std.proofs.Common.{◌≡◌, ℕ, Bool, true, false, ◌&&◌, not, List, Option, Some, None, refl, if◌then◌else◌}
 use Rattle.std.specs.Option.{option_map}
 use Rattle.score_base.specs.declared.ids.Ident.{Ident}
 use Rattle.script_lang.specs.declared.scripts.Op.{Op}
@@ -9,7 +9,7 @@ use Rattle.grid_model.specs.Journals.{Decision}
 use Rattle.grid_model.specs.Stories.{Phase, Lost, Closed, Decided, Aborted, Answered, open_phase, undecided_phase, waiting, phase_by}
 use Rattle.grid_model.specs.Copies.{snapshot_in}
 use Rattle.history_print.specs.Text.{phase_words}
-use Rattle.history_print.specs.Begun.{open_words, undecided_words, decided_words, story_words}
+use Rattle.history_print.specs.Begun.{open_words, undecided_words, final_words, story_words}
 
 -- a choice of words is the words of the choice
 if_words : (b : Bool) (v w : List (List ℕ)) (p q : Phase) (sid : Ident) → v ≡ phase_words p sid → w ≡ phase_words q sid → (if b then v else w) ≡ phase_words (if b then p else q) sid
@@ -26,7 +26,7 @@ unfolding undecided_words phase_words
 undecided_same ops x = if_words x.aborted _ _ Aborted _ _ refl (if_words (x.finished && not (is_update ops)) _ _ Answered (open_phase (waiting ops x.values)) _ refl (open_same (waiting ops x.values) _))
 
 pub story_same : (ops : List Op) (o : Option Story) (closed : Bool) (y : Option Decision) → story_words ops o (option_map (λ d. d.final) y) ≡ phase_words (phase_by ops o closed y) (snapshot_in o)
-unfolding story_words decided_words phase_words
+unfolding story_words final_words phase_words
 story_same ops None closed y = refl
 story_same ops (Some x) closed None = if_words x.lost _ _ Lost (undecided_phase ops x) _ refl (undecided_same ops x)
 story_same ops (Some x) true (Some y) = if_words x.lost _ _ Lost (Closed y.final) _ refl refl

@@ -17,10 +17,14 @@ open_words (Some j) = codes "reading" ∷ decimal j ∷ []
 unfoldable pub undecided_words : Bool → Bool → Option ℕ → Ident → List (List ℕ)
 undecided_words aborted answered waits sid = if aborted then codes "aborted" ∷ [] else (if answered then codes "read" ∷ decimal sid ∷ [] else open_words waits)
 
+-- a committed transaction
+unfoldable pub final_words : Ident → List (List ℕ)
+final_words f = codes "committed" ∷ decimal f ∷ []
+
 -- a transaction that is not lost, by its final identifier
-unfoldable pub decided_words : Option Ident → List (List ℕ) → List (List ℕ)
+abbrev pub decided_words : Option Ident → List (List ℕ) → List (List ℕ)
 decided_words None rest = rest
-decided_words (Some f) rest = codes "committed" ∷ decimal f ∷ []
+decided_words (Some f) rest = final_words f
 
 -- a transaction by its story and its final identifier
 unfoldable pub story_words : List Op → Option Story → Option Ident → List (List ℕ)

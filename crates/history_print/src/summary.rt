@@ -1,5 +1,5 @@
 //! The summary of a run: a line for each transaction, then one for each key at each of its holders.
-ghost use Rattle.std.specs.Prelude.{◌≡◌, ℕ, ◌<◌, ◌++◌, ◌∷◌, [], codes, fold, map, reverse, IfOk, OnOk, OnErr, Some};
+ghost use Rattle.std.specs.Prelude.{◌≡◌, ◌≤◌, ℕ, ◌<◌, ◌++◌, ◌∷◌, [], codes, fold, map, reverse, IfOk, OnOk, OnErr, Some};
 ghost use Rattle.std.specs.List.{flat_map, range_with_len};
 ghost use Rattle.std.specs.Option.{option_copied};
 ghost use Rattle.std.specs.Ordering.{nat_cmp};
@@ -10,18 +10,19 @@ ghost use Rattle.placement.specs.Places.{is_among};
 ghost use Rattle.grid_model.specs.Documents.{script_numbers, number_order, key_order, keys_in};
 ghost use Rattle.grid_model.specs.Copies.{snapshot_in};
 ghost use Rattle.grid_model.specs.Nodes.{journal, script_of};
-ghost use Rattle.grid_model.specs.Stories.{story};
+ghost use Rattle.grid_model.specs.Journals.{is_closed, decision};
+ghost use Rattle.grid_model.specs.Stories.{phase_by, story};
 ghost use Rattle.run_state.specs.Kept.{past};
 ghost use Rattle.history_print.specs.Acts.{spaced, line};
-ghost use Rattle.history_print.specs.Begun.{open_words, undecided_words, story_words};
-ghost use Rattle.history_print.specs.Text.{tx_line, script_line, tx_lines, version_line, holder_line, key_lines, keys_lines, summary_by, summary_text};
+ghost use Rattle.history_print.specs.Begun.{open_words, undecided_words, final_words, story_words};
+ghost use Rattle.history_print.specs.Text.{phase_words, tx_line, script_line, tx_lines, version_line, holder_line, key_lines, keys_lines, summary_by, summary_text};
 
 use crate::words::{put_count, put_ident, put_key, put_node, put_tx, put_value, put_word};
 use grid_model::records::{decided_final, newest_version};
 use grid_model::{Act, Document, Story, Version, first_waiting};
 use placement::Cluster;
 use run_state::{RunState, script_of};
-use score_base::{Ident, Key, Memory, NodeId, Record, Value, put_bytes};
+use score_base::{Ident, Key, Memory, NodeId, Record, TryCopy, TxId, Value, put_bytes};
 use script_lang::{Op, Script, is_update, key_of};
 use std::alloc::Global;
 use std::collections::BTreeSet;
@@ -72,7 +73,15 @@ fn snapshot_of(story: &Story) -> Ident
     }
 }
 
-#[tactic(auto, unfolding(crate::specs::Begun::story_words, crate::specs::Begun::decided_words))]
+#[tactic(auto, unfolding(crate::specs::Begun::final_words))]
+fn put_final(out: &mut Vec<u8>, f: Ident) -> Result<(), Memory>
+    ensures { OnOk result (out.new.items ≡ out.old.items ++ spaced (final_words f)) }
+{
+    put_word(out, b"committed")?;
+    put_ident(out, f)
+}
+
+#[tactic(auto, unfolding(crate::specs::Begun::story_words))]
 fn put_begun(
     out: &mut Vec<u8>,
     ops: &[Op],
@@ -85,8 +94,7 @@ fn put_begun(
         return put_word(out, b"lost");
     }
     if let Some(f) = final_ident {
-        put_word(out, b"committed")?;
-        return put_ident(out, f);
+        return put_final(out, f);
     }
     put_undecided(
         out,
@@ -112,7 +120,20 @@ fn put_story(
     }
 }
 
-#[tactic(auto, unfolding(crate::specs::Text::tx_line), using(crate::proofs::Phases::story_same))]
+/// The phase of a script's transaction, by its story and by the records of its home.
+fn put_phase(
+    out: &mut Vec<u8>,
+    script: &Script,
+    story: Option<&Story>,
+    records: &[Record],
+) -> Result<(), Memory>
+    ensures { OnOk result (out.new.items ≡ out.old.items ++ spaced (phase_words (phase_by script.now.ops (option_copied story.entry) (is_closed script.now.number (reverse records.now)) (decision script.now.number (reverse records.now))) (snapshot_in (option_copied story.entry)))) }
+{
+    let final_ident = decided_final(records, script.number);
+    put_story(out, script.ops(), story, final_ident)
+}
+
+#[tactic(auto, unfolding(crate::specs::Text::tx_line))]
 fn put_tx_line(
     out: &mut Vec<u8>,
     script: &Script,
@@ -123,21 +144,12 @@ fn put_tx_line(
 {
     put_bytes(out, b"tx")?;
     put_tx(out, script.number)?;
-    put_story(
-        out,
-        script.ops(),
-        story,
-        decided_final(records, script.number),
-    )?;
+    put_phase(out, script, story, records)?;
     put_bytes(out, b"\n")
 }
 
 #[tactic(auto, unfolding(crate::specs::Text::script_line))]
-fn put_script_line(
-    out: &mut Vec<u8>,
-    script: Option<&Script>,
-    run: &RunState,
-) -> Result<(), Memory>
+fn put_script_line(out: &mut Vec<u8>, script: Option<&Script>, run: &RunState) -> Result<(), Memory>
     ensures { OnOk result (out.new.items ≡ out.old.items ++ script_line (story run.now.doc (past run.now)) (journal run.now.doc (past run.now)) (option_copied script.entry)) }
 {
     match script {
@@ -146,23 +158,23 @@ fn put_script_line(
             out,
             script,
             run.story(script.number),
-            run.node(script.home).records(),
+            run.node(script.home).records.as_slice(),
         ),
     }
 }
 
-fn add_numbers(numbers: &mut BTreeSet<u16>, scripts: &[Script]) -> Result<(), Memory>
+fn add_numbers(numbers: &mut BTreeSet<TxId>, scripts: &[Script]) -> Result<(), Memory>
     ensures { OnOk result (numbers.new.keys ≡ fold (insert_key nat_cmp) numbers.old.keys (script_numbers scripts.now)) }
 {
     for script in scripts {
-        numbers.insert(script.number.get())?;
+        numbers.insert(script.number)?;
     }
     Ok(())
 }
 
 fn put_numbered(
     out: &mut Vec<u8>,
-    numbers: &BTreeSet<u16>,
+    numbers: &BTreeSet<TxId>,
     scripts: &[Script],
     run: &RunState,
 ) -> Result<(), Memory>
@@ -184,12 +196,7 @@ fn put_tx_lines(out: &mut Vec<u8>, scripts: &[Script], run: &RunState) -> Result
 }
 
 #[tactic(auto, unfolding(crate::specs::Text::version_line))]
-fn put_version_line(
-    out: &mut Vec<u8>,
-    key: &Key,
-    n: NodeId,
-    version: Version,
-) -> Result<(), Memory>
+fn put_version_line(out: &mut Vec<u8>, key: &Key, n: NodeId, version: Version) -> Result<(), Memory>
     ensures { OnOk result (out.new.items ≡ out.old.items ++ version_line key.now n version) }
 {
     put_bytes(out, b"key")?;
@@ -220,7 +227,12 @@ fn put_holder_line(
         return Ok(());
     }
     let alloc = *out.allocator();
-    let version = newest_version(alloc, run.node(n).records(), key, cluster.init(key))?;
+    let version = newest_version(
+        alloc,
+        run.node(n).records.as_slice(),
+        key,
+        cluster.init(key),
+    )?;
     put_version_line(out, key, n, version)
 }
 
@@ -326,7 +338,7 @@ fn run_of<'a>(alloc: Global, doc: &'a Document, acts: &[Act]) -> Result<RunState
 {
     let mut run = RunState::new(alloc, doc)?;
     for act in acts {
-        run.keep(alloc, act)?;
+        run = run.keep(alloc, act.copy()?)?;
     }
     Ok(run)
 }
