@@ -7,6 +7,7 @@ use score_base::{
     Ident, Key, KeyList, Memory, NodeId, NodeList, Outcome, Record, TxId, Value, WriteList, push,
 };
 use std::alloc::Global;
+use std::process::Abort;
 
 pub fn node(number: u8) -> NodeId
     requires least { 1 ≤ number }
@@ -23,7 +24,6 @@ pub fn tx(number: u16) -> TxId
     TxId { number }
 }
 
-/// The key of these bytes, which are one.
 pub fn key(bytes: &[u8]) -> Key
     requires { IsTrue (is_key bytes.now) }
     ensures { result ≡ bytes.now }
@@ -31,46 +31,59 @@ pub fn key(bytes: &[u8]) -> Key
     Key::new(bytes).unwrap()
 }
 
-/// Puts a Prepared record last.
-pub fn prepared(
-    records: &mut Vec<Record>,
-    t: TxId,
-    home: NodeId,
-    parts: &[NodeId],
-    idents: (u64, u64),
-    reads: &[Key],
-    writes: &[(Key, Value)],
-) -> Result<(), Memory> {
-    let alloc = *records.allocator();
-    let rec = Record::Prepared {
-        t,
-        home,
-        parts: NodeList::from_vec(Vec::from_slice(alloc, parts)?),
-        sid: Ident(idents.0),
-        p: Ident(idents.1),
-        reads: KeyList::from_vec(Vec::from_slice(alloc, reads)?),
-        writes: WriteList::from_vec(Vec::from_slice(alloc, writes)?),
-    };
-    push(records, rec)
+/// What a participant writes down before it votes yes. The identifiers are the snapshot and the
+/// proposal.
+#[derive(Drop)]
+pub struct Vote<'a> {
+    pub t: TxId,
+    pub home: NodeId,
+    pub parts: &'a [NodeId],
+    pub idents: (u64, u64),
+    pub reads: &'a [Key],
+    pub writes: &'a [(Key, Value)],
 }
 
-/// Puts an Ended record last: with commit and this final identifier, or with abort.
-pub fn ended(records: &mut Vec<Record>, t: TxId, outcome: Outcome) -> Result<(), Memory> {
-    push(records, Record::Ended { t, outcome })
+fn prepared(alloc: Global, vote: &Vote) -> Result<Record, Memory> {
+    Ok(Record::Prepared {
+        t: vote.t,
+        home: vote.home,
+        parts: NodeList::from_vec(Vec::from_slice(alloc, vote.parts)?),
+        sid: Ident(vote.idents.0),
+        p: Ident(vote.idents.1),
+        reads: KeyList::from_vec(Vec::from_slice(alloc, vote.reads)?),
+        writes: WriteList::from_vec(Vec::from_slice(alloc, vote.writes)?),
+    })
+}
+
+fn decided(alloc: Global, t: TxId, f: u64, parts: &[NodeId]) -> Result<Record, Memory> {
+    Ok(Record::Decided {
+        t,
+        f: Ident(f),
+        parts: NodeList::from_vec(Vec::from_slice(alloc, parts)?),
+    })
+}
+
+/// Puts a record last.
+pub fn add(rt: &impl Abort, journal: &mut Vec<Record>, rec: Record) {
+    assert!(rt; push(journal, rec).is_ok());
+}
+
+/// Puts the Prepared record of a vote last.
+pub fn add_prepared(rt: &impl Abort, journal: &mut Vec<Record>, vote: &Vote) {
+    let rec = prepared(*journal.allocator(), vote).expect(rt, "memory");
+    add(rt, journal, rec);
 }
 
 /// Puts a Decided record last.
-pub fn decided(records: &mut Vec<Record>, t: TxId, f: u64, parts: &[NodeId]) -> Result<(), Memory> {
-    let alloc = *records.allocator();
-    let parts = NodeList::from_vec(Vec::from_slice(alloc, parts)?);
-    push(
-        records,
-        Record::Decided {
-            t,
-            f: Ident(f),
-            parts,
-        },
-    )
+pub fn add_decided(rt: &impl Abort, journal: &mut Vec<Record>, t: TxId, f: u64, parts: &[NodeId]) {
+    let rec = decided(*journal.allocator(), t, f, parts).expect(rt, "memory");
+    add(rt, journal, rec);
+}
+
+/// Puts an Ended record with commit last.
+pub fn add_committed(rt: &impl Abort, journal: &mut Vec<Record>, t: TxId, f: u64) {
+    let outcome = Outcome::Commit(Ident(f));
+    add(rt, journal, Record::Ended { t, outcome });
 }
 
 fn places(alloc: Global) -> Result<Places, Memory>

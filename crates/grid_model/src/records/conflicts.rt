@@ -1,7 +1,7 @@
 //! What stands in the way of a transaction: the holder of one of its keys, and a newer version.
 ghost use Rattle.std.specs.Prelude.{◌≡◌, Some, reverse, IfOk};
 ghost use Rattle.script_lang.specs.Reads.{is_key_among};
-ghost use Rattle.grid_model.specs.Journals.{pendings, keys_in, shares, conflict, conflicts_with, prepared_of, is_locking, lesser, holds_out, holder, newer};
+ghost use Rattle.grid_model.specs.Journals.{pendings, keys_in, shares, conflicts_with, prepared_of, is_locking, lesser, holds_out, holder, newer};
 
 use super::commits::pendings;
 use super::endings::{ended, pending};

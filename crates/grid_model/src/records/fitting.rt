@@ -3,7 +3,7 @@ ghost use Rattle.std.specs.Prelude.{◌≡◌, ◌&&◌, ◌∷◌, List, revers
 ghost use Rattle.std.specs.List.{list_all};
 ghost use Rattle.placement.specs.Places.{is_among, holds};
 ghost use Rattle.score_base.specs.declared.records.Record.{Record};
-ghost use Rattle.grid_model.specs.Journals.{is_above, are_distinct_keys, are_own_keys, are_lists, keys_in, holder, newer, fits_prepared, fits_outcome, fits};
+ghost use Rattle.grid_model.specs.Journals.{is_above, are_distinct_keys, are_own_keys, are_lists, holder, newer, fits_prepared, fits_outcome, fits};
 
 use super::conflicts::{holder, is_key_among, keys_in, newer};
 use super::decisions::undone;
