@@ -14,3 +14,5 @@ pub mod Unarmed
 pub mod LawfulStops
 pub mod Fitting
 pub mod ViewsOnTheWay
+pub mod Undecided
+pub mod ViewSteps
