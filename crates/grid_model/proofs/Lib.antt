@@ -16,3 +16,5 @@ pub mod Fitting
 pub mod ViewsOnTheWay
 pub mod Undecided
 pub mod ViewSteps
+pub mod HeardViews
+pub mod PlainOuts

@@ -42,7 +42,7 @@ same-view v w cluster journal next held desk acks = λ i. record { cluster = clu
 -- ---- the desk and the acknowledgements, by one story
 
 -- what the desk has of a script, by its story and by what the journal says of it
-abbrev entry : ScriptData → Bool → Option Decision → Option Story → Option Open
+abbrev pub entry : ScriptData → Bool → Option Decision → Option Story → Option Open
 entry s closed y o = open_by s (phase_by s.ops o closed y) o
 
 -- a decided transaction is not open

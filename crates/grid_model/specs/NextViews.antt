@@ -1,5 +1,5 @@
 -- The view of a node behind an event: what the event and each out that the node gives leave of what it knows.
-use Rattle.std.specs.Prelude.{ℕ, max, Bool, true, false, ◌&&◌, ◌==◌, List, [], ◌∷◌, ◌++◌, length, Option, Some, None, if◌then◌else◌}
+use Rattle.std.specs.Prelude.{ℕ, max, Bool, true, false, ◌&&◌, ◌||◌, ◌==◌, not, IsTrue, List, [], ◌∷◌, ◌++◌, length, Option, Some, None, is_none, if◌then◌else◌}
 use Rattle.score_base.specs.declared.ids.TxId.{TxId}
 use Rattle.score_base.specs.declared.ids.NodeId.{NodeId}
 use Rattle.score_base.specs.declared.ids.Ident.{Ident}
@@ -21,9 +21,11 @@ use Rattle.grid_model.specs.declared.messages.Envelope.{Envelope}
 use Rattle.grid_model.specs.declared.messages.Message.{Message}
 use Rattle.grid_model.specs.declared.messages.Message.TheVariants as message
 use Rattle.grid_model.specs.declared.stories.HeldRead.{HeldRead}
-use Rattle.grid_model.specs.Journals.{Decision, decision}
-use Rattle.grid_model.specs.Nodes.{prepared_by, held_by, said_by, is_request, written, learnt, with_held, without_read}
-use Rattle.grid_model.specs.Stories.{first_sid, place_behind, has_voted}
+use Rattle.grid_model.specs.declared.stories.Story.{Story}
+use Rattle.grid_model.specs.Documents.{DocumentData}
+use Rattle.grid_model.specs.Journals.{Decision, decision, undone}
+use Rattle.grid_model.specs.Nodes.{journal, is_home, prepared_by, held_by, said_by, is_request, written, learnt, with_held, without_read}
+use Rattle.grid_model.specs.Stories.{story, first_sid, place_behind, has_voted}
 use Rattle.grid_model.specs.Views.{View, Open, Stage, Collects, Commits, stage}
 use Rattle.grid_model.specs.Advances.{parts_now}
 use Rattle.grid_model.specs.Fitness.{is_fit}
@@ -69,6 +71,20 @@ acks_heard n v x said t = v.acks t
 -- the view of n behind a message from x, before n gives anything
 abbrev pub heard_view : NodeId → View → NodeId → Message → View
 heard_view n v x said = record v { desk = desk_heard n v x said; acks = acks_heard n v x said }
+
+-- ---- what it rests on
+
+-- a transaction that began and was not lost
+abbrev pub is_running : Option Story → Bool
+is_running None = false
+is_running (Some x) = not x.lost
+
+abbrev pub is_own_decision : DocumentData → List Act → NodeId → TxId → Bool
+is_own_decision d past n t = is_none (undone t (journal d past n)) || (is_home d t n && is_running (story d past t))
+
+-- each transaction that is decided and not closed in the journal of n is of home n, began, and was not lost
+abbrev pub OwnDecisions : DocumentData → List Act → NodeId → Type 0
+OwnDecisions d past n = (t : TxId) → IsTrue (is_own_decision d past n t)
 
 -- ---- an out
 
