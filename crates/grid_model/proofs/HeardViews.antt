@@ -1,5 +1,5 @@
 -- The view of a node behind a message that it got, before it gives anything.
-use Rattle.std.proofs.Common.{ℕ, Bool, true, false, ◌&&◌, ◌||◌, ◌==◌, not, IsTrue, List, [], ◌∷◌, ◌++◌, length, Option, None, Some, is_some, is_none, ◌≡◌, refl, ap, subst, sym, ◌∙◌, arith, ◌⊎◌, inl, inr, if◌then◌else◌}
+use Rattle.std.proofs.Common.{ℕ, Bool, true, false, ◌&&◌, ◌||◌, ◌==◌, IsTrue, List, [], ◌∷◌, Option, None, Some, is_some, is_none, ◌≡◌, refl, sym, ◌∙◌, arith, inl, inr, if◌then◌else◌}
 use Rattle.std.proofs.lemmas.Bool.{cases_eq}
 use Rattle.std.proofs.lemmas.Bool.Decides.{nat_tests}
 use Rattle.score_base.specs.declared.ids.TxId.{TxId}
@@ -20,12 +20,12 @@ use Rattle.grid_model.specs.declared.stories.Story.{Story}
 use Rattle.grid_model.specs.Documents.{DocumentData}
 use Rattle.grid_model.specs.Histories.{sent, sent_at}
 use Rattle.grid_model.specs.Journals.{Decision, decision, is_closed, undone}
-use Rattle.grid_model.specs.Nodes.{Node, node, script_of, parts_of, is_home, is_home_in}
+use Rattle.grid_model.specs.Nodes.{Node, node, script_of, parts_of, is_home_in}
 use Rattle.grid_model.specs.Advances.{parts_now}
-use Rattle.grid_model.specs.Stories.{Decided, open_phase, waiting, is_collecting, is_part, story, heard, heard_at, if_told, phase_by, phase_at, is_small_node, is_fit_ballot, is_counted_vote, is_counted_ack, with_vote, with_ack}
-use Rattle.grid_model.specs.Views.{Stage, View, Open, open_of, open_by, open_at, acks_by, acks_at, view, stage, stage_by, open_stage}
-use Rattle.grid_model.specs.Fitness.{is_fit, is_part_at}
-use Rattle.grid_model.specs.NextViews.{changed_open, with_yes, with_node, is_collects, is_commits, desk_heard, acks_heard, heard_view, OwnDecisions, is_own_decision, is_running}
+use Rattle.grid_model.specs.Stories.{Decided, open_phase, waiting, is_collecting, is_part, story, heard, heard_at, if_told, phase_by, phase_at, is_small_node, is_fit_ballot, is_counted_vote, with_vote, with_ack}
+use Rattle.grid_model.specs.Views.{Stage, Open, open_at, acks_by, acks_at, view, stage_by, open_stage}
+use Rattle.grid_model.specs.Fitness.{is_part_at}
+use Rattle.grid_model.specs.NextViews.{changed_open, with_yes, with_node, is_collects, is_commits, heard_view, OwnDecisions, is_running}
 use Rattle.grid_model.proofs.Undecided.{script-number}
 use Rattle.grid_model.proofs.ViewSteps.{same-view, entry, entry-decided, here, acks-told}
 

@@ -18,3 +18,4 @@ pub mod Undecided
 pub mod ViewSteps
 pub mod HeardViews
 pub mod PlainOuts
+pub mod NextSteps

@@ -1,34 +1,24 @@
 -- The outs of the rows that stand anywhere among the outs of an event, and what they leave of the view.
-use Rattle.std.proofs.Common.{ℕ, ◌+◌, Bool, true, false, ◌&&◌, ◌||◌, ◌==◌, not, nat_lt, IsTrue, filter, map, List, [], ◌∷◌, ◌++◌, length, Option, None, Some, ◌≡◌, refl, ap, sym, ◌∙◌, arith, if◌then◌else◌}
+use Rattle.std.proofs.Common.{ℕ, ◌+◌, Bool, true, false, ◌&&◌, ◌==◌, IsTrue, map, List, [], ◌∷◌, ◌++◌, Option, ◌≡◌, refl, ap, ◌∙◌, arith}
 use Rattle.std.specs.List.{list_all}
 use Rattle.std.proofs.lemmas.Bool.Decides.{nat_tests}
 use Rattle.score_base.specs.declared.ids.TxId.{TxId}
 use Rattle.score_base.specs.declared.ids.NodeId.{NodeId}
-use Rattle.score_base.specs.declared.ids.Ident.{Ident}
 use Rattle.score_base.specs.declared.ids.Value.{Value}
-use Rattle.score_base.specs.declared.keys.Key.{Key}
-use Rattle.score_base.specs.declared.causes.Ballot.TheVariants as ballot
-use Rattle.score_base.specs.declared.causes.Outcome.{Outcome}
-use Rattle.score_base.specs.declared.causes.Outcome.TheVariants as outcome
-use Rattle.score_base.specs.declared.records.Record.{Record}
 use Rattle.script_lang.specs.Scripts.{ScriptData}
-use Rattle.script_lang.specs.Reads.{is_update}
-use Rattle.script_lang.specs.declared.scripts.Op.{Op}
-use Rattle.placement.specs.Clusters.{ClusterData}
 use Rattle.grid_model.specs.declared.acts.Act.{Act}
 use Rattle.grid_model.specs.declared.acts.Act.TheVariants as act
 use Rattle.grid_model.specs.declared.events.Out.{Out}
 use Rattle.grid_model.specs.declared.events.Out.TheVariants as out
 use Rattle.grid_model.specs.declared.messages.Envelope.{Envelope}
 use Rattle.grid_model.specs.declared.messages.Message.{Message}
-use Rattle.grid_model.specs.declared.stories.HeldRead.{HeldRead}
 use Rattle.grid_model.specs.Documents.{DocumentData}
 use Rattle.grid_model.specs.Histories.{after}
 use Rattle.grid_model.specs.Nodes.{got, is_home}
-use Rattle.grid_model.specs.Views.{View, view}
+use Rattle.grid_model.specs.Views.{view}
 use Rattle.grid_model.specs.Schedules.{numbered}
 use Rattle.grid_model.specs.NextViews.{behind, behind_all}
-use Rattle.grid_model.proofs.ViewSteps.{here, step-prepared, step-ended, step-ceiling, step-raised, step-held, step-served, step-quiet, step-refused, step-taken, step-finished, step-aborted, step-sent, step-closed}
+use Rattle.grid_model.proofs.ViewSteps.{step-prepared, step-ended, step-ceiling, step-raised, step-held, step-served, step-quiet, step-refused, step-taken, step-finished, step-aborted, step-sent, step-closed}
 
 -- an out of n that may stand anywhere; where no message is delivered, one that takes nothing from it
 abbrev pub is_plain : DocumentData → NodeId → Bool → Out → Bool

@@ -1,5 +1,5 @@
 -- What holds of a transaction that its home has not decided: no acknowledgement of it was taken.
-use Rattle.std.proofs.Common.{ℕ, Bool, true, false, ◌&&◌, ◌||◌, ◌==◌, not, IsTrue, List, [], ◌∷◌, ◌++◌, length, Option, None, Some, ◌≡◌, refl, ap, sym, ◌∙◌, arith, if◌then◌else◌}
+use Rattle.std.proofs.Common.{Bool, true, false, List, [], ◌∷◌, Option, None, Some, ◌≡◌, refl, arith}
 use Rattle.std.proofs.lemmas.Bool.Decides.{nat_tests}
 use Rattle.score_base.specs.declared.ids.TxId.{TxId}
 use Rattle.score_base.specs.declared.ids.NodeId.{NodeId}
@@ -17,9 +17,9 @@ use Rattle.grid_model.specs.declared.messages.Message.TheVariants as message
 use Rattle.grid_model.specs.declared.stories.Story.{Story}
 use Rattle.grid_model.specs.Documents.{DocumentData}
 use Rattle.grid_model.specs.Histories.{sent, sent_at}
-use Rattle.grid_model.specs.Journals.{Decision, decision}
-use Rattle.grid_model.specs.Nodes.{Node, Change, Writes, Starts, Nothing, Raises, Holds, Frees, Stops, Stays, node, script_of, parts_of, got, change, changed, written, found}
-use Rattle.grid_model.specs.Stories.{story, told, heard, heard_at, asked, if_told, phase_by, phase_at, is_decided, is_counted_vote, is_counted_ack, with_vote, with_ack, with_value, with_request, without_answers}
+use Rattle.grid_model.specs.Journals.{decision}
+use Rattle.grid_model.specs.Nodes.{Node, Change, Writes, Starts, node, script_of, parts_of, got, change, changed, written, found}
+use Rattle.grid_model.specs.Stories.{story, told, heard, heard_at, if_told, phase_by, phase_at, is_decided, with_vote, with_value, with_request, without_answers}
 use Rattle.grid_model.specs.Views.{acks_by}
 
 -- the script of a number has that number

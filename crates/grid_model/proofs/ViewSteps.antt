@@ -1,5 +1,5 @@
 -- How the view of a node steps: what one act of the node leaves of it.
-use Rattle.std.proofs.Common.{ℕ, Bool, true, false, ◌&&◌, ◌||◌, ◌==◌, not, IsTrue, List, [], ◌∷◌, ◌++◌, length, Option, None, Some, ◌≡◌, refl, ap, subst, sym, ◌∙◌, arith, ◌⊎◌, inl, inr, if◌then◌else◌}
+use Rattle.std.proofs.Common.{ℕ, Bool, true, false, ◌||◌, ◌==◌, List, [], ◌∷◌, length, Option, None, Some, ◌≡◌, refl, subst, ◌∙◌, arith, inl, inr, if◌then◌else◌}
 use Rattle.std.proofs.lemmas.Bool.{cases_eq}
 use Rattle.std.proofs.lemmas.Bool.Decides.{nat_tests}
 use Rattle.score_base.specs.declared.ids.TxId.{TxId}
@@ -14,24 +14,19 @@ use Rattle.grid_model.specs.declared.messages.Message.{Message}
 use Rattle.grid_model.specs.declared.messages.Message.TheVariants as message
 use Rattle.score_base.specs.declared.records.Record.{Record}
 use Rattle.script_lang.specs.Scripts.{ScriptData}
-use Rattle.script_lang.specs.Reads.{is_update}
-use Rattle.script_lang.specs.declared.scripts.Op.{Op}
-use Rattle.placement.specs.Clusters.{ClusterData}
 use Rattle.grid_model.specs.declared.acts.Act.{Act}
 use Rattle.grid_model.specs.declared.acts.Act.TheVariants as act
-use Rattle.grid_model.specs.declared.stories.HeldRead.{HeldRead}
 use Rattle.grid_model.specs.declared.stories.Story.{Story}
 use Rattle.grid_model.specs.Documents.{DocumentData}
-use Rattle.grid_model.specs.Journals.{Decision, decision, is_closed, undone}
+use Rattle.grid_model.specs.Journals.{Decision, decision, is_closed}
 use Rattle.grid_model.specs.declared.events.Out.TheVariants as out
 use Rattle.grid_model.specs.declared.messages.Envelope.{Envelope}
 use Rattle.grid_model.specs.Nodes.{Node, node, script_of, got, written, prepared_by, changed, freed, without_read, is_request, said_by, is_home, parts_in}
-use Rattle.grid_model.specs.Stories.{story, told, begun, with_value, with_request, with_vote, with_ack, if_told, phase_by, phase_at, is_open, undecided_phase, decided_phase, open_phase, waiting}
-use Rattle.grid_model.specs.Views.{View, Open, open_of, open_by, open_at, acks_by, acks_at, view, view_of}
-use Rattle.grid_model.specs.Rows.{begun_at}
+use Rattle.grid_model.specs.Stories.{story, told, begun, with_value, with_request, if_told, phase_by}
+use Rattle.grid_model.specs.Views.{View, Open, open_by, open_at, acks_by, acks_at, view}
 use Rattle.grid_model.specs.Advances.{parts_now}
 use Rattle.grid_model.proofs.Undecided.{script-number, undecided-acks}
-use Rattle.grid_model.specs.NextViews.{changed_open, with_taken, with_turn, with_yes, if_update, opened_by, behind}
+use Rattle.grid_model.specs.NextViews.{changed_open, with_taken, with_turn, if_update, opened_by, behind}
 
 -- ---- equal views
 
