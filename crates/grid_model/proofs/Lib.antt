@@ -25,3 +25,8 @@ pub mod Stands
 pub mod Readable
 pub mod Locks
 pub mod Conflicts
+pub mod Undecided
+pub mod ViewSteps
+pub mod HeardViews
+pub mod PlainOuts
+pub mod NextSteps

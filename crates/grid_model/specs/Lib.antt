@@ -10,6 +10,7 @@ pub mod Advances
 pub mod Fitness
 pub mod Rows
 pub mod Schedules
+pub mod NextViews
 pub mod Runs
 pub mod Acts
 pub mod Copies
