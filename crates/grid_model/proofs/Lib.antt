@@ -15,3 +15,4 @@ pub mod Stands
 pub mod Readable
 pub mod Locks
 pub mod Conflicts
+pub mod Walks
