@@ -16,3 +16,5 @@ pub mod Readable
 pub mod Locks
 pub mod Conflicts
 pub mod Walks
+pub mod AllReads
+pub mod SerialWalks
