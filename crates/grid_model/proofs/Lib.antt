@@ -18,3 +18,5 @@ pub mod Conflicts
 pub mod Walks
 pub mod AllReads
 pub mod SerialWalks
+pub mod RemoteReads
+pub mod Decisions
