@@ -14,6 +14,7 @@ use Rattle.script_lang.specs.Reads.{is_key_among, key_of, remote_keys, written_k
 use Rattle.grid_model.specs.Serials.{Map, put, zeros, serial_reads, serial_map, reads_on, map_behind}
 use Rattle.grid_model.specs.Stories.{value_taken, first_open, waiting_from, waiting}
 use Rattle.grid_model.specs.Advances.{Walk, unread, read_step, taken_step, write_step, if_taken, own_reads, walked, own_map, op_at}
+use Rattle.grid_model.proofs.RemoteReads.{InOrder, order-left, order-untaken}
 use Rattle.grid_model.proofs.Walks.{IsOpen, waiting-open, IsMore, more-taken, IsCase, own, far, here, case-of, IsFrom, own-from}
 
 -- ---- all reads
@@ -72,6 +73,13 @@ pub reads-more : (i : ℕ) (v : Value) (values : List (ℕ × Value)) (ops : Lis
 reads-more i v values ops none h =
     let more = more-taken i v values (waiting-open 1 i [] values ops h).untaken in
     reads-extend 1 i v [] unread values (values ++ (i, v) ∷ []) ops more (λ a lt. more.others a (λ same. omega arith) ∙ none a lt) h
+
+-- and so where the values are taken in order
+pub reads-next : (i : ℕ) (v : Value) (values : List (ℕ × Value)) (rest : List ℕ) (ops : List Op) → InOrder ops values rest → waiting ops values ≡ Some i → reads_by (values ++ (i, v) ∷ []) ops ≡ reads_by values ops ++ (i, v) ∷ filter (λ y. nat_lt i y.0) (own_reads 1 [] unread (values ++ (i, v) ∷ []) ops)
+reads-next i v values rest ops h w =
+    let left = order-left ops values rest i h w in
+    let h' : InOrder ops values (i ∷ left.0) = subst (InOrder ops values) left.1 h in
+    reads-more i v values ops (λ a lt. order-untaken ops values i left.0 a h' (omega arith)) w
 
 -- ---- a value behind the open read changes nothing
 

@@ -20,3 +20,4 @@ pub mod AllReads
 pub mod SerialWalks
 pub mod RemoteReads
 pub mod Decisions
+pub mod Written

@@ -16,6 +16,7 @@ use Rattle.grid_model.specs.Stories.{value_taken, first_open, waiting_from, wait
 use Rattle.grid_model.specs.Advances.{Walk, unread, read_step, taken_step, write_step, if_taken, own_reads, walked, own_map, op_at}
 use Rattle.grid_model.specs.Copies.{op_key}
 use Rattle.grid_model.proofs.KeyLists.{same_key-is, same_key-self, same_key-turned}
+use Rattle.grid_model.proofs.RemoteReads.{InOrder, IsRemote, order-remote}
 use Rattle.grid_model.proofs.AllReads.{all_reads, reads_by}
 
 -- ---- the values taken are those of a map
@@ -23,6 +24,16 @@ use Rattle.grid_model.proofs.AllReads.{all_reads, reads_by}
 -- each value taken for one of these operations, the first of which has number j, is that of its key
 abbrev pub AreOf : Map → ℕ → List (ℕ × Value) → List Op → Type 0
 AreOf m j values ops = (i : ℕ) (k : Key) (v : Value) → op_key (slice_get ops i) ≡ Some k → value_taken (j + i) values ≡ Some v → v ≡ m k
+
+-- each value taken for an operation of a script is that of its key
+abbrev pub AreOfKeys : Map → List (ℕ × Value) → List Op → Type 0
+AreOfKeys m values ops = (j : ℕ) (k : Key) (v : Value) → op_key (op_at ops j) ≡ Some k → value_taken j values ≡ Some v → v ≡ m k
+
+pub keys-of : (m : Map) (values : List (ℕ × Value)) (ops : List Op) → AreOfKeys m values ops → AreOf m 1 values ops
+keys-of m values ops each i k v is e =
+    let same : i ≡ 1 + i - 1 = omega arith in
+    let P : ℕ → Type 0 = λ a. op_key (slice_get ops a) ≡ Some k in
+    each (1 + i) k v (subst P same is) e
 
 of-here : (m : Map) (j : ℕ) (k : Key) (v : Value) (values : List (ℕ × Value)) (ops : List Op) → AreOf m j values (op.Read k ∷ ops) → value_taken j values ≡ Some v → v ≡ m k
 of-here m j k v values ops each e =
