@@ -80,6 +80,10 @@ applied-says c n t f r fit h =
 pub says-applied : (t : TxId) (f : Ident) (r : List Record) → ended t r ≡ Some (outcome.Commit f) → is_clear f r ≡ true → has_pair t f (applied r) ≡ true
 says-applied t f r e clear = applied-is t f r ∙ and_from (has_pair t f (commits r)) (is_clear f r) (ended-commits t f r e) clear
 
+-- below every pending proposal each commit is applied
+pub clear-applied : (s : Ident) (t : TxId) (f : Ident) (r : List Record) → ended t r ≡ Some (outcome.Commit f) → is_clear s r ≡ true → f ≤ s → has_pair t f (applied r) ≡ true
+clear-applied s t f r e clear le = says-applied t f r e (clear-below s f r le clear)
+
 pub applied-floor : (t : TxId) (f : Ident) (r : List Record) → has_pair t f (applied r) ≡ true → f ≤ floor r
 applied-floor t f r h = commits-floor t f r (and_parts (has_pair t f (commits r)) (is_clear f r) (sym (applied-is t f r) ∙ h)).0
 
@@ -174,4 +178,4 @@ commit_id-later c n (y ∷ s) r fit = omega (arith, commit_id-later c n s r (res
 
 -- each commit up to it is applied
 pub commit-applied : (c : ClusterData) (n : NodeId) (t : TxId) (f : Ident) (r : List Record) → all_fit c n r ≡ true → ended t r ≡ Some (outcome.Commit f) → f ≤ commit_id r → has_pair t f (applied r) ≡ true
-commit-applied c n t f r fit e le = says-applied t f r e (clear-below (commit_id r) f r le (commit_id-clear c n r fit))
+commit-applied c n t f r fit e le = clear-applied (commit_id r) t f r e (commit_id-clear c n r fit) le

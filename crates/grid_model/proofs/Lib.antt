@@ -30,3 +30,9 @@ pub mod ViewSteps
 pub mod HeardViews
 pub mod PlainOuts
 pub mod NextSteps
+pub mod Walks
+pub mod AllReads
+pub mod SerialWalks
+pub mod RemoteReads
+pub mod Decisions
+pub mod Written

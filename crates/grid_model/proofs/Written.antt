@@ -1,0 +1,71 @@
+-- Which keys and values does a Prepare bring to a node?
+use Rattle.std.proofs.Common.{ℕ, ◌+◌, ◌-◌, ◌≤◌, ◌<◌, ◌≡◌, ◌≢◌, ◌⊎◌, inl, inr, Bool, true, false, ◌&&◌, ◌||◌, not, map, List, [], ◌∷◌, ◌++◌, Option, Some, None, is_some, refl, sym, ap, subst, ◌∙◌, arith, if◌then◌else◌}
+use Rattle.std.proofs.lemmas.Bool.{cases_Bool, cases_eq, and_parts, and_from, or_parts, or_from, or_cases, or_left, or_right}
+use Rattle.std.proofs.lemmas.Bool.Decides.{nat_tests}
+use Rattle.std.specs.Prelude.{◌==◌, nat_lt, nat_le, filter, slice_get}
+use Rattle.score_base.specs.declared.ids.Value.{Value}
+use Rattle.score_base.specs.declared.keys.Key.{Key}
+use Rattle.score_base.specs.Keys.{same_key}
+use Rattle.script_lang.specs.declared.exprs.Expr.{Expr}
+use Rattle.script_lang.specs.declared.scripts.Op.{Op}
+use Rattle.script_lang.specs.declared.scripts.Op.TheVariants as op
+use Rattle.script_lang.specs.Exprs.{expr_value}
+use Rattle.script_lang.specs.Reads.{is_key_among, key_of, remote_keys, written_keys, is_update}
+use Rattle.grid_model.specs.Serials.{Map, put, zeros, serial_reads, serial_map, reads_on, map_behind}
+use Rattle.grid_model.specs.Stories.{value_taken, first_open, waiting_from, waiting}
+use Rattle.grid_model.specs.Advances.{Walk, unread, read_step, taken_step, write_step, if_taken, own_reads, walked, own_map, op_at}
+use Rattle.score_base.specs.declared.ids.NodeId.{NodeId}
+use Rattle.placement.specs.Places.{holds}
+use Rattle.placement.specs.Clusters.{ClusterData}
+use Rattle.grid_model.specs.Views.{Open}
+use Rattle.grid_model.specs.Journals.{written_value, keys_in}
+use Rattle.grid_model.specs.Advances.{prepare_for}
+use Rattle.grid_model.proofs.KeyLists.{same_key-is, same_key-turned}
+
+-- ---- lists of keys with a value each
+
+-- each key with its value
+abbrev pub with_values : Map → List Key → List (Key × Value)
+with_values m ks = map (λ k. (k, m k)) ks
+
+pub with_values-keys : (m : Map) (ks : List Key) → keys_in (with_values m ks) ≡ ks
+with_values-keys m [] = refl
+with_values-keys m (k ∷ ks) = ap (λ xs. k ∷ xs) (with_values-keys m ks)
+
+pub with_values-at : (m : Map) (k : Key) (ks : List Key) → written_value k (with_values m ks) ≡ (if is_key_among k ks then Some (m k) else None)
+with_values-at m k [] = refl
+with_values-at m k (x ∷ ks) = go (same_key k x) (same_key x k) (same_key-turned k x) same (with_values-at m k ks)
+  where
+    same : same_key k x ≡ true → m x ≡ m k
+    same h = ap m (sym (same_key-is k x h))
+    go : (a b : Bool) → a ≡ b → (a ≡ true → m x ≡ m k) → written_value k (with_values m ks) ≡ (if is_key_among k ks then Some (m k) else None) → (if b then Some (m x) else written_value k (with_values m ks)) ≡ (if a || is_key_among k ks then Some (m k) else None)
+    go true b e is rest = rw (← e) (ap (λ v. Some v) (is refl))
+    go false b e is rest = rw (← e) rest
+
+pub among-filter : (p : Key → Bool) (k : Key) (ks : List Key) → is_key_among k (filter p ks) ≡ (is_key_among k ks && p k)
+among-filter p k [] = refl
+among-filter p k (x ∷ ks) = go (p x) same (among-filter p k ks)
+  where
+    same : same_key k x ≡ true → p k ≡ p x
+    same h = ap p (same_key-is k x h)
+    go : (b : Bool) → (same_key k x ≡ true → p k ≡ b) → is_key_among k (filter p ks) ≡ (is_key_among k ks && p k) → is_key_among k (if b then x ∷ filter p ks else filter p ks) ≡ ((same_key k x || is_key_among k ks) && p k)
+    go true e rest = grind (arith, e, rest)
+    go false e rest = grind (arith, e, rest)
+
+-- ---- the Prepare for a node
+
+-- a key is read there where it is read remotely and the node holds it
+pub prepare-reads : (c : ClusterData) (x : Open) (n : NodeId) (k : Key) → is_key_among k (prepare_for c x n).reads ≡ (is_key_among k (remote_keys [] x.script.ops) && holds c.places n k)
+prepare-reads c x n k = among-filter (holds c.places n) k (remote_keys [] x.script.ops)
+
+-- a key is written there where it is written and the node holds it
+pub prepare-keys : (c : ClusterData) (x : Open) (n : NodeId) (k : Key) → is_key_among k (keys_in (prepare_for c x n).writes) ≡ (is_key_among k (written_keys [] x.script.ops) && holds c.places n k)
+prepare-keys c x n k =
+    ap (is_key_among k) (with_values-keys (own_map x.script.ops x.values) (filter (holds c.places n) (written_keys [] x.script.ops)))
+    ∙ among-filter (holds c.places n) k (written_keys [] x.script.ops)
+
+-- with the value that the transaction wrote last
+pub prepare-value : (c : ClusterData) (x : Open) (n : NodeId) (k : Key) → written_value k (prepare_for c x n).writes ≡ (if is_key_among k (written_keys [] x.script.ops) && holds c.places n k then Some (own_map x.script.ops x.values k) else None)
+prepare-value c x n k =
+    with_values-at (own_map x.script.ops x.values) k (filter (holds c.places n) (written_keys [] x.script.ops))
+    ∙ ap (λ b. if b then Some (own_map x.script.ops x.values k) else None) (among-filter (holds c.places n) k (written_keys [] x.script.ops))
