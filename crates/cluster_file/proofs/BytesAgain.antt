@@ -1,5 +1,5 @@
 -- The bytes of a document's spelling are read as that document.
-use Rattle.std.proofs.Common.{◌≡◌, ℕ, ◌+◌, ◌<◌, ◌≤◌, ◌^◌, true, false, ◌&&◌, ◌==◌, List, [], ◌∷◌, ◌++◌, length, length-append, nat_le, nat_lt, Bool, cond, Result, Ok, Err, refl, sym, ap, ◌∙◌, map, arith, codes}
+use Rattle.std.proofs.Common.{◌≡◌, ℕ, ◌+◌, ◌<◌, ◌≤◌, ◌^◌, true, false, ◌&&◌, ◌==◌, List, [], ◌∷◌, ◌++◌, length, length-append, nat_le, nat_lt, Bool, cond, Result, Ok, Err, refl, ap, ◌∙◌, map, arith, codes}
 use Rattle.std.specs.Prelude.{sum_by}
 use Rattle.std.specs.Fmt.{decimal}
 use Rattle.std.specs.List.{list_all, flat_map, join_with_byte, slice_split}
@@ -9,7 +9,7 @@ use Rattle.std.proofs.lemmas.List.Folds.{list_all-append}
 use Rattle.score_base.specs.declared.ids.NodeId.{NodeId}
 use Rattle.score_base.specs.declared.ids.Value.{Value}
 use Rattle.score_base.specs.declared.keys.Key.{Key}
-use Rattle.score_base.specs.Keys.{is_key, is_key_byte, is_digit}
+use Rattle.score_base.specs.Keys.{is_key}
 use Rattle.script_lang.specs.Scripts.{ScriptData}
 use Rattle.script_lang.specs.declared.scripts.Op.{Op}
 use Rattle.script_lang.specs.declared.scripts.Op.TheVariants as op
@@ -19,9 +19,9 @@ use Rattle.grid_model.specs.declared.items.Item.TheVariants as item
 use Rattle.cluster_file.specs.declared.drafts.Draft.{Draft}
 use Rattle.cluster_file.specs.declared.drafts.Part.TheVariants as part
 use Rattle.cluster_file.specs.Reading.{◌>>=◌}
-use Rattle.cluster_file.specs.Lines.{words_line, line_of, is_printed}
+use Rattle.cluster_file.specs.Lines.{words_line, line_of}
 use Rattle.cluster_file.specs.Doc.{◌>>>◌, at_line, is_whole, close, pieces_from, blank, document_of, doc}
-use Rattle.cluster_file.specs.Spelling.{IsBuilt, IsInRange, is_built_item, is_node, is_tx, is_init_in_range, has_key, is_script_in_range, is_item_in_range, node_word, nodes_words, partition_words, init_words, tx_words, op_words, item_words, partition_lines, script_lines, document_lines, line, spelling}
+use Rattle.cluster_file.specs.Spelling.{IsBuilt, IsInRange, is_node, is_tx, is_init_in_range, has_key, is_script_in_range, is_item_in_range, node_word, nodes_words, partition_words, init_words, tx_words, op_words, item_words, partition_lines, script_lines, document_lines, spelling}
 use Rattle.cluster_file.proofs.Bools.{and_parts}
 use Rattle.cluster_file.proofs.Bytes.{is_plain, are_plain, is_line, plain_decimal, plain_key, words_again, printed_words, lines_again}
 use Rattle.cluster_file.proofs.Again.{small}

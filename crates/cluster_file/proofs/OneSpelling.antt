@@ -1,21 +1,18 @@
 -- The bytes in which a document is read are its spelling.
-use Rattle.std.proofs.Common.{◌≡◌, ℕ, ◌+◌, ◌≤◌, ◌==◌, ◌&&◌, true, false, List, [], ◌∷◌, ◌++◌, length, Option, None, Result, Ok, Err, IfOk, refl, sym, ap, ◌∙◌, subst, map, append_assoc, arith, codes}
+use Rattle.std.proofs.Common.{◌≡◌, ℕ, ◌+◌, ◌≤◌, ◌==◌, ◌&&◌, true, false, List, [], ◌∷◌, ◌++◌, length, None, Result, Ok, Err, IfOk, refl, sym, ap, ◌∙◌, subst, map, append_assoc, arith}
 use Rattle.std.specs.List.{list_all, flat_map, join_with_byte, slice_split}
 use Rattle.std.proofs.lemmas.Bool.Decides.{nat_tests}
 use Rattle.std.proofs.lemmas.Grind.{flat_map-append}
 use Rattle.std.proofs.lemmas.List.{append-nil}
 use Rattle.std.proofs.lemmas.List.Splits.{join_with_byte-slice_split}
-use Rattle.script_lang.specs.Scripts.{ScriptData}
 use Rattle.grid_model.specs.Documents.{DocumentData, IsDocument}
 use Rattle.cluster_file.specs.declared.drafts.Draft.{Draft}
-use Rattle.cluster_file.specs.declared.drafts.Part.{Part}
-use Rattle.cluster_file.specs.declared.drafts.Part.TheVariants as part
 use Rattle.cluster_file.specs.declared.whys.Refusal.{Refusal}
 use Rattle.cluster_file.specs.Lines.{is_printed, line_of}
 use Rattle.cluster_file.specs.Doc.{◌>>>◌, at_line, is_whole, close, pieces_from, blank, document_of, doc}
 use Rattle.cluster_file.specs.Spelling.{IsInRange, IsBuilt, line, spelling, nodes_words, partition_lines, init_words, script_lines, document_lines}
 use Rattle.cluster_file.proofs.Bools.{and_parts}
-use Rattle.cluster_file.proofs.Steps.{either, numbered, below, at_ok}
+use Rattle.cluster_file.proofs.Steps.{either, numbered, below}
 use Rattle.cluster_file.proofs.SoFar.{IsStage, IsBegun}
 use Rattle.cluster_file.proofs.Keeps.{IsWhole, line_keeps, blank_line_keeps, blank_pieces_keep, IsDocument-from_pieces}
 use Rattle.cluster_file.proofs.Told.{open_lines, schedule_lines, lines_so_far, IsInRangeSoFar, Adds, Begins, words_told, blank_words_told}

@@ -1,4 +1,3 @@
-use Rattle.cluster_file.proofs.Bytes.{lines_again}
 use Rattle.cluster_file.proofs.OneSpelling.{spelled}
 use Rattle.cluster_file.proofs.BytesAgain.{read_again}
 use Rattle.cluster_file.proofs.laws.law_one_spelling.Goals as goal
