@@ -56,6 +56,7 @@ reads-extend j i v seen w values values' (op.Read k ∷ ops) more none h = go (c
   where
     drops : (u : Value) (xs : List (ℕ × Value)) → j ≤ i → filter (λ y. nat_lt i y.0) ((j, u) ∷ xs) ≡ filter (λ y. nat_lt i y.0) xs
     drops u xs le = (let test : nat_lt i j ≡ false = grind (arith, nat_tests) in rw test refl)
+
     go : IsCase i j v (is_key_among k seen) (value_taken j values) (value_taken j values') → (waiting_from (j + 1) seen values ops ≡ Some i → all_reads (j + 1) seen (read_step k w) values' ops ≡ all_reads (j + 1) seen (read_step k w) values ops ++ (i, v) ∷ filter (λ y. nat_lt i y.0) (own_reads (j + 1) seen (read_step k w) values' ops)) → ((u : Value) → waiting_from (j + 1) (k ∷ seen) values ops ≡ Some i → all_reads (j + 1) (k ∷ seen) (taken_step k u w) values' ops ≡ all_reads (j + 1) (k ∷ seen) (taken_step k u w) values ops ++ (i, v) ∷ filter (λ y. nat_lt i y.0) (own_reads (j + 1) (k ∷ seen) (taken_step k u w) values' ops)) → all_reads j seen w values' (op.Read k ∷ ops) ≡ all_reads j seen w values (op.Read k ∷ ops) ++ (i, v) ∷ filter (λ y. nat_lt i y.0) (own_reads j seen w values' (op.Read k ∷ ops))
     go (own e) same new =
         let le = (waiting-open j i seen values (op.Read k ∷ ops) h).least in

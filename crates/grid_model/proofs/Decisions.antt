@@ -105,22 +105,22 @@ decision-grows t x y r h = some-decision (decision t (y ∷ r)) (decision-some t
 pub closed-decided : (c : ClusterData) (n : NodeId) (t : TxId) (r : List Record) → all_fit c n r ≡ true → is_closed t r ≡ true → (x : Decision) × (decision t r ≡ Some x)
 closed-decided c n t [] fit h = absurd (grind (arith, h))
 closed-decided c n t (record'.Closed u ∷ r) fit h = elim (cases_eq u t) [
-    | inl same ↦
-        let x = closed-fits c n r u (newest-fits c n (record'.Closed u) r fit) in
-        let s = undone-says u x.0 r x.1 in
-        let P : TxId → Type 0 = λ v. decision v r ≡ Some x.0 in
-        (x.0, subst P same s.decided)
-    | inr other ↦
-        let self : u == t ≡ false = grind (arith, nat_tests) in
-        closed-decided c n t r (rest-fits c n (record'.Closed u) r fit) (rw self at h)
-    ]
+  | inl same ↦
+      let x = closed-fits c n r u (newest-fits c n (record'.Closed u) r fit) in
+      let s = undone-says u x.0 r x.1 in
+      let P : TxId → Type 0 = λ v. decision v r ≡ Some x.0 in
+      (x.0, subst P same s.decided)
+  | inr other ↦
+      let self : u == t ≡ false = grind (arith, nat_tests) in
+      closed-decided c n t r (rest-fits c n (record'.Closed u) r fit) (rw self at h)
+]
 closed-decided c n t (record'.Decided u f parts ∷ r) fit h = elim (cases_eq u t) [
-    | inl same ↦ absurd (let self : u == t ≡ true = grind (arith, nat_tests) in grind (arith, h, self))
-    | inr other ↦
-        let self : u == t ≡ false = grind (arith, nat_tests) in
-        let x = closed-decided c n t r (rest-fits c n (record'.Decided u f parts) r fit) (rw self at h) in
-        (x.0, rw self x.1)
-    ]
+  | inl same ↦ absurd (let self : u == t ≡ true = grind (arith, nat_tests) in grind (arith, h, self))
+  | inr other ↦
+      let self : u == t ≡ false = grind (arith, nat_tests) in
+      let x = closed-decided c n t r (rest-fits c n (record'.Decided u f parts) r fit) (rw self at h) in
+      (x.0, rw self x.1)
+]
 closed-decided c n t (y ∷ r) fit h = closed-decided c n t r (rest-fits c n y r fit) h
 
 -- a final identifier is at least 1

@@ -66,6 +66,7 @@ waiting-open j i seen values (op.Read k ∷ ops) h = go (is_key_among k seen) (v
         let first : j - j ≡ 0 = omega arith in
         let P : ℕ → Type 0 = λ a. slice_get (op.Read k ∷ ops) a ≡ Some (op.Read k) in
         subst (IsOpen j seen values (op.Read k ∷ ops)) e (record { least = omega arith; untaken = none; key = k; read = subst P (sym first) refl; remote = new })
+
     go : (b : Bool) (o : Option Value) → is_key_among k seen ≡ b → value_taken j values ≡ o → (if b then waiting_from (j + 1) seen values ops else first_open o j (waiting_from (j + 1) (k ∷ seen) values ops)) ≡ Some i → (waiting_from (j + 1) seen values ops ≡ Some i → IsOpen (j + 1) seen values ops i) → (waiting_from (j + 1) (k ∷ seen) values ops ≡ Some i → IsOpen (j + 1) (k ∷ seen) values ops i) → IsOpen j seen values (op.Read k ∷ ops) i
     go true o e f h own far = open-later j i k (op.Read k) seen seen values ops (λ x n. n) (own h)
     go false (Some v) e f h own far = open-later j i k (op.Read k) seen (k ∷ seen) values ops (less-seen k seen) (far h)
@@ -135,9 +136,11 @@ pub record IsFrom (j : ℕ) (xs : List (ℕ × Value)) : Type 0 where
   pub kept : (i : ℕ) → i < j → filter (λ y. nat_lt i y.0) xs ≡ xs
 
 own-step : (j : ℕ) (v : Value) (xs : List (ℕ × Value)) → IsFrom (j + 1) xs → IsFrom j ((j, v) ∷ xs)
-own-step j v xs h = record { kept = λ i lt.
-    let test : nat_lt i j ≡ true = grind (arith, nat_tests) in
-    rw test (ap (λ ys. (j, v) ∷ ys) (h.kept i (omega arith))) }
+own-step j v xs h = record {
+  kept = λ i lt.
+      let test : nat_lt i j ≡ true = grind (arith, nat_tests) in
+      rw test (ap (λ ys. (j, v) ∷ ys) (h.kept i (omega arith)));
+}
 
 from-later : (j : ℕ) (xs : List (ℕ × Value)) → IsFrom (j + 1) xs → IsFrom j xs
 from-later j xs h = record { kept = λ i lt. h.kept i (omega arith) }

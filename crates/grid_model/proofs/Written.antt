@@ -38,6 +38,7 @@ with_values-at m k (x ∷ ks) = go (same_key k x) (same_key x k) (same_key-turne
   where
     same : same_key k x ≡ true → m x ≡ m k
     same h = ap m (sym (same_key-is k x h))
+
     go : (a b : Bool) → a ≡ b → (a ≡ true → m x ≡ m k) → written_value k (with_values m ks) ≡ (if is_key_among k ks then Some (m k) else None) → (if b then Some (m x) else written_value k (with_values m ks)) ≡ (if a || is_key_among k ks then Some (m k) else None)
     go true b e is rest = rw (← e) (ap (λ v. Some v) (is refl))
     go false b e is rest = rw (← e) rest
@@ -48,6 +49,7 @@ among-filter p k (x ∷ ks) = go (p x) same (among-filter p k ks)
   where
     same : same_key k x ≡ true → p k ≡ p x
     same h = ap p (same_key-is k x h)
+
     go : (b : Bool) → (same_key k x ≡ true → p k ≡ b) → is_key_among k (filter p ks) ≡ (is_key_among k ks && p k) → is_key_among k (if b then x ∷ filter p ks else filter p ks) ≡ ((same_key k x || is_key_among k ks) && p k)
     go true e rest = grind (arith, e, rest)
     go false e rest = grind (arith, e, rest)

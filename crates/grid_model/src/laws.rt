@@ -1,6 +1,7 @@
 ghost use Rattle.std.specs.Prelude.{◌≡◌, ℕ, List, ◌∷◌, Some};
 ghost use Rattle.grid_model.specs.Documents.{DocumentData};
 ghost use Rattle.script_lang.specs.Scripts.{ScriptData};
+ghost use Rattle.grid_model.specs.declared.acts.Act.{Act};
 ghost use Rattle.grid_model.specs.declared.acts.Act.TheVariants as act;
 ghost use Rattle.grid_model.specs.declared.events.Event.TheVariants as event;
 ghost use Rattle.grid_model.specs.declared.messages.Message.{Message};
