@@ -1,19 +1,12 @@
 -- Which keys and values does a Prepare bring to a node?
-use Rattle.std.proofs.Common.{ℕ, ◌+◌, ◌-◌, ◌≤◌, ◌<◌, ◌≡◌, ◌≢◌, ◌⊎◌, inl, inr, Bool, true, false, ◌&&◌, ◌||◌, not, map, List, [], ◌∷◌, ◌++◌, Option, Some, None, is_some, refl, sym, ap, subst, ◌∙◌, arith, if◌then◌else◌}
-use Rattle.std.proofs.lemmas.Bool.{cases_Bool, cases_eq, and_parts, and_from, or_parts, or_from, or_cases, or_left, or_right}
-use Rattle.std.proofs.lemmas.Bool.Decides.{nat_tests}
-use Rattle.std.specs.Prelude.{◌==◌, nat_lt, nat_le, filter, slice_get}
+use Rattle.std.proofs.Common.{◌≡◌, Bool, true, false, ◌&&◌, ◌||◌, map, List, [], ◌∷◌, Some, None, refl, sym, ap, ◌∙◌, arith, if◌then◌else◌}
+use Rattle.std.specs.Prelude.{filter}
 use Rattle.score_base.specs.declared.ids.Value.{Value}
 use Rattle.score_base.specs.declared.keys.Key.{Key}
 use Rattle.score_base.specs.Keys.{same_key}
-use Rattle.script_lang.specs.declared.exprs.Expr.{Expr}
-use Rattle.script_lang.specs.declared.scripts.Op.{Op}
-use Rattle.script_lang.specs.declared.scripts.Op.TheVariants as op
-use Rattle.script_lang.specs.Exprs.{expr_value}
-use Rattle.script_lang.specs.Reads.{is_key_among, key_of, remote_keys, written_keys, is_update}
-use Rattle.grid_model.specs.Serials.{Map, put, zeros, serial_reads, serial_map, reads_on, map_behind}
-use Rattle.grid_model.specs.Stories.{value_taken, first_open, waiting_from, waiting}
-use Rattle.grid_model.specs.Advances.{Walk, unread, read_step, taken_step, write_step, if_taken, own_reads, walked, own_map, op_at}
+use Rattle.script_lang.specs.Reads.{is_key_among, remote_keys, written_keys}
+use Rattle.grid_model.specs.Serials.{Map}
+use Rattle.grid_model.specs.Advances.{own_map}
 use Rattle.score_base.specs.declared.ids.NodeId.{NodeId}
 use Rattle.placement.specs.Places.{holds}
 use Rattle.placement.specs.Clusters.{ClusterData}
