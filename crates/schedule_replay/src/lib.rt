@@ -4,9 +4,11 @@
 //! its transactions stand, a node has no record, and both answer by the row of the rule table.
 #![tactic(auto)]
 
+mod advances;
 mod homes;
 mod nodes;
 mod numbering;
+mod plain_nodes;
 mod walks;
 mod worlds;
 
