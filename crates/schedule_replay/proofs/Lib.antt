@@ -1,3 +1,4 @@
+pub mod Walking
 pub mod Ranges
 pub mod Showing
 pub mod Few

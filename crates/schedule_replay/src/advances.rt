@@ -1,6 +1,6 @@
 //! Advance: what a home does once a transaction has begun or has taken a reply.
 
-ghost use Rattle.std.specs.Prelude.{◌≡◌, ◌≤◌, ◌++◌, ◌∷◌, [], IfOk, OnOk, IsTrue, length, nat_lt};
+ghost use Rattle.std.specs.Prelude.{◌≡◌, ◌++◌, ◌∷◌, [], IfOk, OnOk, IsTrue, None};
 ghost use Rattle.std.specs.FinMap as map;
 ghost use Rattle.script_lang.specs.Scripts.{IsBody};
 ghost use Rattle.script_lang.specs.Values.{value_in};
@@ -11,7 +11,6 @@ ghost use Rattle.schedule_replay.specs.Walks.{stepped, stops, is_ready};
 use score_base::{Key, Members, Memory, Value};
 use script_lang::{Op, Reads, Script, eval};
 use std::alloc::Global;
-use std::marker::Model;
 
 /// The value that was taken for an operation.
 pub fn value_taken(j: u8, values: &[(u8, Value)]) -> Option<Value>
@@ -27,32 +26,27 @@ pub fn value_taken(j: u8, values: &[(u8, Value)]) -> Option<Value>
 
 /// What a walk over the operations of a script keeps.
 #[derive(Drop)]
-pub struct Walk {
+pub struct Trail {
     /// The own reads so far: the operation and its value.
     pub own: Members<(u8, Value)>,
     /// The transaction's own map.
     pub mine: Reads,
     /// The values of its latest reads.
     pub latest: Reads,
+    /// The remote read without a taken value at which the walk stopped.
+    pub waiting: Option<u8>,
 }
 
-impl Model for Walk {
-    ghost use Rattle.schedule_replay.specs.Walks.{Maps};
-
-    ghost Value = { Maps };
-
-    ghost view = { λ w. record { own = w.own; mine = w.mine; latest = w.latest } };
-}
-
-impl Walk {
+impl Trail {
     /// Nothing is read or written yet.
-    fn new(alloc: Global) -> Walk
-        ensures { result ≡ record { own = []; mine = map.empty; latest = map.empty } }
+    fn new(alloc: Global) -> Trail
+        ensures { result ≡ record { own = []; mine = map.empty; latest = map.empty; waiting = None } }
     {
-        Walk {
+        Trail {
             own: Members::new(alloc),
             mine: Reads::new(alloc),
             latest: Reads::new(alloc),
+            waiting: None,
         }
     }
 
@@ -103,4 +97,25 @@ impl Walk {
             }
         }
     }
+}
+
+/// Walks over the operations of a script up to the first remote read without a taken value: the own
+/// reads on the way, the transaction's own map, and that read.
+pub fn walk(alloc: Global, script: &Script, values: &[(u8, Value)]) -> Result<Trail, Memory>
+    ensures own { IfOk result (λ x. x.own ≡ own_reads 1 [] unread values.now script.now.ops) }
+    ensures mine { IfOk result (λ x. value_in x.mine ≡ own_map script.now.ops values.now) }
+    ensures waiting { IfOk result (λ x. x.waiting ≡ waiting script.now.ops values.now) }
+{
+    let ops = script.ops();
+    let mut trail = Trail::new(alloc);
+    let mut j = 0u8;
+    for op in ops {
+        j += 1;
+        if trail.stops(values, j, op) {
+            trail.waiting = Some(j);
+            return Ok(trail);
+        }
+        trail.step(values, j, op)?;
+    }
+    Ok(trail)
 }

@@ -9,6 +9,7 @@ mod homes;
 mod nodes;
 mod numbering;
 mod plain_nodes;
+mod stages;
 mod walks;
 mod worlds;
 
