@@ -3,5 +3,6 @@ pub mod Removed
 pub mod Places
 pub mod Shows
 pub mod FirstOpen
+pub mod FirstWaiting
 pub mod OneHistory
 pub mod Examples
