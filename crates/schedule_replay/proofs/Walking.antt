@@ -24,7 +24,7 @@ use Rattle.script_lang.specs.Values.{ReadValues, value_in, has_each_key}
 use Rattle.grid_model.specs.Serials.{Map, put, zeros}
 use Rattle.grid_model.specs.Stories.{value_taken, waiting, waiting_from}
 use Rattle.grid_model.specs.Advances.{Walk, unread, read_step, taken_step, write_step, own_reads, walked, own_map}
-use Rattle.schedule_replay.specs.declared.advances.Trail.{Trail}
+use Rattle.schedule_replay.specs.declared.trails.Trail.{Trail}
 use Rattle.schedule_replay.specs.Walks.{read_by, stepped, stops, is_ready}
 
 -- ---- the finite maps against maps of all keys

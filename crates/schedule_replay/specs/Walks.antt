@@ -8,7 +8,7 @@ use Rattle.script_lang.specs.declared.scripts.Op.TheVariants as op
 use Rattle.script_lang.specs.Exprs.{expr_value}
 use Rattle.script_lang.specs.Values.{value_in, has_each_key}
 use Rattle.grid_model.specs.Stories.{value_taken}
-use Rattle.schedule_replay.specs.declared.advances.Trail.{Trail}
+use Rattle.schedule_replay.specs.declared.trails.Trail.{Trail}
 
 -- a read: an own one where the key has a value, else a remote one with its taken value
 abbrev pub read_by : ℕ → Key → Option Value → Option Value → Trail → Trail

@@ -5,12 +5,21 @@
 #![tactic(auto)]
 
 mod advances;
+mod answers;
+mod coordinators;
+mod enders;
+mod fitness;
 mod homes;
 mod nodes;
 mod numbering;
 mod plain_nodes;
+mod readers;
 mod stages;
+mod trails;
+mod voters;
 mod walks;
 mod worlds;
 
+pub use answers::{answer, ask_outs, begin_outs, retry_outs};
+pub use plain_nodes::PlainNode;
 pub use worlds::replay;

@@ -8,7 +8,7 @@ ghost use Rattle.grid_model.specs.Views.{open_at, acks_at, stage_at, open_stage}
 ghost use Rattle.grid_model.specs.Journals.{undone};
 ghost use Rattle.schedule_replay.specs.Stages.{shown};
 
-use crate::advances::walk;
+use crate::trails::walk;
 use crate::plain_nodes::PlainNode;
 use grid_model::Story;
 use grid_model::records::{Decided, decision, undone};
@@ -107,7 +107,7 @@ fn acks_at<'a>(
 
 /// Whether an open transaction is reading, and which operation, or collecting.
 fn open_stage<'a>(alloc: Global, tx: Open<'a>) -> Result<Stage<'a>, Memory>
-    ensures { IfOk result (λ s. shown s ≡ open_stage tx (waiting tx.script.ops tx.values)) }
+    ensures { IfOk result (λ s. shown s ≡ open_stage tx.entry (waiting tx.entry.script.ops tx.entry.values)) }
 {
     let trail = walk(alloc, tx.script, tx.story.values.as_slice())?;
     match trail.waiting {

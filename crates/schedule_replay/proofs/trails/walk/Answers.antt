@@ -1,6 +1,6 @@
 use Rattle.std.proofs.Common.{◌+◌, ◌∙◌, refl, sym, ap, arith}
 use Rattle.schedule_replay.proofs.Walking.{comes-first, ready-at, more-at, stop-at}
-use Rattle.schedule_replay.proofs.advances.walk.Goals as goal
+use Rattle.schedule_replay.proofs.trails.walk.Goals as goal
 
 pub loop-op-init : goal.loop-op-init
 loop-op-init c = record { at = refl; comes = comes-first c.args.values.now c.ops-ops.result.now c.new-trail.result c.ops-ops.ensures.body c.new-trail.ensures }

@@ -1,6 +1,6 @@
 use Rattle.std.proofs.Common.{◌≡◌, ◌+◌, drop}
 use Rattle.schedule_replay.proofs.Walking.{Comes}
-use Rattle.schedule_replay.proofs.advances.walk.Given as goal
+use Rattle.schedule_replay.proofs.trails.walk.Given as goal
 
 abbrev pub invariant-loop-op : goal.invariant-loop-op
 invariant-loop-op l = record {
