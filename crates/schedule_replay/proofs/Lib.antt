@@ -1,3 +1,4 @@
+pub mod Clocks
 pub mod Walking
 pub mod Ranges
 pub mod Showing

@@ -1,18 +1,20 @@
 //! Advance: what a home does once a transaction has begun or has taken a reply.
 
-ghost use Rattle.std.specs.Prelude.{◌≡◌, ◌++◌, ◌∷◌, [], IfOk, OnOk, None, filter, map};
-ghost use Rattle.placement.specs.Places.{holds};
-ghost use Rattle.script_lang.specs.Reads.{remote_keys};
+ghost use Rattle.std.specs.Prelude.{◌≡◌, ◌++◌, ◌∷◌, [], IfOk, OnOk, None, filter, map, slice_get};
+ghost use Rattle.std.specs.Option.{option_copied};
+ghost use Rattle.placement.specs.Places.{holds, preferred};
+ghost use Rattle.script_lang.specs.Reads.{remote_keys, written_keys};
 ghost use Rattle.script_lang.specs.Values.{value_in};
-ghost use Rattle.grid_model.specs.Advances.{own_map, date_by, request, prepare_for, prepares, advance_end, owns, advance};
+ghost use Rattle.grid_model.specs.Advances.{own_map, date_by, to_node, request_of, request, prepare_for, prepares, advance_end, owns, advance};
+ghost use Rattle.grid_model.specs.Serials.{Map};
 ghost use Rattle.grid_model.specs.Stories.{first_sid};
 
 use crate::stages::{Open, parts_now};
 use crate::trails::{Trail, walk};
 use grid_model::{Act, Message, Out, Prepare, ReadReq};
 use placement::Cluster;
-use score_base::{Date, Ident, Key, KeyList, Memory, NodeId, TryCopy, TxId, Value, WriteList, push};
-use script_lang::{Op, Reads, is_update, key_of, read_keys, write_keys};
+use score_base::{Date, Ident, Key, KeyList, Memory, NodeId, TxId, Value, WriteList, push};
+use script_lang::{Op, Reads, Script, is_update, key_of, read_keys, write_keys};
 use std::alloc::Global;
 
 /// How a read is dated: the first by the identifier of the begin, a later one by the snapshot.
@@ -35,6 +37,53 @@ pub fn first_sid(snapshot: Option<Ident>, sid: Ident) -> Ident
     }
 }
 
+/// Adds a message to the node, where there is one.
+pub fn push_to(outs: &mut Vec<Out>, to: Option<NodeId>, message: Message) -> Result<(), Memory>
+    ensures { OnOk result (outs.new.items ≡ outs.old.items ++ to_node to message) }
+{
+    match to {
+        None => Ok(()),
+        Some(n) => push(outs, Out::Send(n, message)),
+    }
+}
+
+/// The holder of a key at this place of the order that the home prefers.
+fn holder_at(
+    alloc: Global,
+    cluster: &Cluster,
+    home: NodeId,
+    key: &Key,
+    place: usize,
+) -> Result<Option<NodeId>, Memory>
+    ensures { IfOk result (λ to. to ≡ slice_get (preferred cluster.now.places home key.now) place) }
+{
+    let nodes = cluster.places.preferred(alloc, home, key)?;
+    Ok(nodes.as_slice().get(place).copied())
+}
+
+/// Adds the request of an operation, where there is one, to the holder of its key at this place of
+/// the order that the home prefers.
+fn push_request_of(
+    alloc: Global,
+    outs: &mut Vec<Out>,
+    cluster: &Cluster,
+    tx: &Open,
+    j: u8,
+    place: usize,
+    op: Option<&Op>,
+) -> Result<(), Memory>
+    ensures { OnOk result (outs.new.items ≡ outs.old.items ++ request_of cluster.now tx.now j place (option_copied op.entry)) }
+{
+    let Some(op) = op else {
+        return Ok(());
+    };
+    let (script, story) = (tx.script, tx.story);
+    let (t, key) = (script.number, key_of(op));
+    let date = date_by(story.sid0, story.sid);
+    let to = holder_at(alloc, cluster, script.home, &key, place)?;
+    push_to(outs, to, Message::ReadReq(ReadReq { t, op: j, key, date }))
+}
+
 /// Adds the request of operation `j`, to the holder of its key at this place of the order that the
 /// home prefers.
 pub fn push_request(
@@ -48,20 +97,8 @@ pub fn push_request(
     ensures { OnOk result (outs.new.items ≡ outs.old.items ++ request cluster.now tx.now j place) }
 {
     let script = tx.script;
-    let Some(op) = script.ops().get(j.saturating_sub(1) as usize) else {
-        return Ok(());
-    };
-    let key = key_of(op);
-    let nodes = cluster.places.preferred(alloc, script.home, &key)?;
-    let date = date_by(tx.story.sid0, tx.story.sid);
-    let t = script.number;
-    match nodes.as_slice().get(place) {
-        None => Ok(()),
-        Some(to) => push(
-            outs,
-            Out::Send(*to, Message::ReadReq(ReadReq { t, op: j, key, date })),
-        ),
-    }
+    let op = script.ops().get(j.saturating_sub(1) as usize);
+    push_request_of(alloc, outs, cluster, tx, j, place, op)
 }
 
 /// Those of the keys that the node holds.
@@ -89,6 +126,29 @@ fn writes_of(alloc: Global, keys: &[Key], mine: &Reads) -> Result<WriteList, Mem
     Ok(writes)
 }
 
+/// The keys that a script reads remotely and the node holds.
+fn reads_for(alloc: Global, cluster: &Cluster, script: &Script, n: NodeId) -> Result<KeyList, Memory>
+    ensures { IfOk result (λ ks. ks ≡ filter (holds cluster.now.places n) (remote_keys [] script.now.ops)) }
+{
+    let keys = read_keys(alloc, script)?;
+    held_keys(alloc, cluster, n, keys.as_slice())
+}
+
+/// The keys that a script writes and the node holds, with their values in the map.
+fn writes_for(
+    alloc: Global,
+    cluster: &Cluster,
+    script: &Script,
+    mine: &Reads,
+    n: NodeId,
+) -> Result<WriteList, Memory>
+    ensures { (m : Map) → value_in mine.now ≡ m → IfOk result (λ ws. ws ≡ map (λ k. (k, m k)) (filter (holds cluster.now.places n) (written_keys [] script.now.ops))) }
+{
+    let keys = write_keys(alloc, script)?;
+    let keys = held_keys(alloc, cluster, n, keys.as_slice())?;
+    writes_of(alloc, keys.as_slice(), mine)
+}
+
 /// The Prepare for a node, by the transaction's own map.
 fn prepare_for(
     alloc: Global,
@@ -100,19 +160,13 @@ fn prepare_for(
     requires { value_in mine.now ≡ own_map tx.now.script.ops tx.now.values }
     ensures { IfOk result (λ q. q ≡ prepare_for cluster.now tx.now n) }
 {
-    let script = tx.script;
-    let parts = parts_now(alloc, cluster, tx)?;
-    let reads = read_keys(alloc, script)?;
-    let reads = held_keys(alloc, cluster, n, reads.as_slice())?;
-    let written = write_keys(alloc, script)?;
-    let written = held_keys(alloc, cluster, n, written.as_slice())?;
-    let writes = writes_of(alloc, written.as_slice(), mine)?;
+    let (script, story) = (tx.script, tx.story);
     Ok(Prepare {
         t: script.number,
-        sid: first_sid(tx.story.sid, tx.story.sid0),
-        parts,
-        reads,
-        writes,
+        sid: first_sid(story.sid, story.sid0),
+        parts: parts_now(alloc, cluster, tx)?,
+        reads: reads_for(alloc, cluster, script, n)?,
+        writes: writes_for(alloc, cluster, script, mine, n)?,
     })
 }
 
@@ -145,7 +199,8 @@ pub fn push_prepares_again(
 ) -> Result<(), Memory>
     ensures { OnOk result (outs.new.items ≡ outs.old.items ++ prepares cluster.now tx.now nodes.now) }
 {
-    let trail = walk(alloc, tx.script, tx.story.values.as_slice())?;
+    let (script, story) = (tx.script, tx.story);
+    let trail = walk(alloc, script, story.values.as_slice())?;
     push_prepares(alloc, outs, cluster, tx, &trail.mine, nodes)
 }
 
@@ -181,8 +236,9 @@ fn push_collecting(
     requires { value_in mine.now ≡ own_map tx.now.script.ops tx.now.values }
     ensures { OnOk result (outs.new.items ≡ outs.old.items ++ advance_end cluster.now tx.now None) }
 {
-    if !is_update(tx.script.ops()) {
-        return push(outs, Out::Act(Act::Finished(tx.script.number)));
+    let script = tx.script;
+    if !is_update(script.ops()) {
+        return push(outs, Out::Act(Act::Finished(script.number)));
     }
     let parts = parts_now(alloc, cluster, tx)?;
     push_prepares(alloc, outs, cluster, tx, mine, parts.as_slice())
@@ -192,9 +248,10 @@ fn push_collecting(
 pub fn advance(alloc: Global, cluster: &Cluster, tx: &Open, i: u8) -> Result<Vec<Out>, Memory>
     ensures { IfOk result (λ outs. outs.items ≡ advance cluster.now tx.now i) }
 {
-    let trail = walk(alloc, tx.script, tx.story.values.as_slice())?;
+    let (script, story) = (tx.script, tx.story);
+    let trail = walk(alloc, script, story.values.as_slice())?;
     let mut outs = Vec::new(alloc);
-    push_owns(&mut outs, tx.script.number, i, trail.own.as_slice())?;
+    push_owns(&mut outs, script.number, i, trail.own.as_slice())?;
     match trail.waiting {
         Some(j) => push_request(alloc, &mut outs, cluster, tx, j, 0)?,
         None => push_collecting(alloc, &mut outs, cluster, tx, &trail.mine)?,

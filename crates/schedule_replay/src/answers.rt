@@ -8,9 +8,9 @@ ghost use Rattle.grid_model.specs.Stories.{begun};
 ghost use Rattle.grid_model.specs.Views.{stage_at, view_of};
 ghost use Rattle.schedule_replay.specs.Stages.{shown, node_view};
 
-use crate::advances::{advance, push_prepares_again, push_request};
+use crate::advances::{advance, push_prepares_again, push_request, push_to};
 use crate::coordinators::{ack_row, ask_row, not_among, not_voted, push_tells, vote_row};
-use crate::enders::{push_to, tell_outs};
+use crate::enders::tell_outs;
 use crate::fitness::is_fit_at;
 use crate::plain_nodes::PlainNode;
 use crate::readers::{read_outs, reply_outs};

@@ -2,27 +2,17 @@
 
 ghost use Rattle.std.specs.Prelude.{◌≡◌, ◌∷◌, [], ◌++◌, IfOk, OnOk, reverse};
 ghost use Rattle.score_base.specs.declared.records.Record.TheVariants as record';
-ghost use Rattle.grid_model.specs.Advances.{to_node};
 ghost use Rattle.grid_model.specs.Journals.{is_commit};
-ghost use Rattle.grid_model.specs.Rows.{freed_by, tell_outs, ask_outs};
+ghost use Rattle.grid_model.specs.Rows.{freed_by, tell_outs};
 ghost use Rattle.schedule_replay.specs.Stages.{node_view};
 
+use crate::advances::push_to;
 use crate::plain_nodes::PlainNode;
 use crate::readers::push_released;
 use grid_model::records::{ended, home_of, pending};
 use grid_model::{Act, Document, Message, Out};
 use score_base::{Ident, Members, Memory, NodeId, Outcome, Record, TryCopy, TxId, push};
 use std::alloc::Global;
-
-/// Adds a message to the node, where there is one.
-pub fn push_to(outs: &mut Vec<Out>, to: Option<NodeId>, message: Message) -> Result<(), Memory>
-    ensures { OnOk result (outs.new.items ≡ outs.old.items ++ to_node to message) }
-{
-    match to {
-        None => Ok(()),
-        Some(n) => push(outs, Out::Send(n, message)),
-    }
-}
 
 /// Whether the outcome is a commit.
 fn is_commit(outcome: Option<Outcome>) -> bool

@@ -2,6 +2,8 @@
 
 ghost use Rattle.std.specs.Prelude.{◌≡◌, [], IfOk, Some, is_some, true};
 ghost use Rattle.std.specs.Option.{option_copied};
+ghost use Rattle.placement.specs.Places.{parts};
+ghost use Rattle.script_lang.specs.Reads.{keys_of};
 ghost use Rattle.grid_model.specs.Stories.{is_open, phase_at, waiting};
 ghost use Rattle.grid_model.specs.Advances.{parts_now};
 ghost use Rattle.grid_model.specs.Views.{open_at, acks_at, stage_at, open_stage};
@@ -46,12 +48,19 @@ pub enum Stage<'a> {
     Commits(Decided<'a>, &'a [NodeId]),
 }
 
+/// All nodes that hold a key of a script, rising.
+fn parts_of(alloc: Global, cluster: &Cluster, script: &Script) -> Result<NodeList, Memory>
+    ensures { IfOk result (λ ns. ns ≡ parts cluster.now.places (keys_of script.now.ops)) }
+{
+    let keys = keys(alloc, script)?;
+    cluster.places.parts(alloc, keys.as_slice())
+}
+
 /// All nodes that hold a key of an open transaction, rising.
 pub fn parts_now(alloc: Global, cluster: &Cluster, tx: &Open) -> Result<NodeList, Memory>
     ensures { IfOk result (λ ns. ns ≡ parts_now cluster.now tx.now) }
 {
-    let keys = keys(alloc, tx.script)?;
-    cluster.places.parts(alloc, keys.as_slice())
+    parts_of(alloc, cluster, tx.script)
 }
 
 /// Whether a transaction is reading or collecting.
