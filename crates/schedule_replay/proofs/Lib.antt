@@ -1,3 +1,4 @@
+pub mod Told
 pub mod Clocks
 pub mod Walking
 pub mod Ranges

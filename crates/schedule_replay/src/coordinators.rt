@@ -1,24 +1,18 @@
 //! The coordinator: votes, acknowledgements and questions at the home of a transaction.
 
 ghost use Rattle.std.specs.Prelude.{◌≡◌, ◌++◌, ◌∷◌, [], IfOk, OnOk, filter, not};
-ghost use Rattle.placement.specs.Places.{is_among, others};
+ghost use Rattle.placement.specs.Places.{others};
 ghost use Rattle.grid_model.specs.Stories.{has_voted};
 ghost use Rattle.grid_model.specs.Rows.{tells, greatest_vote, have_voted, decides, full_row, ballot_row, vote_row, are_all_among, closed_row, ack_row, ask_row, not_voted, not_among};
 ghost use Rattle.grid_model.specs.Advances.{parts_now};
 ghost use Rattle.schedule_replay.specs.Stages.{shown};
 
 use crate::stages::{Open, Stage, parts_now};
+use grid_model::records::is_among;
 use grid_model::{Act, Message, Out, Voted};
 use placement::Cluster;
 use score_base::{Ballot, Cause, Ident, Memory, NodeId, NodeList, Outcome, TryCopy, TxId, push};
 use std::alloc::Global;
-
-/// Whether the node is among these.
-pub fn is_among(node: NodeId, nodes: &[NodeId]) -> bool
-    ensures { result ≡ is_among node nodes.now }
-{
-    nodes.iter().any(|other| *other == node)
-}
 
 /// Whether a yes of the node was taken.
 fn has_voted(node: NodeId, votes: &[Voted]) -> bool

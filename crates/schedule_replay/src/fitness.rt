@@ -1,21 +1,16 @@
 //! Which messages are fit at a node. One that is not changes nothing.
 
 ghost use Rattle.std.specs.Prelude.{◌≡◌, IfOk};
-ghost use Rattle.std.specs.List.{list_all};
-ghost use Rattle.placement.specs.Places.{holds};
-ghost use Rattle.script_lang.specs.Reads.{is_key_among};
-ghost use Rattle.grid_model.specs.Journals.{are_distinct_keys, are_own_keys, keys_in, pending};
 ghost use Rattle.grid_model.specs.Stories.{is_small, is_small_node, is_small_cause, is_fit_ballot};
 ghost use Rattle.grid_model.specs.Fitness.{date_ident, is_fit_request, is_same_ident, is_fit_reply, is_rising, is_fit_prepare, is_part_at, is_at_least, is_fit_outcome, is_fit_content, is_fit_at};
 ghost use Rattle.schedule_replay.specs.Stages.{shown, node_view};
 
-use crate::coordinators::is_among;
 use crate::plain_nodes::PlainNode;
 use crate::stages::{Stage, parts_now};
-use grid_model::records::{floor, pending};
+use grid_model::records::{are_own_keys, floor, is_among, keys_in, pending};
 use grid_model::{Document, Message, Prepare, ReadRep, ReadReq};
 use placement::Cluster;
-use score_base::{Ballot, Cause, Date, Ident, Key, KeyList, Memory, NodeId, Outcome, Value};
+use score_base::{Ballot, Cause, Date, Ident, Memory, NodeId, Outcome};
 use std::alloc::Global;
 
 /// Whether an identifier is below 2^22.
@@ -81,57 +76,6 @@ fn is_rising(nodes: &[NodeId]) -> bool
         rest = &rest[1..];
     }
     true
-}
-
-/// Whether the key is among these.
-fn is_key_among(key: &Key, keys: &[Key]) -> bool
-    ensures { result ≡ is_key_among key.now keys.now }
-{
-    keys.iter().any(|other| *key == *other)
-}
-
-/// Whether no key stands twice.
-fn are_distinct_keys(keys: &[Key]) -> bool
-    ensures { result ≡ are_distinct_keys keys.now }
-{
-    let mut rest = keys;
-    while let [first, more @ ..] = rest {
-        if is_key_among(first, more) {
-            return false;
-        }
-        rest = more;
-    }
-    true
-}
-
-/// Whether the node holds all of these.
-fn holds_all(cluster: &Cluster, n: NodeId, keys: &[Key]) -> bool
-    ensures { result ≡ list_all (holds cluster.now.places n) keys.now }
-{
-    for key in keys {
-        if !cluster.places.holds(n, key) {
-            return false;
-        }
-    }
-    true
-}
-
-/// Whether these are distinct keys that the node holds.
-fn are_own_keys(cluster: &Cluster, n: NodeId, keys: &[Key]) -> bool
-    ensures { result ≡ are_own_keys cluster.now n keys.now }
-{
-    are_distinct_keys(keys) && holds_all(cluster, n, keys)
-}
-
-/// The keys that are written.
-fn keys_in(alloc: Global, writes: &[(Key, Value)]) -> Result<KeyList, Memory>
-    ensures { IfOk result (λ keys. keys ≡ keys_in writes.now) }
-{
-    let mut keys = KeyList::new(alloc);
-    for write in writes {
-        keys.push(write.0)?;
-    }
-    Ok(keys)
 }
 
 /// Whether a Prepare is fit.
