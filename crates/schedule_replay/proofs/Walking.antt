@@ -99,7 +99,6 @@ and-both true true p q = refl
 and-both true false p q = cc
 and-both false b p q = cc
 
-
 atom-in : (known : List Key) (p : Key → Bool) (a : Atom) → ((q : Key) → is_key_among q known ≡ true → p q ≡ true) → is_atom_among known a ≡ true → all_in_atom p a ≡ true
 atom-in known p (atom.Number v) h e = refl
 atom-in known p (atom.Key k) h e = h k e

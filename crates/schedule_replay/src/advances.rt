@@ -81,7 +81,16 @@ fn push_request_of(
     let (t, key) = (script.number, key_of(op));
     let date = date_by(story.sid0, story.sid);
     let to = holder_at(alloc, cluster, script.home, &key, place)?;
-    push_to(outs, to, Message::ReadReq(ReadReq { t, op: j, key, date }))
+    push_to(
+        outs,
+        to,
+        Message::ReadReq(ReadReq {
+            t,
+            op: j,
+            key,
+            date,
+        }),
+    )
 }
 
 /// Adds the request of operation `j`, to the holder of its key at this place of the order that the
@@ -127,7 +136,12 @@ fn writes_of(alloc: Global, keys: &[Key], mine: &Reads) -> Result<WriteList, Mem
 }
 
 /// The keys that a script reads remotely and the node holds.
-fn reads_for(alloc: Global, cluster: &Cluster, script: &Script, n: NodeId) -> Result<KeyList, Memory>
+fn reads_for(
+    alloc: Global,
+    cluster: &Cluster,
+    script: &Script,
+    n: NodeId,
+) -> Result<KeyList, Memory>
     ensures { IfOk result (λ ks. ks ≡ filter (holds cluster.now.places n) (remote_keys [] script.now.ops)) }
 {
     let keys = read_keys(alloc, script)?;

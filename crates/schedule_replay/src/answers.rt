@@ -125,12 +125,7 @@ pub fn begin_outs(
 }
 
 /// What the home sends again for a transaction that stands so.
-fn retry_row(
-    alloc: Global,
-    cluster: &Cluster,
-    t: TxId,
-    stage: &Stage,
-) -> Result<Vec<Out>, Memory>
+fn retry_row(alloc: Global, cluster: &Cluster, t: TxId, stage: &Stage) -> Result<Vec<Out>, Memory>
     ensures { IfOk result (λ outs. outs.items ≡ retry_row cluster.now t (shown stage.now)) }
 {
     let mut outs = Vec::new(alloc);
@@ -144,7 +139,12 @@ fn retry_row(
         }
         Stage::Commits(decided, acks) => {
             let missing = not_among(alloc, decided.parts.as_slice(), acks)?;
-            push_tells(&mut outs, t, &Outcome::Commit(decided.final_ident), missing.as_slice())?;
+            push_tells(
+                &mut outs,
+                t,
+                &Outcome::Commit(decided.final_ident),
+                missing.as_slice(),
+            )?;
         }
     }
     Ok(outs)

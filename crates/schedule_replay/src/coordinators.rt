@@ -184,12 +184,7 @@ fn are_all_among(nodes: &[NodeId], among: &[NodeId]) -> bool
 }
 
 /// What the home gives where an acknowledgement comes.
-pub fn ack_row(
-    alloc: Global,
-    t: TxId,
-    from: NodeId,
-    stage: &Stage,
-) -> Result<Vec<Out>, Memory>
+pub fn ack_row(alloc: Global, t: TxId, from: NodeId, stage: &Stage) -> Result<Vec<Out>, Memory>
     ensures { IfOk result (λ outs. outs.items ≡ ack_row t from (shown stage.now)) }
 {
     let mut outs = Vec::new(alloc);
@@ -208,12 +203,7 @@ pub fn ack_row(
 }
 
 /// What the home gives where a participant asks: no record and no open transaction means abort.
-pub fn ask_row(
-    alloc: Global,
-    t: TxId,
-    from: NodeId,
-    stage: &Stage,
-) -> Result<Vec<Out>, Memory>
+pub fn ask_row(alloc: Global, t: TxId, from: NodeId, stage: &Stage) -> Result<Vec<Out>, Memory>
     ensures { IfOk result (λ outs. outs.items ≡ ask_row t from (shown stage.now)) }
 {
     let outcome = match stage {

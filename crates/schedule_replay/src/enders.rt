@@ -25,7 +25,11 @@ fn is_commit(outcome: Option<Outcome>) -> bool
 }
 
 /// The records with one that says how `t` ended.
-fn with_ended(records: &Members<Record>, t: TxId, outcome: &Outcome) -> Result<Members<Record>, Memory>
+fn with_ended(
+    records: &Members<Record>,
+    t: TxId,
+    outcome: &Outcome,
+) -> Result<Members<Record>, Memory>
     ensures { IfOk result (λ xs. reverse xs ≡ record'.Ended t outcome.now ∷ reverse records.now) }
 {
     let mut longer = records.copy()?;

@@ -84,16 +84,18 @@ fn is_fit_prepare(alloc: Global, cluster: &Cluster, n: NodeId, q: &Prepare) -> R
 {
     let (parts, reads, writes) = (q.parts.as_slice(), q.reads.as_slice(), q.writes.as_slice());
     let written = keys_in(alloc, writes)?;
-    Ok(is_small(q.sid)
-        && 1 <= parts.len()
-        && parts.len() <= 16
-        && is_rising(parts)
-        && is_among(n, parts)
-        && !(reads.is_empty() && writes.is_empty())
-        && reads.len() <= 32
-        && writes.len() <= 32
-        && are_own_keys(cluster, n, reads)
-        && are_own_keys(cluster, n, written.as_slice()))
+    Ok(
+        is_small(q.sid)
+            && 1 <= parts.len()
+            && parts.len() <= 16
+            && is_rising(parts)
+            && is_among(n, parts)
+            && !(reads.is_empty() && writes.is_empty())
+            && reads.len() <= 32
+            && writes.len() <= 32
+            && are_own_keys(cluster, n, reads)
+            && are_own_keys(cluster, n, written.as_slice()),
+    )
 }
 
 /// Whether the identifiers of a cause are small.
@@ -117,12 +119,7 @@ fn is_fit_ballot(ballot: &Ballot) -> bool
 }
 
 /// Whether a sender is a part, where the transaction is collecting or decided.
-fn is_part_at(
-    alloc: Global,
-    cluster: &Cluster,
-    stage: &Stage,
-    from: NodeId,
-) -> Result<bool, Memory>
+fn is_part_at(alloc: Global, cluster: &Cluster, stage: &Stage, from: NodeId) -> Result<bool, Memory>
     ensures { IfOk result (λ fit. fit ≡ is_part_at cluster.now (shown stage.now) from) }
 {
     match stage {

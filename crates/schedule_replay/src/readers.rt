@@ -47,10 +47,7 @@ fn push_served(
     )?;
     push(
         outs,
-        Out::Send(
-            read.from,
-            Message::ReadRep(ReadRep { t, op, sid, value }),
-        ),
+        Out::Send(read.from, Message::ReadRep(ReadRep { t, op, sid, value })),
     )
 }
 
@@ -196,12 +193,7 @@ fn with_reply(story: &Story, q: &ReadRep) -> Result<Story, Memory>
 }
 
 /// What the home gives where a reply comes for the operation that is read.
-fn taken_row(
-    alloc: Global,
-    cluster: &Cluster,
-    tx: &Open,
-    q: &ReadRep,
-) -> Result<Vec<Out>, Memory>
+fn taken_row(alloc: Global, cluster: &Cluster, tx: &Open, q: &ReadRep) -> Result<Vec<Out>, Memory>
     ensures { IfOk result (λ outs. outs.items ≡ reply_row cluster.now q.now (Reads tx.now q.now.op)) }
 {
     let story = with_reply(tx.story, q)?;
