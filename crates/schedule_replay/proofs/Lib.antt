@@ -1,3 +1,4 @@
+pub mod Sending
 pub mod Told
 pub mod Clocks
 pub mod Walking

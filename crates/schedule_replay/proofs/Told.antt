@@ -1,11 +1,11 @@
 -- What a function of several calls gives, where each call gives its part.
-use Rattle.std.proofs.Common.{◌≡◌, ◌==◌, ℕ, true, arith, List, [], ◌∷◌, ◌++◌, filter, map, Result, IfOk, Option, Some, refl, sym, ap, subst, ◌∙◌, if◌then◌else◌}
+use Rattle.std.proofs.Common.{◌≡◌, ◌==◌, ℕ, true, arith, List, [], ◌∷◌, ◌++◌, filter, map, Result, IfOk, Some, sym, ap, subst, ◌∙◌, if◌then◌else◌}
 use Rattle.std.proofs.lemmas.Bool.Decides.{nat_tests}
 use Rattle.score_base.specs.declared.keys.Key.{Key}
 use Rattle.score_base.specs.declared.ids.NodeId.{NodeId}
 use Rattle.score_base.specs.declared.ids.Value.{Value}
 use Rattle.script_lang.specs.Scripts.{ScriptData}
-use Rattle.script_lang.specs.Reads.{keys_of, remote_keys, written_keys}
+use Rattle.script_lang.specs.Reads.{remote_keys, written_keys}
 use Rattle.placement.specs.Places.{parts, holds}
 use Rattle.placement.specs.Clusters.{ClusterData}
 use Rattle.grid_model.specs.declared.acts.Act.TheVariants as act

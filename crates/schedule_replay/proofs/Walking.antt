@@ -3,7 +3,7 @@ use Rattle.std.proofs.Common.{◌≡◌, ℕ, ◌+◌, ◌<◌, Bool, true, fals
 use Rattle.std.proofs.Math.Path.{fun_ext}
 use Rattle.std.proofs.lemmas.List.{append_assoc, append-nil, drop_more}
 use Rattle.std.specs.Option.{unwrap_or}
-use Rattle.std.specs.Ordering.{nat_cmp, eq_by_cmp}
+use Rattle.std.specs.Ordering.{nat_cmp}
 use Rattle.std.specs.Cmp.Lexicographic.{slice_cmp, nat_list_cmp_total, texts_ties}
 use Rattle.std.proofs.lemmas.Cmp.{eq_by_cmp_equiv}
 use Rattle.std.specs.FinMap as map
@@ -20,8 +20,8 @@ use Rattle.script_lang.specs.declared.scripts.Op.TheVariants as op
 use Rattle.script_lang.specs.Exprs.{expr_value, all_in_atom, all_in_step, all_in_steps, all_in_expr, is_atom_among, is_step_among, are_steps_among, is_expr_among}
 use Rattle.script_lang.specs.Reads.{is_key_among}
 use Rattle.script_lang.specs.Scripts.{are_sound, IsBody}
-use Rattle.script_lang.specs.Values.{ReadValues, value_in, has_each_key}
-use Rattle.grid_model.specs.Serials.{Map, put, zeros}
+use Rattle.script_lang.specs.Values.{ReadValues, value_in}
+use Rattle.grid_model.specs.Serials.{put, zeros}
 use Rattle.grid_model.specs.Stories.{value_taken, waiting, waiting_from}
 use Rattle.grid_model.specs.Advances.{Walk, unread, read_step, taken_step, write_step, own_reads, walked, own_map}
 use Rattle.schedule_replay.specs.declared.trails.Trail.{Trail}

@@ -6,7 +6,8 @@ ghost use Rattle.grid_model.specs.Fitness.{is_fit_at, tx_in};
 ghost use Rattle.grid_model.specs.Rows.{row_of, answer_at, begin_outs, retry_row, ask_outs};
 ghost use Rattle.grid_model.specs.Stories.{begun};
 ghost use Rattle.grid_model.specs.Views.{stage_at, view_of};
-ghost use Rattle.schedule_replay.specs.Stages.{shown, node_view};
+ghost use Rattle.schedule_replay.specs.Numbering.{sends};
+ghost use Rattle.schedule_replay.specs.Stages.{shown, node_view, parts_left};
 
 use crate::advances::{advance, push_prepares_again, push_request, push_to};
 use crate::coordinators::{ack_row, ask_row, not_among, not_voted, push_tells, vote_row};
@@ -75,7 +76,8 @@ pub fn answer(
     from: NodeId,
     message: &Message,
 ) -> Result<Vec<Out>, Memory>
-    ensures { IfOk result (λ outs. outs.items ≡ answer_at n (view_of doc.now n node.now (λ t. None)) (stage_at n node.now (tx_in message.now) (option_copied script.entry) (option_copied story.entry)) from message.now) }
+    ensures row { IfOk result (λ outs. outs.items ≡ answer_at n (view_of doc.now n node.now (λ t. None)) (stage_at n node.now (tx_in message.now) (option_copied script.entry) (option_copied story.entry)) from message.now) }
+    ensures few { IfOk result (λ outs. sends outs.items ≤ 16 + length node.now.held) }
 {
     let stage = stage_of(alloc, n, node, tx_in(message), script, story)?;
     if !is_fit_at(alloc, doc, n, node, &stage, from, message)? {
@@ -109,7 +111,8 @@ pub fn begin_outs(
     node: &PlainNode,
     script: &Script,
 ) -> Result<Vec<Out>, Memory>
-    ensures { IfOk result (λ outs. outs.items ≡ begin_outs n (view_of doc.now n node.now (λ t. None)) script.now) }
+    ensures row { IfOk result (λ outs. outs.items ≡ begin_outs n (view_of doc.now n node.now (λ t. None)) script.now) }
+    ensures few { IfOk result (λ outs. sends outs.items ≤ 16) }
 {
     let sid0 = commit_id(alloc, node.records.as_slice())?;
     let story = begun(alloc, sid0);
@@ -160,7 +163,8 @@ pub fn retry_outs(
     script: Option<&Script>,
     story: Option<&Story>,
 ) -> Result<Vec<Out>, Memory>
-    ensures { IfOk result (λ outs. outs.items ≡ retry_row doc.now.cluster t (stage_at n node.now t (option_copied script.entry) (option_copied story.entry))) }
+    ensures row { IfOk result (λ outs. outs.items ≡ retry_row doc.now.cluster t (stage_at n node.now t (option_copied script.entry) (option_copied story.entry))) }
+    ensures few { IfOk result (λ outs. sends outs.items ≤ 16 + length (parts_left (stage_at n node.now t (option_copied script.entry) (option_copied story.entry)))) }
 {
     let stage = stage_of(alloc, n, node, t, script, story)?;
     retry_row(alloc, doc.cluster(), t, &stage)
@@ -174,7 +178,8 @@ pub fn ask_outs(
     node: &PlainNode,
     t: TxId,
 ) -> Result<Vec<Out>, Memory>
-    ensures { IfOk result (λ outs. outs.items ≡ ask_outs (view_of doc.now n node.now (λ t. None)) t) }
+    ensures row { IfOk result (λ outs. outs.items ≡ ask_outs (view_of doc.now n node.now (λ t. None)) t) }
+    ensures few { IfOk result (λ outs. sends outs.items ≤ 1) }
 {
     let records = node.records.as_slice();
     let mut outs = Vec::new(alloc);

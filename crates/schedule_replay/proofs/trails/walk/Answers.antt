@@ -1,5 +1,5 @@
-use Rattle.std.proofs.Common.{◌+◌, ◌∙◌, refl, sym, ap, arith}
-use Rattle.schedule_replay.proofs.Walking.{comes-first, ready-at, more-at, stop-at}
+use Rattle.std.proofs.Common.{◌+◌, ◌∙◌, refl, sym, arith}
+use Rattle.schedule_replay.proofs.Walking.{comes-first, ready-at, more-at}
 use Rattle.schedule_replay.proofs.trails.walk.Goals as goal
 
 pub loop-op-init : goal.loop-op-init
