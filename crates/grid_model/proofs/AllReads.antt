@@ -1,21 +1,16 @@
 -- Which values do the reads of a transaction show, in order, up to the read that it waits for?
-use Rattle.std.proofs.Common.{ℕ, ◌+◌, ◌-◌, ◌≤◌, ◌<◌, ◌≡◌, ◌≢◌, ◌⊎◌, inl, inr, Bool, true, false, ◌&&◌, ◌||◌, not, map, List, [], ◌∷◌, ◌++◌, Option, Some, None, is_some, refl, sym, ap, subst, ◌∙◌, arith, if◌then◌else◌}
-use Rattle.std.proofs.lemmas.Bool.{cases_Bool, cases_eq, and_parts, and_from, or_parts, or_from, or_cases, or_left, or_right}
+use Rattle.std.proofs.Common.{ℕ, ◌+◌, ◌≤◌, ◌<◌, ◌≡◌, Bool, true, false, List, [], ◌∷◌, ◌++◌, Option, Some, None, refl, sym, ap, subst, ◌∙◌, arith, if◌then◌else◌}
 use Rattle.std.proofs.lemmas.Bool.Decides.{nat_tests}
-use Rattle.std.specs.Prelude.{◌==◌, nat_lt, nat_le, filter, slice_get}
+use Rattle.std.specs.Prelude.{nat_lt, filter}
 use Rattle.score_base.specs.declared.ids.Value.{Value}
 use Rattle.score_base.specs.declared.keys.Key.{Key}
-use Rattle.score_base.specs.Keys.{same_key}
-use Rattle.script_lang.specs.declared.exprs.Expr.{Expr}
 use Rattle.script_lang.specs.declared.scripts.Op.{Op}
 use Rattle.script_lang.specs.declared.scripts.Op.TheVariants as op
-use Rattle.script_lang.specs.Exprs.{expr_value}
-use Rattle.script_lang.specs.Reads.{is_key_among, key_of, remote_keys, written_keys, is_update}
-use Rattle.grid_model.specs.Serials.{Map, put, zeros, serial_reads, serial_map, reads_on, map_behind}
+use Rattle.script_lang.specs.Reads.{is_key_among}
 use Rattle.grid_model.specs.Stories.{value_taken, first_open, waiting_from, waiting}
-use Rattle.grid_model.specs.Advances.{Walk, unread, read_step, taken_step, write_step, if_taken, own_reads, walked, own_map, op_at}
+use Rattle.grid_model.specs.Advances.{Walk, unread, read_step, taken_step, write_step, if_taken, own_reads, walked}
 use Rattle.grid_model.proofs.RemoteReads.{InOrder, order-left, order-untaken}
-use Rattle.grid_model.proofs.Walks.{IsOpen, waiting-open, IsMore, more-taken, IsCase, own, far, here, case-of, IsFrom, own-from}
+use Rattle.grid_model.proofs.Walks.{waiting-open, IsMore, more-taken, IsCase, own, far, here, case-of, own-from}
 
 -- ---- all reads
 
@@ -56,6 +51,7 @@ reads-extend j i v seen w values values' (op.Read k ∷ ops) more none h = go (c
   where
     drops : (u : Value) (xs : List (ℕ × Value)) → j ≤ i → filter (λ y. nat_lt i y.0) ((j, u) ∷ xs) ≡ filter (λ y. nat_lt i y.0) xs
     drops u xs le = (let test : nat_lt i j ≡ false = grind (arith, nat_tests) in rw test refl)
+
     go : IsCase i j v (is_key_among k seen) (value_taken j values) (value_taken j values') → (waiting_from (j + 1) seen values ops ≡ Some i → all_reads (j + 1) seen (read_step k w) values' ops ≡ all_reads (j + 1) seen (read_step k w) values ops ++ (i, v) ∷ filter (λ y. nat_lt i y.0) (own_reads (j + 1) seen (read_step k w) values' ops)) → ((u : Value) → waiting_from (j + 1) (k ∷ seen) values ops ≡ Some i → all_reads (j + 1) (k ∷ seen) (taken_step k u w) values' ops ≡ all_reads (j + 1) (k ∷ seen) (taken_step k u w) values ops ++ (i, v) ∷ filter (λ y. nat_lt i y.0) (own_reads (j + 1) (k ∷ seen) (taken_step k u w) values' ops)) → all_reads j seen w values' (op.Read k ∷ ops) ≡ all_reads j seen w values (op.Read k ∷ ops) ++ (i, v) ∷ filter (λ y. nat_lt i y.0) (own_reads j seen w values' (op.Read k ∷ ops))
     go (own e) same new =
         let le = (waiting-open j i seen values (op.Read k ∷ ops) h).least in

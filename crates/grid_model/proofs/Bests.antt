@@ -1,28 +1,16 @@
 -- Which version does a node read at an identifier, and when does the next record leave it as it is?
-use Rattle.std.proofs.Common.{ℕ, ◌+◌, ◌-◌, ◌≤◌, ◌<◌, ◌≡◌, ◌≢◌, ◌⊎◌, inl, inr, Bool, true, false, ◌&&◌, ◌||◌, not, max, map, List, [], ◌∷◌, ◌++◌, Option, Some, None, is_some, refl, sym, ap, subst, ◌∙◌, arith, if◌then◌else◌}
-use Rattle.std.proofs.lemmas.Bool.{cases_Bool, cases_eq, and_parts, and_from, or_parts, or_from, or_cases, or_left, or_right}
+use Rattle.std.proofs.Common.{◌≤◌, ◌<◌, ◌≡◌, ◌⊎◌, inl, inr, Bool, true, false, ◌&&◌, List, [], ◌∷◌, Option, Some, None, refl, sym, ◌∙◌, arith, if◌then◌else◌}
+use Rattle.std.proofs.lemmas.Bool.{or_cases, or_right}
 use Rattle.std.proofs.lemmas.Bool.Decides.{nat_tests}
-use Rattle.std.specs.Prelude.{◌==◌, nat_lt, nat_le, is_none}
+use Rattle.std.specs.Prelude.{◌==◌}
 use Rattle.score_base.specs.declared.ids.TxId.{TxId}
-use Rattle.score_base.specs.declared.ids.NodeId.{NodeId}
 use Rattle.score_base.specs.declared.ids.Ident.{Ident}
 use Rattle.score_base.specs.declared.ids.Value.{Value}
 use Rattle.score_base.specs.declared.keys.Key.{Key}
-use Rattle.score_base.specs.declared.causes.Outcome.{Outcome}
-use Rattle.score_base.specs.declared.causes.Outcome.TheVariants as outcome
 use Rattle.score_base.specs.declared.records.Record.{Record}
-use Rattle.score_base.specs.declared.records.Record.TheVariants as record'
-use Rattle.score_base.specs.Keys.{same_key}
-use Rattle.script_lang.specs.Reads.{is_key_among}
-use Rattle.placement.specs.Places.{is_among, holds}
-use Rattle.placement.specs.Clusters.{ClusterData}
 use Rattle.grid_model.specs.declared.versions.Version.{Version}
-use Rattle.grid_model.specs.Journals.{Prepared, older, prepared_of, home_in, home_of, prepared_all, pending, without, pendings, all_above, is_clear, ended, is_commit, commits, applied_of, applied, greatest, commit_id, floor, written_value, wrote_in, is_behind, later, best, up_to, version_at, newest, keys_in, shares, conflict, conflicts_with, is_unapplied, is_locking, lesser, holds_out, holder_among, holder, newer, Decision, decision, is_closed, undone, is_above, are_distinct_keys, are_own_keys, are_lists, fits_prepared, fits_outcome, fits, all_fit}
-use Rattle.grid_model.proofs.Fits.{newest-fits, rest-fits}
+use Rattle.grid_model.specs.Journals.{prepared_of, wrote_in, is_behind, later, best}
 use Rattle.grid_model.proofs.Pairs.{has_pair}
-use Rattle.grid_model.proofs.Once.{prepared-stays, ended-prepared}
-use Rattle.grid_model.proofs.Pendings.{clear-below}
-use Rattle.grid_model.proofs.Applied.{IsApplied, applied-says, says-applied, applied-grows, applied-below, commit_id-clear, commit_id-grows}
 
 -- ---- the best of a list of commits, by what each wrote
 
@@ -54,12 +42,12 @@ later-self f u x b = grind (arith, nat_tests)
 pub best-bound : (w : TxId → Option Value) (start : Value) (u : TxId) (f : Ident) (v : Value) (xs : List (TxId × Ident)) → has_pair u f xs ≡ true → w u ≡ Some v → IsAtMost f u (best_of w start xs)
 best-bound w start u f v [] h e = absurd (grind (arith, h))
 best-bound w start u f v (x ∷ xs) h e = elim (or_cases (x.0 == u && x.1 == f) (has_pair u f xs) h) [
-    | inl here ↦
-        let u' : x.0 ≡ u = grind (arith, nat_tests, here) in
-        let f' : x.1 ≡ f = grind (arith, nat_tests, here) in
-        rw (u', f', e) (later-self f u v (best_of w start xs))
-    | inr more ↦ later-most x.1 f x.0 u (w x.0) (best_of w start xs) (best-bound w start u f v xs more e)
-    ]
+  | inl here ↦
+      let u' : x.0 ≡ u = grind (arith, nat_tests, here) in
+      let f' : x.1 ≡ f = grind (arith, nat_tests, here) in
+      rw (u', f', e) (later-self f u v (best_of w start xs))
+  | inr more ↦ later-most x.1 f x.0 u (w x.0) (best_of w start xs) (best-bound w start u f v xs more e)
+]
 
 -- the best is one that wrote, or the initial value
 pub data IsOneOf (w : TxId → Option Value) (start : Value) (xs : List (TxId × Ident)) (b : Version) : Type 0 where
@@ -77,6 +65,7 @@ best-one w start (x ∷ xs) = go (w x.0) refl (best-one w start xs)
     choose : (v : Value) (b : Bool) → w x.0 ≡ Some v → IsOneOf w start xs (best_of w start xs) → IsOneOf w start (x ∷ xs) (if b then record { ident = x.1; of = x.0; value = v } else best_of w start xs)
     choose v true e h = written x.0 x.1 v (grind (arith, nat_tests)) e refl
     choose v false e h = one-more w start x xs _ h
+
     go : (o : Option Value) → w x.0 ≡ o → IsOneOf w start xs (best_of w start xs) → IsOneOf w start (x ∷ xs) (later x.1 x.0 o (best_of w start xs))
     go None e h = one-more w start x xs _ h
     go (Some v) e h = choose v (is_behind x.1 x.0 (best_of w start xs)) e h

@@ -1,23 +1,15 @@
 -- Which records change what is decided, closed and undone, and what does a decision say?
-use Rattle.std.proofs.Common.{ℕ, ◌+◌, ◌-◌, ◌≤◌, ◌<◌, ◌≡◌, ◌≢◌, ◌⊎◌, inl, inr, Bool, true, false, ◌&&◌, ◌||◌, not, max, map, List, [], ◌∷◌, ◌++◌, Option, Some, None, is_some, refl, sym, ap, subst, ◌∙◌, arith, if◌then◌else◌}
-use Rattle.std.proofs.lemmas.Bool.{cases_Bool, cases_eq, and_parts, and_from, or_parts, or_from, or_cases, or_left, or_right}
+use Rattle.std.proofs.Common.{◌≤◌, ◌≡◌, inl, inr, Bool, true, false, ◌&&◌, ◌||◌, List, [], ◌∷◌, ◌++◌, Option, Some, None, is_some, refl, subst, arith, if◌then◌else◌}
+use Rattle.std.proofs.lemmas.Bool.{cases_eq, or_right}
 use Rattle.std.proofs.lemmas.Bool.Decides.{nat_tests}
-use Rattle.std.specs.Prelude.{◌==◌, nat_lt, nat_le, is_none}
+use Rattle.std.specs.Prelude.{◌==◌}
 use Rattle.score_base.specs.declared.ids.TxId.{TxId}
 use Rattle.score_base.specs.declared.ids.NodeId.{NodeId}
 use Rattle.score_base.specs.declared.ids.Ident.{Ident}
-use Rattle.score_base.specs.declared.ids.Value.{Value}
-use Rattle.score_base.specs.declared.keys.Key.{Key}
-use Rattle.score_base.specs.declared.causes.Outcome.{Outcome}
-use Rattle.score_base.specs.declared.causes.Outcome.TheVariants as outcome
 use Rattle.score_base.specs.declared.records.Record.{Record}
 use Rattle.score_base.specs.declared.records.Record.TheVariants as record'
-use Rattle.score_base.specs.Keys.{same_key}
-use Rattle.script_lang.specs.Reads.{is_key_among}
-use Rattle.placement.specs.Places.{is_among, holds}
 use Rattle.placement.specs.Clusters.{ClusterData}
-use Rattle.grid_model.specs.declared.versions.Version.{Version}
-use Rattle.grid_model.specs.Journals.{Prepared, older, prepared_of, home_in, home_of, prepared_all, pending, without, pendings, all_above, is_clear, ended, is_commit, commits, applied_of, applied, greatest, commit_id, floor, written_value, wrote_in, is_behind, later, best, up_to, version_at, newest, keys_in, shares, conflict, conflicts_with, is_unapplied, is_locking, lesser, holds_out, holder_among, holder, newer, Decision, decision, is_closed, undone, is_above, are_distinct_keys, are_own_keys, are_lists, fits_prepared, fits_outcome, fits, all_fit}
+use Rattle.grid_model.specs.Journals.{Decision, decision, is_closed, undone, all_fit}
 use Rattle.grid_model.specs.Facts.{has_decided}
 use Rattle.grid_model.proofs.Fits.{decided-fits, closed-fits, newest-fits, rest-fits}
 
@@ -105,22 +97,22 @@ decision-grows t x y r h = some-decision (decision t (y ∷ r)) (decision-some t
 pub closed-decided : (c : ClusterData) (n : NodeId) (t : TxId) (r : List Record) → all_fit c n r ≡ true → is_closed t r ≡ true → (x : Decision) × (decision t r ≡ Some x)
 closed-decided c n t [] fit h = absurd (grind (arith, h))
 closed-decided c n t (record'.Closed u ∷ r) fit h = elim (cases_eq u t) [
-    | inl same ↦
-        let x = closed-fits c n r u (newest-fits c n (record'.Closed u) r fit) in
-        let s = undone-says u x.0 r x.1 in
-        let P : TxId → Type 0 = λ v. decision v r ≡ Some x.0 in
-        (x.0, subst P same s.decided)
-    | inr other ↦
-        let self : u == t ≡ false = grind (arith, nat_tests) in
-        closed-decided c n t r (rest-fits c n (record'.Closed u) r fit) (rw self at h)
-    ]
+  | inl same ↦
+      let x = closed-fits c n r u (newest-fits c n (record'.Closed u) r fit) in
+      let s = undone-says u x.0 r x.1 in
+      let P : TxId → Type 0 = λ v. decision v r ≡ Some x.0 in
+      (x.0, subst P same s.decided)
+  | inr other ↦
+      let self : u == t ≡ false = grind (arith, nat_tests) in
+      closed-decided c n t r (rest-fits c n (record'.Closed u) r fit) (rw self at h)
+]
 closed-decided c n t (record'.Decided u f parts ∷ r) fit h = elim (cases_eq u t) [
-    | inl same ↦ absurd (let self : u == t ≡ true = grind (arith, nat_tests) in grind (arith, h, self))
-    | inr other ↦
-        let self : u == t ≡ false = grind (arith, nat_tests) in
-        let x = closed-decided c n t r (rest-fits c n (record'.Decided u f parts) r fit) (rw self at h) in
-        (x.0, rw self x.1)
-    ]
+  | inl same ↦ absurd (let self : u == t ≡ true = grind (arith, nat_tests) in grind (arith, h, self))
+  | inr other ↦
+      let self : u == t ≡ false = grind (arith, nat_tests) in
+      let x = closed-decided c n t r (rest-fits c n (record'.Decided u f parts) r fit) (rw self at h) in
+      (x.0, rw self x.1)
+]
 closed-decided c n t (y ∷ r) fit h = closed-decided c n t r (rest-fits c n y r fit) h
 
 -- a final identifier is at least 1

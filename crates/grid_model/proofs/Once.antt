@@ -1,24 +1,19 @@
 -- How often does a transaction stand in a journal, and when is it pending and when ended?
-use Rattle.std.proofs.Common.{ℕ, ◌+◌, ◌-◌, ◌≤◌, ◌<◌, ◌≡◌, ◌≢◌, ◌⊎◌, inl, inr, Bool, true, false, ◌&&◌, ◌||◌, not, max, map, List, [], ◌∷◌, ◌++◌, Option, Some, None, is_some, refl, sym, ap, subst, ◌∙◌, arith, if◌then◌else◌}
-use Rattle.std.proofs.lemmas.Bool.{cases_Bool, cases_eq, and_parts, and_from, or_parts, or_from, or_cases, or_left, or_right}
+use Rattle.std.proofs.Common.{◌≡◌, inl, inr, Bool, true, false, List, [], ◌∷◌, ◌++◌, Option, Some, None, is_some, refl, sym, subst, ◌∙◌, arith, if◌then◌else◌}
+use Rattle.std.proofs.lemmas.Bool.{cases_eq}
 use Rattle.std.proofs.lemmas.Bool.Decides.{nat_tests}
-use Rattle.std.specs.Prelude.{◌==◌, nat_lt, nat_le, is_none}
+use Rattle.std.specs.Prelude.{◌==◌}
 use Rattle.score_base.specs.declared.ids.TxId.{TxId}
 use Rattle.score_base.specs.declared.ids.NodeId.{NodeId}
 use Rattle.score_base.specs.declared.ids.Ident.{Ident}
 use Rattle.score_base.specs.declared.ids.Value.{Value}
 use Rattle.score_base.specs.declared.keys.Key.{Key}
 use Rattle.score_base.specs.declared.causes.Outcome.{Outcome}
-use Rattle.score_base.specs.declared.causes.Outcome.TheVariants as outcome
 use Rattle.score_base.specs.declared.records.Record.{Record}
 use Rattle.score_base.specs.declared.records.Record.TheVariants as record'
-use Rattle.score_base.specs.Keys.{same_key}
-use Rattle.script_lang.specs.Reads.{is_key_among}
-use Rattle.placement.specs.Places.{is_among, holds}
 use Rattle.placement.specs.Clusters.{ClusterData}
-use Rattle.grid_model.specs.declared.versions.Version.{Version}
-use Rattle.grid_model.specs.Journals.{Prepared, older, prepared_of, home_in, home_of, prepared_all, pending, without, pendings, all_above, is_clear, ended, is_commit, commits, applied_of, applied, greatest, commit_id, floor, written_value, wrote_in, is_behind, later, best, up_to, version_at, newest, keys_in, shares, conflict, conflicts_with, is_unapplied, is_locking, lesser, holds_out, holder_among, holder, newer, Decision, decision, is_closed, undone, is_above, are_distinct_keys, are_own_keys, are_lists, fits_prepared, fits_outcome, fits, all_fit}
-use Rattle.grid_model.proofs.Fits.{FitsPrepared, prepared-fits, outcome-fits, newest-fits, rest-fits}
+use Rattle.grid_model.specs.Journals.{Prepared, older, prepared_of, pending, ended, fits, all_fit}
+use Rattle.grid_model.proofs.Fits.{prepared-fits, outcome-fits, newest-fits, rest-fits}
 
 some-is : {A : Type 0} (o : Option A) → is_some o ≡ true → (x : A) × (o ≡ Some x)
 some-is None h = absurd (grind (arith, h))
@@ -73,14 +68,14 @@ some-stays t y r h =
 ended-some : (c : ClusterData) (n : NodeId) (t : TxId) (o : Outcome) (r : List Record) → all_fit c n r ≡ true → ended t r ≡ Some o → is_some (prepared_of t r) ≡ true
 ended-some c n t o [] fit h = absurd (grind (arith, h))
 ended-some c n t o (record'.Ended u o' ∷ r) fit h = elim (cases_eq u t) [
-    | inl same ↦
-        let q = outcome-fits c n r u o' (newest-fits c n (record'.Ended u o') r fit) in
-        let P : TxId → Type 0 = λ v. pending v r ≡ Some q.0 in
-        pending-some t q.0 r (subst P same q.1)
-    | inr other ↦
-        let h' : ended t r ≡ Some o = (let no' : u == t ≡ false = grind (arith, nat_tests) in rw no' at h) in
-        ended-some c n t o r (rest-fits c n (record'.Ended u o') r fit) h'
-    ]
+  | inl same ↦
+      let q = outcome-fits c n r u o' (newest-fits c n (record'.Ended u o') r fit) in
+      let P : TxId → Type 0 = λ v. pending v r ≡ Some q.0 in
+      pending-some t q.0 r (subst P same q.1)
+  | inr other ↦
+      let h' : ended t r ≡ Some o = (let no' : u == t ≡ false = grind (arith, nat_tests) in rw no' at h) in
+      ended-some c n t o r (rest-fits c n (record'.Ended u o') r fit) h'
+]
 ended-some c n t o (record'.Prepared u home parts sid p reads writes ∷ r) fit h = some-stays t (record'.Prepared u home parts sid p reads writes) r (ended-some c n t o r (rest-fits c n (record'.Prepared u home parts sid p reads writes) r fit) h)
 ended-some c n t o (y ∷ r) fit h = ended-some c n t o r (rest-fits c n y r fit) h
 
@@ -117,25 +112,25 @@ pending-ended (Some x) o = refl
 pub pending-is : (c : ClusterData) (n : NodeId) (t : TxId) (r : List Record) → all_fit c n r ≡ true → pending t r ≡ pending_by (prepared_of t r) (ended t r)
 pending-is c n t [] fit = refl
 pending-is c n t (record'.Prepared u home parts sid p reads writes ∷ r) fit = elim (cases_eq u t) [
-    | inl same ↦
-        let f = prepared-fits c n r u parts sid p reads writes (newest-fits c n (record'.Prepared u home parts sid p reads writes) r fit) in
-        let P : TxId → Type 0 = λ v. prepared_of v r ≡ None in
-        let new : prepared_of t r ≡ None = subst P same f.new in
-        let open' : ended t r ≡ None = unprepared-ended c n t r (rest-fits c n (record'.Prepared u home parts sid p reads writes) r fit) new in
-        let here : u == t ≡ true = grind (arith, nat_tests) in
-        rw (here, new, open') refl
-    | inr other ↦
-        let here : u == t ≡ false = grind (arith, nat_tests) in
-        rw here (pending-is c n t r (rest-fits c n (record'.Prepared u home parts sid p reads writes) r fit))
-    ]
+  | inl same ↦
+      let f = prepared-fits c n r u parts sid p reads writes (newest-fits c n (record'.Prepared u home parts sid p reads writes) r fit) in
+      let P : TxId → Type 0 = λ v. prepared_of v r ≡ None in
+      let new : prepared_of t r ≡ None = subst P same f.new in
+      let open' : ended t r ≡ None = unprepared-ended c n t r (rest-fits c n (record'.Prepared u home parts sid p reads writes) r fit) new in
+      let here : u == t ≡ true = grind (arith, nat_tests) in
+      rw (here, new, open') refl
+  | inr other ↦
+      let here : u == t ≡ false = grind (arith, nat_tests) in
+      rw here (pending-is c n t r (rest-fits c n (record'.Prepared u home parts sid p reads writes) r fit))
+]
 pending-is c n t (record'.Ended u o ∷ r) fit = elim (cases_eq u t) [
-    | inl same ↦
-        let here : u == t ≡ true = grind (arith, nat_tests) in
-        rw here (sym (pending-ended (prepared_of t r) o))
-    | inr other ↦
-        let here : u == t ≡ false = grind (arith, nat_tests) in
-        rw here (pending-is c n t r (rest-fits c n (record'.Ended u o) r fit))
-    ]
+  | inl same ↦
+      let here : u == t ≡ true = grind (arith, nat_tests) in
+      rw here (sym (pending-ended (prepared_of t r) o))
+  | inr other ↦
+      let here : u == t ≡ false = grind (arith, nat_tests) in
+      rw here (pending-is c n t r (rest-fits c n (record'.Ended u o) r fit))
+]
 pending-is c n t (y ∷ r) fit = pending-is c n t r (rest-fits c n y r fit)
 
 -- what a pending transaction is
@@ -168,12 +163,12 @@ ended-first c n t o r fit =
 
 pub ended-stays : (c : ClusterData) (n : NodeId) (t : TxId) (o : Outcome) (y : Record) (r : List Record) → all_fit c n (y ∷ r) ≡ true → ended t r ≡ Some o → ended t (y ∷ r) ≡ Some o
 ended-stays c n t o (record'.Ended u o') r fit h = elim (cases_eq u t) [
-    | inl same ↦ absurd (
-        let P : TxId → Type 0 = λ v. ended v r ≡ None in
-        let first : ended t r ≡ None = subst P same (ended-first c n u o' r fit) in
-        grind (arith, first, h))
-    | inr other ↦ (let here : u == t ≡ false = grind (arith, nat_tests) in rw here h)
-    ]
+  | inl same ↦ absurd (
+      let P : TxId → Type 0 = λ v. ended v r ≡ None in
+      let first : ended t r ≡ None = subst P same (ended-first c n u o' r fit) in
+      grind (arith, first, h))
+  | inr other ↦ (let here : u == t ≡ false = grind (arith, nat_tests) in rw here h)
+]
 ended-stays c n t o y r fit h = h
 
 pub ended-later : (c : ClusterData) (n : NodeId) (t : TxId) (o : Outcome) (s r : List Record) → all_fit c n (s ++ r) ≡ true → ended t r ≡ Some o → ended t (s ++ r) ≡ Some o

@@ -1,23 +1,11 @@
 -- Which transactions are pending, and what is every pending proposal above?
-use Rattle.std.proofs.Common.{ℕ, ◌+◌, ◌-◌, ◌≤◌, ◌<◌, ◌≡◌, ◌≢◌, ◌⊎◌, inl, inr, Bool, true, false, ◌&&◌, ◌||◌, not, max, map, List, [], ◌∷◌, ◌++◌, Option, Some, None, is_some, refl, sym, ap, subst, ◌∙◌, arith, if◌then◌else◌}
-use Rattle.std.proofs.lemmas.Bool.{cases_Bool, cases_eq, and_parts, and_from, or_parts, or_from, or_cases, or_left, or_right}
+use Rattle.std.proofs.Common.{◌≤◌, ◌<◌, ◌≡◌, ◌≢◌, inl, inr, Bool, true, false, ◌&&◌, ◌||◌, List, [], ◌∷◌, refl, arith}
+use Rattle.std.proofs.lemmas.Bool.{cases_Bool, cases_eq, or_cases}
 use Rattle.std.proofs.lemmas.Bool.Decides.{nat_tests}
-use Rattle.std.specs.Prelude.{◌==◌, nat_lt, nat_le, is_none}
+use Rattle.std.specs.Prelude.{◌==◌, nat_lt}
 use Rattle.score_base.specs.declared.ids.TxId.{TxId}
-use Rattle.score_base.specs.declared.ids.NodeId.{NodeId}
 use Rattle.score_base.specs.declared.ids.Ident.{Ident}
-use Rattle.score_base.specs.declared.ids.Value.{Value}
-use Rattle.score_base.specs.declared.keys.Key.{Key}
-use Rattle.score_base.specs.declared.causes.Outcome.{Outcome}
-use Rattle.score_base.specs.declared.causes.Outcome.TheVariants as outcome
-use Rattle.score_base.specs.declared.records.Record.{Record}
-use Rattle.score_base.specs.declared.records.Record.TheVariants as record'
-use Rattle.score_base.specs.Keys.{same_key}
-use Rattle.script_lang.specs.Reads.{is_key_among}
-use Rattle.placement.specs.Places.{is_among, holds}
-use Rattle.placement.specs.Clusters.{ClusterData}
-use Rattle.grid_model.specs.declared.versions.Version.{Version}
-use Rattle.grid_model.specs.Journals.{Prepared, older, prepared_of, home_in, home_of, prepared_all, pending, without, pendings, all_above, is_clear, ended, is_commit, commits, applied_of, applied, greatest, commit_id, floor, written_value, wrote_in, is_behind, later, best, up_to, version_at, newest, keys_in, shares, conflict, conflicts_with, is_unapplied, is_locking, lesser, holds_out, holder_among, holder, newer, Decision, decision, is_closed, undone, is_above, are_distinct_keys, are_own_keys, are_lists, fits_prepared, fits_outcome, fits, all_fit}
+use Rattle.grid_model.specs.Journals.{without, all_above, later}
 
 -- ---- lists of pairs
 
@@ -36,19 +24,19 @@ pair-kept t v p (x ∷ xs) ne h = grind (arith, nat_tests, pair-kept t v p xs ne
 pub pair-taken : (t v : TxId) (p : Ident) (xs : List (TxId × Ident)) → has_pair t p (without v xs) ≡ true → (t ≢ v) × (has_pair t p xs ≡ true)
 pair-taken t v p [] h = absurd (grind (arith, h))
 pair-taken t v p (x ∷ xs) h = elim (cases_eq x.0 v) [
-    | inl same ↦
-        let gone : without v (x ∷ xs) ≡ without v xs = grind (arith, nat_tests) in
-        let h' : has_pair t p (without v xs) ≡ true = rw gone at h in
-        let more = pair-taken t v p xs h' in
-        (more.0, grind (arith, more.1))
-    | inr other ↦
-        let stays : without v (x ∷ xs) ≡ x ∷ without v xs = grind (arith, nat_tests) in
-        let h' : has_pair t p (x ∷ without v xs) ≡ true = rw stays at h in
-        elim (or_cases (x.0 == t && x.1 == p) (has_pair t p (without v xs)) h') [
+  | inl same ↦
+      let gone : without v (x ∷ xs) ≡ without v xs = grind (arith, nat_tests) in
+      let h' : has_pair t p (without v xs) ≡ true = rw gone at h in
+      let more = pair-taken t v p xs h' in
+      (more.0, grind (arith, more.1))
+  | inr other ↦
+      let stays : without v (x ∷ xs) ≡ x ∷ without v xs = grind (arith, nat_tests) in
+      let h' : has_pair t p (x ∷ without v xs) ≡ true = rw stays at h in
+      elim (or_cases (x.0 == t && x.1 == p) (has_pair t p (without v xs)) h') [
         | inl here ↦ (grind (arith, nat_tests, here, other), grind (arith, here))
         | inr later ↦ let more = pair-taken t v p xs later in (more.0, grind (arith, more.1))
-        ]
-    ]
+      ]
+]
 
 -- ---- above all of these
 
@@ -68,8 +56,8 @@ above-without s t (x ∷ xs) h = grind (arith, nat_tests, above-without s t xs)
 pub not-above : (s : Ident) (xs : List (TxId × Ident)) → all_above s xs ≡ false → (t : TxId) × (p : Ident) × (has_pair t p xs ≡ true) × (p ≤ s)
 not-above s [] h = absurd (grind (arith, h))
 not-above s (x ∷ xs) h = elim (cases_Bool (nat_lt s x.1)) [
-    | inl above ↦
-        let more = not-above s xs (grind (arith, h, above)) in
-        (more.0, more.1, grind (arith, more.2), more.3)
-    | inr not_above ↦ (x.0, x.1, grind (arith, nat_tests), grind (arith, nat_tests, not_above))
-    ]
+  | inl above ↦
+      let more = not-above s xs (grind (arith, h, above)) in
+      (more.0, more.1, grind (arith, more.2), more.3)
+  | inr not_above ↦ (x.0, x.1, grind (arith, nat_tests), grind (arith, nat_tests, not_above))
+]

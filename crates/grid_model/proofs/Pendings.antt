@@ -1,25 +1,20 @@
 -- Which proposals are pending, and when is an identifier below all of them?
-use Rattle.std.proofs.Common.{ℕ, ◌+◌, ◌-◌, ◌≤◌, ◌<◌, ◌≡◌, ◌≢◌, ◌⊎◌, inl, inr, Bool, true, false, ◌&&◌, ◌||◌, not, max, map, List, [], ◌∷◌, ◌++◌, Option, Some, None, is_some, refl, sym, ap, subst, ◌∙◌, arith, if◌then◌else◌}
-use Rattle.std.proofs.lemmas.Bool.{cases_Bool, cases_eq, and_parts, and_from, or_parts, or_from, or_cases, or_left, or_right}
+use Rattle.std.proofs.Common.{◌≤◌, ◌<◌, ◌≡◌, ◌⊎◌, inl, inr, Bool, true, false, ◌&&◌, List, [], ◌∷◌, Option, Some, None, refl, subst, arith, if◌then◌else◌}
+use Rattle.std.proofs.lemmas.Bool.{cases_Bool, cases_eq, and_parts, and_from, or_cases}
 use Rattle.std.proofs.lemmas.Bool.Decides.{nat_tests}
-use Rattle.std.specs.Prelude.{◌==◌, nat_lt, nat_le, is_none}
+use Rattle.std.specs.Prelude.{◌==◌, nat_lt}
 use Rattle.score_base.specs.declared.ids.TxId.{TxId}
 use Rattle.score_base.specs.declared.ids.NodeId.{NodeId}
 use Rattle.score_base.specs.declared.ids.Ident.{Ident}
 use Rattle.score_base.specs.declared.ids.Value.{Value}
 use Rattle.score_base.specs.declared.keys.Key.{Key}
 use Rattle.score_base.specs.declared.causes.Outcome.{Outcome}
-use Rattle.score_base.specs.declared.causes.Outcome.TheVariants as outcome
 use Rattle.score_base.specs.declared.records.Record.{Record}
 use Rattle.score_base.specs.declared.records.Record.TheVariants as record'
-use Rattle.score_base.specs.Keys.{same_key}
-use Rattle.script_lang.specs.Reads.{is_key_among}
-use Rattle.placement.specs.Places.{is_among, holds}
 use Rattle.placement.specs.Clusters.{ClusterData}
-use Rattle.grid_model.specs.declared.versions.Version.{Version}
-use Rattle.grid_model.specs.Journals.{Prepared, older, prepared_of, home_in, home_of, prepared_all, pending, without, pendings, all_above, is_clear, ended, is_commit, commits, applied_of, applied, greatest, commit_id, floor, written_value, wrote_in, is_behind, later, best, up_to, version_at, newest, keys_in, shares, conflict, conflicts_with, is_unapplied, is_locking, lesser, holds_out, holder_among, holder, newer, Decision, decision, is_closed, undone, is_above, are_distinct_keys, are_own_keys, are_lists, fits_prepared, fits_outcome, fits, all_fit}
-use Rattle.grid_model.proofs.Fits.{FitsPrepared, prepared-fits, outcome-fits, newest-fits, rest-fits}
-use Rattle.grid_model.proofs.Pairs.{has_pair, pair-here, pair-kept, pair-taken, all-above, above-below, above-without, not-above}
+use Rattle.grid_model.specs.Journals.{Prepared, prepared_of, pending, pendings, all_above, is_clear, ended, later, all_fit}
+use Rattle.grid_model.proofs.Fits.{prepared-fits, newest-fits, rest-fits}
+use Rattle.grid_model.proofs.Pairs.{has_pair, pair-kept, pair-taken, all-above, above-below, above-without, not-above}
 use Rattle.grid_model.proofs.Once.{unprepared-pending, running-pending}
 
 -- ---- the list of the pending, and each of them
@@ -34,19 +29,19 @@ pub listed-pending : (c : ClusterData) (n : NodeId) (t : TxId) (p : Ident) (r : 
 listed-pending c n t p [] fit h = absurd (grind (arith, h))
 listed-pending c n t p (record'.Prepared u home parts sid q reads writes ∷ r) fit h =
     elim (or_cases (u == t && q == p) (has_pair t p (pendings r)) h) [
-    | inl here ↦ grind (arith, nat_tests, here)
-    | inr later ↦
-        let f = prepared-fits c n r u parts sid q reads writes (newest-fits c n (record'.Prepared u home parts sid q reads writes) r fit) in
-        let e : pending t r ≡ Some p = listed-pending c n t p r (rest-fits c n (record'.Prepared u home parts sid q reads writes) r fit) later in
-        let none : pending u r ≡ None = unprepared-pending u r f.new in
-        other u e none
+      | inl here ↦ grind (arith, nat_tests, here)
+      | inr later ↦
+          let f = prepared-fits c n r u parts sid q reads writes (newest-fits c n (record'.Prepared u home parts sid q reads writes) r fit) in
+          let e : pending t r ≡ Some p = listed-pending c n t p r (rest-fits c n (record'.Prepared u home parts sid q reads writes) r fit) later in
+          let none : pending u r ≡ None = unprepared-pending u r f.new in
+          other u e none
     ]
   where
     other : (u : TxId) → pending t r ≡ Some p → pending u r ≡ None → (if u == t then Some q else pending t r) ≡ Some p
     other u e none = elim (cases_eq u t) [
-        | inl same ↦ absurd (let P : TxId → Type 0 = λ v. pending v r ≡ None in let e' : pending t r ≡ None = subst P same none in grind (arith, e, e'))
-        | inr ne ↦ (let here : u == t ≡ false = grind (arith, nat_tests) in rw here e)
-        ]
+      | inl same ↦ absurd (let P : TxId → Type 0 = λ v. pending v r ≡ None in let e' : pending t r ≡ None = subst P same none in grind (arith, e, e'))
+      | inr ne ↦ (let here : u == t ≡ false = grind (arith, nat_tests) in rw here e)
+    ]
 listed-pending c n t p (record'.Ended u o ∷ r) fit h =
     let k = pair-taken t u p (pendings r) h in
     let ne = k.0 in
@@ -84,9 +79,9 @@ not-clear c n s r fit h =
 
 pub pending-clear : (c : ClusterData) (n : NodeId) (s : Ident) (r : List Record) → all_fit c n r ≡ true → ((t : TxId) (p : Ident) → pending t r ≡ Some p → s < p) → is_clear s r ≡ true
 pending-clear c n s r fit h = elim (cases_Bool (is_clear s r)) [
-    | inl clear ↦ clear
-    | inr held ↦ absurd (let x = not-clear c n s r fit held in let lt = h x.of x.proposal x.pending in let le = x.most in omega arith)
-    ]
+  | inl clear ↦ clear
+  | inr held ↦ absurd (let x = not-clear c n s r fit held in let lt = h x.of x.proposal x.pending in let le = x.most in omega arith)
+]
 
 -- ---- what the next record leaves clear
 
@@ -112,21 +107,21 @@ pub record IsNewlyPending (t : TxId) (p : Ident) (y : Record) (r : List Record) 
 
 pub pending-before : (t : TxId) (p : Ident) (y : Record) (r : List Record) → pending t (y ∷ r) ≡ Some p → IsNewlyPending t p y r ⊎ (pending t r ≡ Some p)
 pending-before t p (record'.Prepared u home parts sid q reads writes) r h = elim (cases_eq u t) [
-    | inl same ↦
-        let here : u == t ≡ true = grind (arith, nat_tests) in
-        let h' : Some q ≡ Some p = rw here at h in
-        let e : q ≡ p = (cc) in
-        inl (record { prepared = (home, parts, sid, reads, writes, rw (same, e) refl) })
-    | inr other ↦
-        let here : u == t ≡ false = grind (arith, nat_tests) in
-        inr (rw here at h)
-    ]
+  | inl same ↦
+      let here : u == t ≡ true = grind (arith, nat_tests) in
+      let h' : Some q ≡ Some p = rw here at h in
+      let e : q ≡ p = (cc) in
+      inl (record { prepared = (home, parts, sid, reads, writes, rw (same, e) refl) })
+  | inr other ↦
+      let here : u == t ≡ false = grind (arith, nat_tests) in
+      inr (rw here at h)
+]
 pending-before t p (record'.Ended u o) r h = elim (cases_eq u t) [
-    | inl same ↦
-        let here : u == t ≡ true = grind (arith, nat_tests) in
-        absurd (grind (arith, here, h))
-    | inr other ↦
-        let here : u == t ≡ false = grind (arith, nat_tests) in
-        inr (rw here at h)
-    ]
+  | inl same ↦
+      let here : u == t ≡ true = grind (arith, nat_tests) in
+      absurd (grind (arith, here, h))
+  | inr other ↦
+      let here : u == t ≡ false = grind (arith, nat_tests) in
+      inr (rw here at h)
+]
 pending-before t p y r h = inr h

@@ -1,28 +1,23 @@
 -- Which version does a node read at an identifier, and when does the next record leave it as it is?
-use Rattle.std.proofs.Common.{ℕ, ◌+◌, ◌-◌, ◌≤◌, ◌<◌, ◌≡◌, ◌≢◌, ◌⊎◌, inl, inr, Bool, true, false, ◌&&◌, ◌||◌, not, max, map, List, [], ◌∷◌, ◌++◌, Option, Some, None, is_some, refl, sym, ap, subst, ◌∙◌, arith, if◌then◌else◌}
-use Rattle.std.proofs.lemmas.Bool.{cases_Bool, cases_eq, and_parts, and_from, or_parts, or_from, or_cases, or_left, or_right}
+use Rattle.std.proofs.Common.{◌≤◌, ◌≡◌, Bool, true, false, ◌&&◌, ◌||◌, List, [], ◌∷◌, Some, refl, sym, ap, ◌∙◌, arith, if◌then◌else◌}
+use Rattle.std.proofs.lemmas.Bool.{and_parts, and_from}
 use Rattle.std.proofs.lemmas.Bool.Decides.{nat_tests}
-use Rattle.std.specs.Prelude.{◌==◌, nat_lt, nat_le, is_none}
+use Rattle.std.specs.Prelude.{◌==◌, nat_le}
 use Rattle.score_base.specs.declared.ids.TxId.{TxId}
 use Rattle.score_base.specs.declared.ids.NodeId.{NodeId}
 use Rattle.score_base.specs.declared.ids.Ident.{Ident}
 use Rattle.score_base.specs.declared.ids.Value.{Value}
 use Rattle.score_base.specs.declared.keys.Key.{Key}
-use Rattle.score_base.specs.declared.causes.Outcome.{Outcome}
 use Rattle.score_base.specs.declared.causes.Outcome.TheVariants as outcome
 use Rattle.score_base.specs.declared.records.Record.{Record}
-use Rattle.score_base.specs.declared.records.Record.TheVariants as record'
-use Rattle.score_base.specs.Keys.{same_key}
-use Rattle.script_lang.specs.Reads.{is_key_among}
-use Rattle.placement.specs.Places.{is_among, holds}
 use Rattle.placement.specs.Clusters.{ClusterData}
 use Rattle.grid_model.specs.declared.versions.Version.{Version}
-use Rattle.grid_model.specs.Journals.{Prepared, older, prepared_of, home_in, home_of, prepared_all, pending, without, pendings, all_above, is_clear, ended, is_commit, commits, applied_of, applied, greatest, commit_id, floor, written_value, wrote_in, is_behind, later, best, up_to, version_at, newest, keys_in, shares, conflict, conflicts_with, is_unapplied, is_locking, lesser, holds_out, holder_among, holder, newer, Decision, decision, is_closed, undone, is_above, are_distinct_keys, are_own_keys, are_lists, fits_prepared, fits_outcome, fits, all_fit}
+use Rattle.grid_model.specs.Journals.{prepared_of, is_clear, ended, applied, commit_id, wrote_in, up_to, version_at, newest, all_fit}
 use Rattle.grid_model.proofs.Fits.{newest-fits, rest-fits}
 use Rattle.grid_model.proofs.Pairs.{has_pair}
 use Rattle.grid_model.proofs.Once.{prepared-stays, ended-prepared}
 use Rattle.grid_model.proofs.Pendings.{clear-below}
-use Rattle.grid_model.proofs.Applied.{IsApplied, applied-says, says-applied, applied-grows, applied-below, commit_id-clear, commit_id-grows}
+use Rattle.grid_model.proofs.Applied.{applied-says, applied-grows, applied-below, commit_id-clear}
 use Rattle.grid_model.proofs.Bests.{best_of, writer, best-is, IsAtMost, best-bound, IsOneOf, initial, written, best-one, IsWithin, best-same}
 use Rattle.grid_model.proofs.Stands.{final-positive}
 
@@ -42,6 +37,7 @@ up_to-pair s t f (x ∷ xs) = go (nat_le x.1 s) same (up_to-pair s t f xs)
   where
     same : (x.0 == t && x.1 == f) ≡ true → nat_le f s ≡ nat_le x.1 s
     same h = let e : f ≡ x.1 = grind (arith, nat_tests, h) in ap (λ g. nat_le g s) e
+
     go : (b : Bool) → ((x.0 == t && x.1 == f) ≡ true → nat_le f s ≡ b) → has_pair t f (up_to s xs) ≡ (has_pair t f xs && nat_le f s) → has_pair t f (if b then x ∷ up_to s xs else up_to s xs) ≡ (((x.0 == t && x.1 == f) || has_pair t f xs) && nat_le f s)
     go true e more = grind (arith, e, more)
     go false e more = grind (arith, e, more)

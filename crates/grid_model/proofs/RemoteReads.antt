@@ -1,19 +1,15 @@
 -- Which reads of a script are remote, and which of them comes next when the first of them are taken?
-use Rattle.std.proofs.Common.{ℕ, ◌+◌, ◌-◌, ◌≤◌, ◌<◌, ◌≡◌, ◌≢◌, ◌⊎◌, inl, inr, Bool, true, false, ◌&&◌, ◌||◌, not, map, List, [], ◌∷◌, ◌++◌, Option, Some, None, is_some, refl, sym, ap, subst, ◌∙◌, arith, suc, if◌then◌else◌}
-use Rattle.std.proofs.lemmas.Bool.{cases_Bool, cases_eq, and_parts, and_from, or_parts, or_from, or_cases, or_left, or_right}
+use Rattle.std.proofs.Common.{ℕ, ◌+◌, ◌-◌, ◌≤◌, ◌<◌, ◌≡◌, inl, inr, Bool, true, false, ◌||◌, map, List, [], ◌∷◌, ◌++◌, Option, Some, None, is_some, refl, sym, ap, subst, ◌∙◌, arith, suc, if◌then◌else◌}
+use Rattle.std.proofs.lemmas.Bool.{or_parts, or_cases, or_left, or_right}
 use Rattle.std.proofs.lemmas.Bool.Decides.{nat_tests}
-use Rattle.std.specs.Prelude.{◌==◌, nat_lt, nat_le, filter, slice_get}
+use Rattle.std.specs.Prelude.{◌==◌, slice_get}
 use Rattle.score_base.specs.declared.ids.Value.{Value}
 use Rattle.score_base.specs.declared.keys.Key.{Key}
 use Rattle.score_base.specs.Keys.{same_key}
-use Rattle.script_lang.specs.declared.exprs.Expr.{Expr}
 use Rattle.script_lang.specs.declared.scripts.Op.{Op}
 use Rattle.script_lang.specs.declared.scripts.Op.TheVariants as op
-use Rattle.script_lang.specs.Exprs.{expr_value}
-use Rattle.script_lang.specs.Reads.{is_key_among, key_of, remote_keys, written_keys, is_update}
-use Rattle.grid_model.specs.Serials.{Map, put, zeros, serial_reads, serial_map, reads_on, map_behind}
+use Rattle.script_lang.specs.Reads.{is_key_among, remote_keys}
 use Rattle.grid_model.specs.Stories.{value_taken, first_open, waiting_from, waiting}
-use Rattle.grid_model.specs.Advances.{Walk, unread, read_step, taken_step, write_step, if_taken, own_reads, walked, own_map, op_at}
 use Rattle.grid_model.proofs.KeyLists.{among-here, among-later}
 
 -- ---- the numbers of the remote reads
@@ -70,12 +66,13 @@ number-remote j a seen (op.Read k ∷ ops) h = go (is_key_among k seen) refl h (
         let first : j - j ≡ 0 = omega arith in
         let P : ℕ → Type 0 = λ i. slice_get (op.Read k ∷ ops) i ≡ Some (op.Read k) in
         subst (IsRemote j seen (op.Read k ∷ ops)) is (record { least = omega arith; key = k; read = subst P (sym first) refl; new = e; listed = rw e (among-here k (remote_keys (k ∷ seen) ops)) })
+
     go : (b : Bool) → is_key_among k seen ≡ b → has_number a (if b then remote_numbers (j + 1) seen ops else j ∷ remote_numbers (j + 1) (k ∷ seen) ops) ≡ true → (has_number a (remote_numbers (j + 1) seen ops) ≡ true → IsRemote (j + 1) seen ops a) → (has_number a (remote_numbers (j + 1) (k ∷ seen) ops) ≡ true → IsRemote (j + 1) (k ∷ seen) ops a) → IsRemote j seen (op.Read k ∷ ops) a
     go true e h old new = remote-later j a (op.Read k) seen seen ops (λ x n. n) (λ x n. rw e n) (old h)
     go false e h old new = elim (or_cases (j == a) (has_number a (remote_numbers (j + 1) (k ∷ seen) ops)) h) [
-        | inl is ↦ here e (grind (arith, nat_tests, is))
-        | inr more ↦ remote-later j a (op.Read k) seen (k ∷ seen) ops (λ x n. (or_parts (same_key x k) (is_key_among x seen) n).1) (λ x n. rw e (among-later x k (remote_keys (k ∷ seen) ops) n)) (new more)
-        ]
+      | inl is ↦ here e (grind (arith, nat_tests, is))
+      | inr more ↦ remote-later j a (op.Read k) seen (k ∷ seen) ops (λ x n. (or_parts (same_key x k) (is_key_among x seen) n).1) (λ x n. rw e (among-later x k (remote_keys (k ∷ seen) ops) n)) (new more)
+    ]
 number-remote j a seen (op.Write k e ∷ ops) h = remote-later j a (op.Write k e) seen (k ∷ seen) ops (λ x n. (or_parts (same_key x k) (is_key_among x seen) n).1) (λ x n. n) (number-remote (j + 1) a (k ∷ seen) ops h)
 
 -- ---- the first without a value
@@ -118,11 +115,11 @@ has-append a (n ∷ ns) ms = grind (arith, has-append a ns ms)
 rising-below : (j n a : ℕ) (ns rest : List ℕ) → AreRising j (ns ++ n ∷ rest) → has_number a ns ≡ true → a < n
 rising-below j n a [] rest h is = absurd (grind (arith, is))
 rising-below j n a (m ∷ ns) rest h is = elim (or_cases (m == a) (has_number a ns) is) [
-    | inl here ↦
-        let least : suc m ≤ n = rising-least (suc m) n ns rest h.1 in
-        grind (arith, nat_tests, here)
-    | inr more ↦ rising-below (suc m) n a ns rest h.1 more
-    ]
+  | inl here ↦
+      let least : suc m ≤ n = rising-least (suc m) n ns rest h.1 in
+      grind (arith, nat_tests, here)
+  | inr more ↦ rising-below (suc m) n a ns rest h.1 more
+]
   where
     rising-least : (j n : ℕ) (ns rest : List ℕ) → AreRising j (ns ++ n ∷ rest) → j ≤ n
     rising-least j n [] rest h = h.0

@@ -1,8 +1,7 @@
 -- Does a script that is run alone on one map read and write what a transaction did?
-use Rattle.std.proofs.Common.{ℕ, ◌+◌, ◌-◌, ◌≤◌, ◌<◌, ◌≡◌, ◌≢◌, ◌⊎◌, inl, inr, Bool, true, false, ◌&&◌, ◌||◌, not, map, List, [], ◌∷◌, ◌++◌, Option, Some, None, is_some, refl, sym, ap, subst, ◌∙◌, arith, suc, if◌then◌else◌}
-use Rattle.std.proofs.lemmas.Bool.{cases_Bool, cases_eq, and_parts, and_from, or_parts, or_from, or_cases, or_left, or_right}
-use Rattle.std.proofs.lemmas.Bool.Decides.{nat_tests}
-use Rattle.std.specs.Prelude.{◌==◌, nat_lt, nat_le, filter, slice_get}
+use Rattle.std.proofs.Common.{ℕ, ◌+◌, ◌-◌, ◌≡◌, inl, inr, Bool, true, false, ◌||◌, List, [], ◌∷◌, Option, Some, None, refl, sym, ap, subst, ◌∙◌, arith, suc, if◌then◌else◌}
+use Rattle.std.proofs.lemmas.Bool.{cases_Bool, or_parts}
+use Rattle.std.specs.Prelude.{slice_get}
 use Rattle.score_base.specs.declared.ids.Value.{Value}
 use Rattle.score_base.specs.declared.keys.Key.{Key}
 use Rattle.score_base.specs.Keys.{same_key}
@@ -10,13 +9,12 @@ use Rattle.script_lang.specs.declared.exprs.Expr.{Expr}
 use Rattle.script_lang.specs.declared.scripts.Op.{Op}
 use Rattle.script_lang.specs.declared.scripts.Op.TheVariants as op
 use Rattle.script_lang.specs.Exprs.{expr_value}
-use Rattle.script_lang.specs.Reads.{is_key_among, key_of, remote_keys, written_keys, is_update}
+use Rattle.script_lang.specs.Reads.{is_key_among, written_keys}
 use Rattle.grid_model.specs.Serials.{Map, put, zeros, serial_reads, serial_map, reads_on, map_behind}
 use Rattle.grid_model.specs.Stories.{value_taken, first_open, waiting_from, waiting}
-use Rattle.grid_model.specs.Advances.{Walk, unread, read_step, taken_step, write_step, if_taken, own_reads, walked, own_map, op_at}
+use Rattle.grid_model.specs.Advances.{Walk, unread, read_step, taken_step, write_step, walked, own_map, op_at}
 use Rattle.grid_model.specs.Copies.{op_key}
-use Rattle.grid_model.proofs.KeyLists.{same_key-is, same_key-self, same_key-turned}
-use Rattle.grid_model.proofs.RemoteReads.{InOrder, IsRemote, order-remote}
+use Rattle.grid_model.proofs.KeyLists.{same_key-is, same_key-turned}
 use Rattle.grid_model.proofs.AllReads.{all_reads, reads_by}
 
 -- ---- the values taken are those of a map
@@ -76,7 +74,7 @@ taken-beside m seen w now latest k v h new e =
       same = λ x there. elim (cases_Bool (same_key x k)) [
         | inl here ↦ (let P : Key → Type 0 = λ z. now z ≡ v in subst P (sym (same_key-is x k here)) is ∙ sym (at-put w.mine k x v here))
         | inr other ↦ h.same x (grind (arith, there, other)) ∙ sym (off-put w.mine k x v other)
-        ];
+      ];
       old = λ x gone. h.old x (or_parts (same_key x k) (is_key_among x seen) gone).1;
       read = ap (λ l. put l k (now k)) h.read ∙ ap (λ u. put w.latest k u) is;
     }
@@ -88,7 +86,7 @@ write-beside m seen w now latest k e h =
       same = λ x there. elim (cases_Bool (same_key x k)) [
         | inl here ↦ at-put now k x (expr_value latest e) here ∙ is ∙ sym (at-put w.mine k x (expr_value w.latest e) here)
         | inr other ↦ off-put now k x (expr_value latest e) other ∙ h.same x (grind (arith, there, other)) ∙ sym (off-put w.mine k x (expr_value w.latest e) other)
-        ];
+      ];
       old = λ x gone. (let parts = or_parts (same_key x k) (is_key_among x seen) gone in off-put now k x (expr_value latest e) parts.0 ∙ h.old x parts.1);
       read = h.read;
     }
@@ -113,9 +111,9 @@ serial-all m j seen w now latest values [] full each h = refl
 serial-all m j seen w now latest values (op.Read k ∷ ops) full each h = go (told-of j k seen values ops full) (serial-all m (j + 1) seen (read_step k w) now (put latest k (now k)) values ops) (λ u. serial-all m (j + 1) (k ∷ seen) (taken_step k u w) now (put latest k (now k)) values ops)
   where
     go : IsTold (is_key_among k seen) (value_taken j values)
-      → (waiting_from (j + 1) seen values ops ≡ None → AreOf m (j + 1) values ops → IsBeside m seen (read_step k w) now (put latest k (now k)) → serial_reads (j + 1) now (put latest k (now k)) ops ≡ all_reads (j + 1) seen (read_step k w) values ops)
-      → ((u : Value) → waiting_from (j + 1) (k ∷ seen) values ops ≡ None → AreOf m (j + 1) values ops → IsBeside m (k ∷ seen) (taken_step k u w) now (put latest k (now k)) → serial_reads (j + 1) now (put latest k (now k)) ops ≡ all_reads (j + 1) (k ∷ seen) (taken_step k u w) values ops)
-      → serial_reads j now latest (op.Read k ∷ ops) ≡ all_reads j seen w values (op.Read k ∷ ops)
+        → (waiting_from (j + 1) seen values ops ≡ None → AreOf m (j + 1) values ops → IsBeside m seen (read_step k w) now (put latest k (now k)) → serial_reads (j + 1) now (put latest k (now k)) ops ≡ all_reads (j + 1) seen (read_step k w) values ops)
+        → ((u : Value) → waiting_from (j + 1) (k ∷ seen) values ops ≡ None → AreOf m (j + 1) values ops → IsBeside m (k ∷ seen) (taken_step k u w) now (put latest k (now k)) → serial_reads (j + 1) now (put latest k (now k)) ops ≡ all_reads (j + 1) (k ∷ seen) (taken_step k u w) values ops)
+        → serial_reads j now latest (op.Read k ∷ ops) ≡ all_reads j seen w values (op.Read k ∷ ops)
     go (own e) old new = rw e (ap (λ ys. (j, now k) ∷ ys) (old (rw e at full) (of-later m j (op.Read k) values ops each) (read-beside m seen w now latest k h e)) ∙ ap (λ v. (j, v) ∷ all_reads (j + 1) seen (read_step k w) values ops) (h.same k e))
     go (far u e f) old new =
         let is : u ≡ m k = of-here m j k u values ops each f in
@@ -146,9 +144,9 @@ serial-new m j seen w now latest values k [] full each h is = h.same k (grind (a
 serial-new m j seen w now latest values k (op.Read x ∷ ops) full each h is = go (told-of j x seen values ops full) (serial-new m (j + 1) seen (read_step x w) now (put latest x (now x)) values k ops) (λ u. serial-new m (j + 1) (x ∷ seen) (taken_step x u w) now (put latest x (now x)) values k ops)
   where
     go : IsTold (is_key_among x seen) (value_taken j values)
-      → (waiting_from (j + 1) seen values ops ≡ None → AreOf m (j + 1) values ops → IsBeside m seen (read_step x w) now (put latest x (now x)) → (is_key_among k seen || is_written k ops) ≡ true → serial_map now (put latest x (now x)) ops k ≡ (walked (j + 1) seen (read_step x w) values ops).mine k)
-      → ((u : Value) → waiting_from (j + 1) (x ∷ seen) values ops ≡ None → AreOf m (j + 1) values ops → IsBeside m (x ∷ seen) (taken_step x u w) now (put latest x (now x)) → ((same_key k x || is_key_among k seen) || is_written k ops) ≡ true → serial_map now (put latest x (now x)) ops k ≡ (walked (j + 1) (x ∷ seen) (taken_step x u w) values ops).mine k)
-      → serial_map now latest (op.Read x ∷ ops) k ≡ (walked j seen w values (op.Read x ∷ ops)).mine k
+        → (waiting_from (j + 1) seen values ops ≡ None → AreOf m (j + 1) values ops → IsBeside m seen (read_step x w) now (put latest x (now x)) → (is_key_among k seen || is_written k ops) ≡ true → serial_map now (put latest x (now x)) ops k ≡ (walked (j + 1) seen (read_step x w) values ops).mine k)
+        → ((u : Value) → waiting_from (j + 1) (x ∷ seen) values ops ≡ None → AreOf m (j + 1) values ops → IsBeside m (x ∷ seen) (taken_step x u w) now (put latest x (now x)) → ((same_key k x || is_key_among k seen) || is_written k ops) ≡ true → serial_map now (put latest x (now x)) ops k ≡ (walked (j + 1) (x ∷ seen) (taken_step x u w) values ops).mine k)
+        → serial_map now latest (op.Read x ∷ ops) k ≡ (walked j seen w values (op.Read x ∷ ops)).mine k
     go (own e) old new = rw (e, walked) (old (rw e at full) (of-later m j (op.Read x) values ops each) (read-beside m seen w now latest x h e) is)
     go (far u e f) old new = rw (e, f, walked) (new u (rw (e, f) at full) (of-later m j (op.Read x) values ops each) (taken-beside m seen w now latest x u h e (of-here m j x u values ops each f)) (grind (arith, is)))
 serial-new m j seen w now latest values k (op.Write x e ∷ ops) full each h is = serial-new m (j + 1) (x ∷ seen) (write_step x e w) (put now x (expr_value latest e)) latest values k ops full (of-later m j (op.Write x e) values ops each) (write-beside m seen w now latest x e h) (grind (arith, is))
@@ -160,6 +158,7 @@ written-named k seen (op.Write x e ∷ ops) = go (is_key_among x seen) same (wri
   where
     same : same_key k x ≡ true → is_key_among k seen ≡ is_key_among x seen
     same h = ap (λ z. is_key_among z seen) (same_key-is k x h)
+
     go : (b : Bool) → (same_key k x ≡ true → is_key_among k seen ≡ b) → (is_key_among k seen || is_key_among k (written_keys seen ops)) ≡ (is_key_among k seen || is_written k ops) → ((same_key k x || is_key_among k seen) || is_key_among k (written_keys (x ∷ seen) ops)) ≡ ((same_key k x || is_key_among k seen) || is_written k ops) → (is_key_among k seen || is_key_among k (if b then written_keys seen ops else x ∷ written_keys (x ∷ seen) ops)) ≡ (is_key_among k seen || (same_key k x || is_written k ops))
     go true e old new = grind (arith, e, old)
     go false e old new = grind (arith, new)

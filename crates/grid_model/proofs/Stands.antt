@@ -1,27 +1,20 @@
 -- What does a record that stands in a journal say, and what stays said of it?
-use Rattle.std.proofs.Common.{ℕ, ◌+◌, ◌-◌, ◌≤◌, ◌<◌, ◌≡◌, ◌≢◌, ◌⊎◌, inl, inr, Bool, true, false, ◌&&◌, ◌||◌, not, max, map, List, [], ◌∷◌, ◌++◌, Option, Some, None, is_some, refl, sym, ap, subst, ◌∙◌, arith, if◌then◌else◌}
-use Rattle.std.proofs.lemmas.Bool.{cases_Bool, cases_eq, and_parts, and_from, or_parts, or_from, or_cases, or_left, or_right}
+use Rattle.std.proofs.Common.{◌≤◌, ◌<◌, ◌≡◌, inl, inr, Bool, true, false, ◌&&◌, ◌||◌, List, [], ◌∷◌, ◌++◌, Option, Some, None, refl, sym, ap, subst, ◌∙◌, arith, if◌then◌else◌}
+use Rattle.std.proofs.lemmas.Bool.{cases_eq, or_cases, or_right}
 use Rattle.std.proofs.lemmas.Bool.Decides.{nat_tests}
-use Rattle.std.specs.Prelude.{◌==◌, nat_lt, nat_le, is_none}
+use Rattle.std.specs.Prelude.{◌==◌}
 use Rattle.score_base.specs.declared.ids.TxId.{TxId}
 use Rattle.score_base.specs.declared.ids.NodeId.{NodeId}
 use Rattle.score_base.specs.declared.ids.Ident.{Ident}
-use Rattle.score_base.specs.declared.ids.Value.{Value}
-use Rattle.score_base.specs.declared.keys.Key.{Key}
 use Rattle.score_base.specs.declared.causes.Outcome.{Outcome}
 use Rattle.score_base.specs.declared.causes.Outcome.TheVariants as outcome
 use Rattle.score_base.specs.declared.records.Record.{Record}
 use Rattle.score_base.specs.declared.records.Record.TheVariants as record'
-use Rattle.score_base.specs.Keys.{same_key}
-use Rattle.script_lang.specs.Reads.{is_key_among}
-use Rattle.placement.specs.Places.{is_among, holds}
 use Rattle.placement.specs.Clusters.{ClusterData}
-use Rattle.grid_model.specs.declared.versions.Version.{Version}
-use Rattle.grid_model.specs.Journals.{Prepared, older, prepared_of, home_in, home_of, prepared_all, pending, without, pendings, all_above, is_clear, ended, is_commit, commits, applied_of, applied, greatest, commit_id, floor, written_value, wrote_in, is_behind, later, best, up_to, version_at, newest, keys_in, shares, conflict, conflicts_with, is_unapplied, is_locking, lesser, holds_out, holder_among, holder, newer, Decision, decision, is_closed, undone, is_above, are_distinct_keys, are_own_keys, are_lists, fits_prepared, fits_outcome, fits, all_fit}
-use Rattle.grid_model.specs.Facts.{has_prepared, has_decided, has_commit}
-use Rattle.grid_model.proofs.Fits.{FitsPrepared, prepared-fits, outcome-fits, commit-fits, newest-fits, rest-fits}
-use Rattle.grid_model.proofs.Pairs.{has_pair}
-use Rattle.grid_model.proofs.Once.{prepared-stays, prepared-later, ended-prepared, ended-stays, pending-says, IsPending}
+use Rattle.grid_model.specs.Journals.{Prepared, older, prepared_of, ended, is_commit, are_lists, all_fit}
+use Rattle.grid_model.specs.Facts.{has_prepared, has_commit}
+use Rattle.grid_model.proofs.Fits.{FitsPrepared, prepared-fits, commit-fits, newest-fits, rest-fits}
+use Rattle.grid_model.proofs.Once.{prepared-stays, ended-prepared, ended-stays, pending-says}
 
 -- ---- a Prepared
 
@@ -53,18 +46,18 @@ proposal_in (Some x) = Some x.proposal
 pub has_prepared-says : (c : ClusterData) (n : NodeId) (t : TxId) (p : Ident) (r : List Record) → all_fit c n r ≡ true → has_prepared t p r ≡ true → (x : Prepared) × (prepared_of t r ≡ Some x) × (x.proposal ≡ p)
 has_prepared-says c n t p [] fit h = absurd (grind (arith, h))
 has_prepared-says c n t p (record'.Prepared u home parts sid q reads writes ∷ r) fit h = elim (or_cases (u == t && q == p) (has_prepared t p r) h) [
-    | inl here ↦
-        let f = prepared-fits c n r u parts sid q reads writes (newest-fits c n (record'.Prepared u home parts sid q reads writes) r fit) in
-        let same : u ≡ t = grind (arith, nat_tests, here) in
-        let is : q ≡ p = grind (arith, nat_tests, here) in
-        let P : TxId → Type 0 = λ v. prepared_of v r ≡ None in
-        let new : prepared_of t r ≡ None = subst P same f.new in
-        let self : u == t ≡ true = grind (arith, nat_tests) in
-        (record { home = home; sid = sid; proposal = q; reads = reads; writes = writes }, rw (self, new) refl, is)
-    | inr more ↦
-        let x = has_prepared-says c n t p r (rest-fits c n (record'.Prepared u home parts sid q reads writes) r fit) more in
-        (x.0, prepared-stays t (record'.Prepared u home parts sid q reads writes) r x.0 x.1, x.2)
-    ]
+  | inl here ↦
+      let f = prepared-fits c n r u parts sid q reads writes (newest-fits c n (record'.Prepared u home parts sid q reads writes) r fit) in
+      let same : u ≡ t = grind (arith, nat_tests, here) in
+      let is : q ≡ p = grind (arith, nat_tests, here) in
+      let P : TxId → Type 0 = λ v. prepared_of v r ≡ None in
+      let new : prepared_of t r ≡ None = subst P same f.new in
+      let self : u == t ≡ true = grind (arith, nat_tests) in
+      (record { home = home; sid = sid; proposal = q; reads = reads; writes = writes }, rw (self, new) refl, is)
+  | inr more ↦
+      let x = has_prepared-says c n t p r (rest-fits c n (record'.Prepared u home parts sid q reads writes) r fit) more in
+      (x.0, prepared-stays t (record'.Prepared u home parts sid q reads writes) r x.0 x.1, x.2)
+]
 has_prepared-says c n t p (y ∷ r) fit h = has_prepared-says c n t p r (rest-fits c n y r fit) h
 
 pub prepared-has : (t : TxId) (x : Prepared) (r : List Record) → prepared_of t r ≡ Some x → has_prepared t x.proposal r ≡ true
@@ -113,16 +106,16 @@ final-here c n t f x r fit e =
 pub final-least : (c : ClusterData) (n : NodeId) (t : TxId) (f : Ident) (x : Prepared) (r : List Record) → all_fit c n r ≡ true → ended t r ≡ Some (outcome.Commit f) → prepared_of t r ≡ Some x → x.proposal ≤ f
 final-least c n t f x [] fit h e = absurd (grind (arith, h))
 final-least c n t f x (record'.Ended u (outcome.Commit g) ∷ r) fit h e = elim (cases_eq u t) [
-    | inl same ↦
-        let self : u == t ≡ true = grind (arith, nat_tests) in
-        let is : g ≡ f = grind (arith, h, self) in
-        let P : TxId → Type 0 = λ v. prepared_of v r ≡ Some x in
-        let Q : Ident → Type 0 = λ v. x.proposal ≤ v in
-        subst Q is (final-here c n u g x r fit (subst P (sym same) e))
-    | inr other ↦
-        let self : u == t ≡ false = grind (arith, nat_tests) in
-        final-least c n t f x r (rest-fits c n (record'.Ended u (outcome.Commit g)) r fit) (rw self at h) e
-    ]
+  | inl same ↦
+      let self : u == t ≡ true = grind (arith, nat_tests) in
+      let is : g ≡ f = grind (arith, h, self) in
+      let P : TxId → Type 0 = λ v. prepared_of v r ≡ Some x in
+      let Q : Ident → Type 0 = λ v. x.proposal ≤ v in
+      subst Q is (final-here c n u g x r fit (subst P (sym same) e))
+  | inr other ↦
+      let self : u == t ≡ false = grind (arith, nat_tests) in
+      final-least c n t f x r (rest-fits c n (record'.Ended u (outcome.Commit g)) r fit) (rw self at h) e
+]
 final-least c n t f x (record'.Ended u outcome.Abort ∷ r) fit h e =
     let rest : ended t r ≡ Some (outcome.Commit f) = grind (arith, h) in
     final-least c n t f x r (rest-fits c n (record'.Ended u outcome.Abort) r fit) rest e
@@ -143,9 +136,9 @@ final-positive c n t f r fit h =
 pub has_commit-is : (c : ClusterData) (n : NodeId) (t : TxId) (r : List Record) → all_fit c n r ≡ true → has_commit t r ≡ is_commit (ended t r)
 has_commit-is c n t [] fit = refl
 has_commit-is c n t (record'.Ended u (outcome.Commit f) ∷ r) fit = elim (cases_eq u t) [
-    | inl same ↦ (let self : u == t ≡ true = grind (arith, nat_tests) in rw self refl)
-    | inr other ↦ (let self : u == t ≡ false = grind (arith, nat_tests) in rw self (has_commit-is c n t r (rest-fits c n (record'.Ended u (outcome.Commit f)) r fit)))
-    ]
+  | inl same ↦ (let self : u == t ≡ true = grind (arith, nat_tests) in rw self refl)
+  | inr other ↦ (let self : u == t ≡ false = grind (arith, nat_tests) in rw self (has_commit-is c n t r (rest-fits c n (record'.Ended u (outcome.Commit f)) r fit)))
+]
 has_commit-is c n t (record'.Ended u outcome.Abort ∷ r) fit = has_commit-is c n t r (rest-fits c n (record'.Ended u outcome.Abort) r fit) ∙ go (ended t r) refl
   where
     go : (o : Option Outcome) → ended t r ≡ o → is_commit o ≡ is_commit (if u == t then Some outcome.Abort else o)

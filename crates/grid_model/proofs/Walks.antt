@@ -1,19 +1,16 @@
 -- What does a transaction wait for, and what do its reads show, as it takes one value more?
-use Rattle.std.proofs.Common.{ℕ, ◌+◌, ◌-◌, ◌≤◌, ◌<◌, ◌≡◌, ◌≢◌, ◌⊎◌, inl, inr, Bool, true, false, ◌&&◌, ◌||◌, not, map, List, [], ◌∷◌, ◌++◌, Option, Some, None, is_some, refl, sym, ap, subst, ◌∙◌, arith, suc, if◌then◌else◌}
-use Rattle.std.proofs.lemmas.Bool.{cases_Bool, cases_eq, and_parts, and_from, or_parts, or_from, or_cases, or_left, or_right}
+use Rattle.std.proofs.Common.{ℕ, ◌+◌, ◌-◌, ◌≤◌, ◌<◌, ◌≡◌, ◌≢◌, ◌⊎◌, inl, inr, Bool, true, false, List, [], ◌∷◌, ◌++◌, Option, Some, None, refl, sym, ap, subst, ◌∙◌, arith, suc, if◌then◌else◌}
+use Rattle.std.proofs.lemmas.Bool.{or_parts}
 use Rattle.std.proofs.lemmas.Bool.Decides.{nat_tests}
-use Rattle.std.specs.Prelude.{◌==◌, nat_lt, nat_le, filter, slice_get}
+use Rattle.std.specs.Prelude.{◌==◌, nat_lt, filter, slice_get}
 use Rattle.score_base.specs.declared.ids.Value.{Value}
 use Rattle.score_base.specs.declared.keys.Key.{Key}
 use Rattle.score_base.specs.Keys.{same_key}
-use Rattle.script_lang.specs.declared.exprs.Expr.{Expr}
 use Rattle.script_lang.specs.declared.scripts.Op.{Op}
 use Rattle.script_lang.specs.declared.scripts.Op.TheVariants as op
-use Rattle.script_lang.specs.Exprs.{expr_value}
-use Rattle.script_lang.specs.Reads.{is_key_among, key_of, remote_keys, written_keys, is_update}
-use Rattle.grid_model.specs.Serials.{Map, put, zeros, serial_reads, serial_map, reads_on, map_behind}
+use Rattle.script_lang.specs.Reads.{is_key_among}
 use Rattle.grid_model.specs.Stories.{value_taken, first_open, waiting_from, waiting}
-use Rattle.grid_model.specs.Advances.{Walk, unread, read_step, taken_step, write_step, if_taken, own_reads, walked, own_map, op_at}
+use Rattle.grid_model.specs.Advances.{Walk, read_step, taken_step, write_step, if_taken, own_reads, op_at}
 
 -- ---- the values taken
 
@@ -66,6 +63,7 @@ waiting-open j i seen values (op.Read k ∷ ops) h = go (is_key_among k seen) (v
         let first : j - j ≡ 0 = omega arith in
         let P : ℕ → Type 0 = λ a. slice_get (op.Read k ∷ ops) a ≡ Some (op.Read k) in
         subst (IsOpen j seen values (op.Read k ∷ ops)) e (record { least = omega arith; untaken = none; key = k; read = subst P (sym first) refl; remote = new })
+
     go : (b : Bool) (o : Option Value) → is_key_among k seen ≡ b → value_taken j values ≡ o → (if b then waiting_from (j + 1) seen values ops else first_open o j (waiting_from (j + 1) (k ∷ seen) values ops)) ≡ Some i → (waiting_from (j + 1) seen values ops ≡ Some i → IsOpen (j + 1) seen values ops i) → (waiting_from (j + 1) (k ∷ seen) values ops ≡ Some i → IsOpen (j + 1) (k ∷ seen) values ops i) → IsOpen j seen values (op.Read k ∷ ops) i
     go true o e f h own far = open-later j i k (op.Read k) seen seen values ops (λ x n. n) (own h)
     go false (Some v) e f h own far = open-later j i k (op.Read k) seen (k ∷ seen) values ops (less-seen k seen) (far h)
@@ -135,9 +133,11 @@ pub record IsFrom (j : ℕ) (xs : List (ℕ × Value)) : Type 0 where
   pub kept : (i : ℕ) → i < j → filter (λ y. nat_lt i y.0) xs ≡ xs
 
 own-step : (j : ℕ) (v : Value) (xs : List (ℕ × Value)) → IsFrom (j + 1) xs → IsFrom j ((j, v) ∷ xs)
-own-step j v xs h = record { kept = λ i lt.
-    let test : nat_lt i j ≡ true = grind (arith, nat_tests) in
-    rw test (ap (λ ys. (j, v) ∷ ys) (h.kept i (omega arith))) }
+own-step j v xs h = record {
+  kept = λ i lt.
+      let test : nat_lt i j ≡ true = grind (arith, nat_tests) in
+      rw test (ap (λ ys. (j, v) ∷ ys) (h.kept i (omega arith)));
+}
 
 from-later : (j : ℕ) (xs : List (ℕ × Value)) → IsFrom (j + 1) xs → IsFrom j xs
 from-later j xs h = record { kept = λ i lt. h.kept i (omega arith) }

@@ -1,19 +1,12 @@
 -- Which keys and values does a Prepare bring to a node?
-use Rattle.std.proofs.Common.{ℕ, ◌+◌, ◌-◌, ◌≤◌, ◌<◌, ◌≡◌, ◌≢◌, ◌⊎◌, inl, inr, Bool, true, false, ◌&&◌, ◌||◌, not, map, List, [], ◌∷◌, ◌++◌, Option, Some, None, is_some, refl, sym, ap, subst, ◌∙◌, arith, if◌then◌else◌}
-use Rattle.std.proofs.lemmas.Bool.{cases_Bool, cases_eq, and_parts, and_from, or_parts, or_from, or_cases, or_left, or_right}
-use Rattle.std.proofs.lemmas.Bool.Decides.{nat_tests}
-use Rattle.std.specs.Prelude.{◌==◌, nat_lt, nat_le, filter, slice_get}
+use Rattle.std.proofs.Common.{◌≡◌, Bool, true, false, ◌&&◌, ◌||◌, map, List, [], ◌∷◌, Some, None, refl, sym, ap, ◌∙◌, arith, if◌then◌else◌}
+use Rattle.std.specs.Prelude.{filter}
 use Rattle.score_base.specs.declared.ids.Value.{Value}
 use Rattle.score_base.specs.declared.keys.Key.{Key}
 use Rattle.score_base.specs.Keys.{same_key}
-use Rattle.script_lang.specs.declared.exprs.Expr.{Expr}
-use Rattle.script_lang.specs.declared.scripts.Op.{Op}
-use Rattle.script_lang.specs.declared.scripts.Op.TheVariants as op
-use Rattle.script_lang.specs.Exprs.{expr_value}
-use Rattle.script_lang.specs.Reads.{is_key_among, key_of, remote_keys, written_keys, is_update}
-use Rattle.grid_model.specs.Serials.{Map, put, zeros, serial_reads, serial_map, reads_on, map_behind}
-use Rattle.grid_model.specs.Stories.{value_taken, first_open, waiting_from, waiting}
-use Rattle.grid_model.specs.Advances.{Walk, unread, read_step, taken_step, write_step, if_taken, own_reads, walked, own_map, op_at}
+use Rattle.script_lang.specs.Reads.{is_key_among, remote_keys, written_keys}
+use Rattle.grid_model.specs.Serials.{Map}
+use Rattle.grid_model.specs.Advances.{own_map}
 use Rattle.score_base.specs.declared.ids.NodeId.{NodeId}
 use Rattle.placement.specs.Places.{holds}
 use Rattle.placement.specs.Clusters.{ClusterData}
@@ -38,6 +31,7 @@ with_values-at m k (x ∷ ks) = go (same_key k x) (same_key x k) (same_key-turne
   where
     same : same_key k x ≡ true → m x ≡ m k
     same h = ap m (sym (same_key-is k x h))
+
     go : (a b : Bool) → a ≡ b → (a ≡ true → m x ≡ m k) → written_value k (with_values m ks) ≡ (if is_key_among k ks then Some (m k) else None) → (if b then Some (m x) else written_value k (with_values m ks)) ≡ (if a || is_key_among k ks then Some (m k) else None)
     go true b e is rest = rw (← e) (ap (λ v. Some v) (is refl))
     go false b e is rest = rw (← e) rest
@@ -48,6 +42,7 @@ among-filter p k (x ∷ ks) = go (p x) same (among-filter p k ks)
   where
     same : same_key k x ≡ true → p k ≡ p x
     same h = ap p (same_key-is k x h)
+
     go : (b : Bool) → (same_key k x ≡ true → p k ≡ b) → is_key_among k (filter p ks) ≡ (is_key_among k ks && p k) → is_key_among k (if b then x ∷ filter p ks else filter p ks) ≡ ((same_key k x || is_key_among k ks) && p k)
     go true e rest = grind (arith, e, rest)
     go false e rest = grind (arith, e, rest)
