@@ -20,4 +20,5 @@ pub mod AllReads
 pub mod SerialWalks
 pub mod RemoteReads
 pub mod Decisions
+pub mod NewRecords
 pub mod Written
