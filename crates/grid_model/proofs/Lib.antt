@@ -35,4 +35,5 @@ pub mod AllReads
 pub mod SerialWalks
 pub mod RemoteReads
 pub mod Decisions
+pub mod NewRecords
 pub mod Written

@@ -100,28 +100,3 @@ pub prepared-clear : (s : Ident) (t : TxId) (home : NodeId) (parts : List NodeId
 prepared-clear s t home parts sid p reads writes r h =
     let a = and_parts (nat_lt s p) (all_above s (pendings r)) h in
     (grind (arith, nat_tests, a.0), a.1)
-
--- who is pending behind the next record
-pub record IsNewlyPending (t : TxId) (p : Ident) (y : Record) (r : List Record) : Type 0 where
-  pub prepared : (home : NodeId) × (parts : List NodeId) × (sid : Ident) × (reads : List Key) × (writes : List (Key × Value)) × (y ≡ record'.Prepared t home parts sid p reads writes)
-
-pub pending-before : (t : TxId) (p : Ident) (y : Record) (r : List Record) → pending t (y ∷ r) ≡ Some p → IsNewlyPending t p y r ⊎ (pending t r ≡ Some p)
-pending-before t p (record'.Prepared u home parts sid q reads writes) r h = elim (cases_eq u t) [
-  | inl same ↦
-      let here : u == t ≡ true = grind (arith, nat_tests) in
-      let h' : Some q ≡ Some p = rw here at h in
-      let e : q ≡ p = (cc) in
-      inl (record { prepared = (home, parts, sid, reads, writes, rw (same, e) refl) })
-  | inr other ↦
-      let here : u == t ≡ false = grind (arith, nat_tests) in
-      inr (rw here at h)
-]
-pending-before t p (record'.Ended u o) r h = elim (cases_eq u t) [
-  | inl same ↦
-      let here : u == t ≡ true = grind (arith, nat_tests) in
-      absurd (grind (arith, here, h))
-  | inr other ↦
-      let here : u == t ≡ false = grind (arith, nat_tests) in
-      inr (rw here at h)
-]
-pending-before t p y r h = inr h

@@ -18,7 +18,7 @@ use Rattle.grid_model.proofs.Pairs.{has_pair}
 use Rattle.grid_model.proofs.Once.{prepared-stays, ended-prepared}
 use Rattle.grid_model.proofs.Pendings.{clear-below}
 use Rattle.grid_model.proofs.Applied.{applied-says, applied-grows, applied-below, commit_id-clear}
-use Rattle.grid_model.proofs.Bests.{IsAtMost, best_of, writer, best-is, best-bound, IsOneOf, initial, written, best-one, IsWithin, best-same}
+use Rattle.grid_model.proofs.Bests.{best_of, writer, best-is, IsAtMost, best-bound, IsOneOf, initial, written, best-one, IsWithin, best-same}
 use Rattle.grid_model.proofs.Stands.{final-positive}
 
 -- ---- who wrote
