@@ -7,7 +7,7 @@ use Rattle.score_base.specs.Faults.{Rose}
 use Rattle.score_io.specs.Streams.{ReadWhole, Lost, AppendsPart}
 use Rattle.grid_model.specs.declared.acts.Act.{Act}
 use Rattle.grid_model.specs.Documents.{DocumentData}
-use Rattle.grid_model.specs.Lawful.{Lawful}
+use Rattle.grid_model.specs.Runs.{Lawful}
 use Rattle.cluster_file.specs.declared.whys.Refusal.{Refusal}
 use Rattle.cluster_file.specs.Doc.{doc}
 use Rattle.history_print.specs.Text.{text}
@@ -31,8 +31,8 @@ pub data Wrote (held_old held_new : Option (List ℕ)) (faults_old faults_new : 
 unfoldable pub refused_line : Refusal → List ℕ
 refused_line r = codes "refused " ++ decimal r.line ++ codes " " ++ decimal r.why ++ codes "\n"
 
--- the input was read to its end, its bytes are a document within the limit, and these acts are its
--- lawful run
+-- the input was read to its end, its bytes are a document within the limit, and these acts are a lawful
+-- run of it in which no disk failed
 pub record Ran (left_old left_new : Option (List ℕ)) : Type 0 where
   pub bytes : List ℕ
   pub read : ReadWhole left_old left_new bytes
@@ -40,12 +40,12 @@ pub record Ran (left_old left_new : Option (List ℕ)) : Type 0 where
   pub document : DocumentData
   pub spelled : doc bytes ≡ Ok document
   pub acts : List Act
-  pub lawful : Lawful document acts
+  pub lawful : Lawful document acts (λ n. 0)
 
--- the text of a lawful run of the document
+-- the text of a lawful run of the document in which no disk failed
 pub record IsRunText (d : DocumentData) (written : List ℕ) : Type 0 where
   pub acts : List Act
-  pub lawful : Lawful d acts
+  pub lawful : Lawful d acts (λ n. 0)
   pub printed : written ≡ text acts d
 
 -- the text of a lawful run of the document that the bytes spell
