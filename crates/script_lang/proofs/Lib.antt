@@ -1,1 +1,4 @@
 pub mod Sound
+pub mod Entries
+pub mod Seen
+pub mod ReadSteps

@@ -1,3 +1,7 @@
 pub mod Exprs
+pub mod Values
 pub mod Scripts
 pub mod Reads
+pub mod Reading
+pub mod Words
+pub mod ExprWords
