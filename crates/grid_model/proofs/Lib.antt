@@ -1,3 +1,4 @@
+pub mod Newest
 pub mod Places
 pub mod Shows
 pub mod FirstOpen

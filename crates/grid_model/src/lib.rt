@@ -14,6 +14,7 @@ mod items;
 mod laws;
 mod messages;
 mod phases;
+pub mod records;
 mod standings;
 mod stories;
 mod versions;
