@@ -2,5 +2,6 @@ pub mod Newest
 pub mod Places
 pub mod Shows
 pub mod FirstOpen
+pub mod FirstWaiting
 pub mod OneHistory
 pub mod Examples

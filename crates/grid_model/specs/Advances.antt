@@ -88,9 +88,13 @@ abbrev pub request_of : ClusterData → Open → ℕ → ℕ → Option Op → L
 request_of c x j q None = []
 request_of c x j q (Some o) = to_node (slice_get (preferred c.places x.script.home (key_of o)) q) (message.ReadReq (record { t = x.script.number; op = j; key = key_of o; date = date_by x.sid0 x.sid }))
 
+-- operation j of these, numbered from 1
+abbrev pub op_at : List Op → ℕ → Option Op
+op_at ops j = slice_get ops (j - 1)
+
 -- the request of operation j goes to the holder of its key at place q of the preferred order
 abbrev pub request : ClusterData → Open → ℕ → ℕ → List Out
-request c x j q = request_of c x j q (slice_get x.script.ops (j - 1))
+request c x j q = request_of c x j q (op_at x.script.ops j)
 
 -- the parts of an open transaction
 abbrev pub parts_now : ClusterData → Open → List NodeId

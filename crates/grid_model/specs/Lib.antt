@@ -15,3 +15,8 @@ pub mod Fitness
 pub mod Rows
 pub mod Schedules
 pub mod Runs
+pub mod Acts
+pub mod Copies
+pub mod Facts
+pub mod Claims
+pub mod Waits

@@ -18,6 +18,7 @@ pub mod records;
 mod standings;
 mod stories;
 mod versions;
+mod waits;
 
 pub use acts::{Act, Flag, Head};
 pub use documents::{Document, ScriptList};
@@ -29,3 +30,4 @@ pub use phases::{first_sid, is_answered, reading, script_of, snapshot, taken_val
 pub use standings::{Standing, Standings};
 pub use stories::{HeldRead, Story, Voted};
 pub use versions::Version;
+pub use waits::{first_waiting, value_taken};
