@@ -1,4 +1,5 @@
 pub mod Newest
+pub mod Removed
 pub mod Places
 pub mod Shows
 pub mod FirstOpen

@@ -4,10 +4,19 @@
 //! `reverse`. The functions walk the list and keep no table, queue or index; they say what every
 //! faster keeper of a journal has to answer.
 
+mod commits;
+mod conflicts;
 mod decisions;
 mod endings;
+mod fitting;
+mod pairs;
 mod proposals;
+mod values;
 
+pub use commits::{commit_id, is_clear};
+pub use conflicts::{holder, newer};
 pub use decisions::{Decided, decided_final, decision, is_closed, undone};
 pub use endings::{ended, floor, pending};
+pub use fitting::fits;
 pub use proposals::{Prepared, home_of, prepared_of};
+pub use values::{newest, version_at};
