@@ -1,4 +1,7 @@
+pub mod Counts
+pub mod Posts
+pub mod Shorts
+pub mod Events
+pub mod Calm
 pub mod Ranges
-pub mod Showing
-pub mod Few
-pub mod Played
+pub mod Loops

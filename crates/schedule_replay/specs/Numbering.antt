@@ -1,9 +1,10 @@
 -- The numbers of messages.
-use Rattle.std.specs.Prelude.{ℕ, ◌+◌}
+use Rattle.std.specs.Prelude.{ℕ, ◌+◌, List, [], ◌∷◌}
 use Rattle.grid_model.specs.declared.events.Out.{Out}
 use Rattle.grid_model.specs.declared.events.Out.TheVariants as out
 
--- the number of the next message behind an out
-abbrev pub next_number : ℕ → Out → ℕ
-next_number m (out.Act a) = m
-next_number m (out.Send to said) = m + 1
+-- how many of these outs are messages
+abbrev pub sends : List Out → ℕ
+sends [] = 0
+sends (out.Act a ∷ os) = sends os
+sends (out.Send to said ∷ os) = 1 + sends os

@@ -1,13 +1,13 @@
 //! The run of a document: the rows of its schedule, played one behind the other.
 //!
-//! [`replay`] gives the acts of the one lawful run. So far nodes and homes are plain: a home is how
-//! its transactions stand, a node has no record, and both answer by the row of the rule table.
+//! [`replay`] gives the acts of the lawful run. Nodes and homes are plain, as `run_state` keeps them:
+//! a node has its records in a list, and each event's acts are the row of the rule table.
 #![tactic(auto)]
 
-mod homes;
-mod nodes;
 mod numbering;
-mod walks;
-mod worlds;
+mod outs;
+mod replays;
+mod schedule;
+mod stand_ins;
 
-pub use worlds::replay;
+pub use replays::replay;
