@@ -14,9 +14,9 @@ mod proposals;
 mod values;
 
 pub use commits::{commit_id, is_clear};
-pub use conflicts::{holder, newer};
+pub use conflicts::{holder, is_key_among, keys_in, newer};
 pub use decisions::{Decided, decided_final, decision, is_closed, undone};
 pub use endings::{ended, floor, pending};
-pub use fitting::fits;
+pub use fitting::{are_own_keys, fits, is_among};
 pub use proposals::{Prepared, home_of, prepared_of};
-pub use values::{newest, version_at};
+pub use values::{newest, newest_version, version_at};

@@ -1,3 +1,7 @@
+pub mod Sending
+pub mod Told
+pub mod Clocks
+pub mod Walking
 pub mod Counts
 pub mod Posts
 pub mod Shorts

@@ -1,2 +1,4 @@
 pub mod Numbering
+pub mod Stages
+pub mod Walks
 pub mod Replays

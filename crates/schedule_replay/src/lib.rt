@@ -4,10 +4,18 @@
 //! a node has its records in a list, and each event's acts are the row of the rule table.
 #![tactic(auto)]
 
+mod advances;
+mod answers;
+mod coordinators;
+mod enders;
+mod fitness;
 mod numbering;
 mod outs;
+mod readers;
 mod replays;
 mod schedule;
-mod stand_ins;
+mod stages;
+mod trails;
+mod voters;
 
 pub use replays::replay;

@@ -7,7 +7,7 @@ ghost use Rattle.run_state.specs.Kept.{past};
 ghost use Rattle.schedule_replay.specs.Numbering.{sends};
 ghost use Rattle.schedule_replay.specs.Replays.{HasRoom};
 
-use crate::stand_ins::{answer, ask_outs, begin_outs, retry_outs, tx_in};
+use crate::answers::{answer, ask_outs, begin_outs, retry_outs, tx_in};
 use grid_model::{Envelope, Out};
 use run_state::{RunState, script_of};
 use score_base::{Memory, NodeId, TxId};

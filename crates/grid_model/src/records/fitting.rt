@@ -54,7 +54,7 @@ fn are_distinct_keys(keys: &[Key]) -> bool
 }
 
 /// Whether the node is among these.
-fn is_among(node: NodeId, nodes: &[NodeId]) -> bool
+pub fn is_among(node: NodeId, nodes: &[NodeId]) -> bool
     ensures { result ≡ is_among node nodes.now }
 {
     nodes.iter().any(|other| *other == node)
@@ -80,7 +80,7 @@ fn holds_all(cluster: &Cluster, node: NodeId, keys: &[Key]) -> bool
 }
 
 /// Whether these are distinct keys that the node holds.
-fn are_own_keys(cluster: &Cluster, node: NodeId, keys: &[Key]) -> bool
+pub fn are_own_keys(cluster: &Cluster, node: NodeId, keys: &[Key]) -> bool
     ensures { result ≡ are_own_keys cluster.now node keys.now }
 {
     are_distinct_keys(keys) && holds_all(cluster, node, keys)

@@ -1,6 +1,6 @@
 //! The versions of a key.
 ghost use Rattle.std.specs.Prelude.{◌≡◌, reverse, IfOk};
-ghost use Rattle.grid_model.specs.Journals.{written_value, wrote_in, prepared_of, later, best, version_at, newest};
+ghost use Rattle.grid_model.specs.Journals.{written_value, wrote_in, prepared_of, later, best, version_at, newest_version, newest};
 
 use super::commits::applied;
 use super::pairs::PairList;
@@ -77,10 +77,22 @@ pub fn version_at(
     Ok(best(records, key, start, &commits))
 }
 
+/// The newest applied version of the key, or the initial one, of the value `start`.
+pub fn newest_version(
+    alloc: Global,
+    records: &[Record],
+    key: &Key,
+    start: Value,
+) -> Result<Version, Memory>
+    ensures { IfOk result (λ version. version ≡ newest_version (reverse records.now) key.now start) }
+{
+    let commits = applied(alloc, records)?;
+    Ok(best(records, key, start, &commits))
+}
+
 /// The identifier of the newest applied version of the key; 0 for the initial one.
 pub fn newest(alloc: Global, records: &[Record], key: &Key) -> Result<Ident, Memory>
     ensures { IfOk result (λ ident. ident ≡ newest (reverse records.now) key.now) }
 {
-    let commits = applied(alloc, records)?;
-    Ok(best(records, key, Value(0), &commits).ident)
+    Ok(newest_version(alloc, records, key, Value(0))?.ident)
 }
