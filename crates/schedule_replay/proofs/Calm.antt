@@ -27,13 +27,13 @@ use Rattle.schedule_replay.proofs.Counts.{Counts, is_own, are_own, counts-begin,
 use Rattle.schedule_replay.proofs.Shorts.{short-at}
 
 -- an act of no disk that fails and of no fuse
-abbrev is_calm : Act → Bool
+abbrev pub is_calm : Act → Bool
 is_calm (act.Armed n k how) = false
 is_calm (act.StillDown n) = false
 is_calm (act.Down n (Some h)) = false
 is_calm a = true
 
-abbrev are_calm : List Act → Bool
+abbrev pub are_calm : List Act → Bool
 are_calm [] = true
 are_calm (a ∷ acts) = is_calm a && are_calm acts
 
@@ -45,7 +45,7 @@ calm-numbered m n [] e = refl
 calm-numbered m n (out.Act a ∷ os) e = grind (arith, calm-own a (numbered m n os), calm-numbered m n os)
 calm-numbered m n (out.Send to said ∷ os) e = calm-numbered (m + 1) n os e
 
-calm-append : (xs ys : List Act) → are_calm xs ≡ true → are_calm ys ≡ true → are_calm (xs ++ ys) ≡ true
+pub calm-append : (xs ys : List Act) → are_calm xs ≡ true → are_calm ys ≡ true → are_calm (xs ++ ys) ≡ true
 calm-append [] ys p q = q
 calm-append (x ∷ xs) ys p q = grind (arith, calm-append xs ys)
 
@@ -174,17 +174,17 @@ explained d past n e = record { most = omega (arith, faultless d past n e); some
 
 -- ---- the run
 
-played-row : (d : DocumentData) (past : List Act) (i : Item) → is_played i ≡ true → played d past i ≡ row d past i calm
+pub played-row : (d : DocumentData) (past : List Act) (i : Item) → is_played i ≡ true → played d past i ≡ row d past i calm
 played-row d past (item.Crash n how) e = cc
 played-row d past (item.Fuse n k how) e = cc
 played-row d past (item.Restart n) e = cc
 played-row d past i e = refl
 
-first-true : (b c : Bool) → (b && c) ≡ true → b ≡ true
+pub first-true : (b c : Bool) → (b && c) ≡ true → b ≡ true
 first-true true c e = refl
 first-true false c e = e
 
-rest-true : (b c : Bool) → (b && c) ≡ true → c ≡ true
+pub rest-true : (b c : Bool) → (b && c) ≡ true → c ≡ true
 rest-true true c e = e
 rest-true false c e = cc
 
@@ -203,7 +203,7 @@ played-events : (i : Item) → is_played i ≡ true → list_all is_played (even
 played-events (item.Next c) e = played-next c
 played-events i e = both-true (is_played i) true e refl
 
-played-all : (is : List Item) → list_all is_played is ≡ true → list_all is_played (flat_map events_in is) ≡ true
+pub played-all : (is : List Item) → list_all is_played is ≡ true → list_all is_played (flat_map events_in is) ≡ true
 played-all [] e = refl
 played-all (i ∷ is) e = list_all-append is_played (events_in i) (flat_map events_in is) ∙ both-true (list_all is_played (events_in i)) (list_all is_played (flat_map events_in is)) (played-events i (first-true (is_played i) (list_all is_played is) e)) (played-all is (rest-true (is_played i) (list_all is_played is) e))
 

@@ -9,3 +9,4 @@ pub mod Events
 pub mod Calm
 pub mod Ranges
 pub mod Loops
+pub mod OneRun

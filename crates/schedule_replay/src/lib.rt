@@ -9,6 +9,7 @@ mod answers;
 mod coordinators;
 mod enders;
 mod fitness;
+mod laws;
 mod numbering;
 mod outs;
 mod readers;
@@ -18,4 +19,5 @@ mod stages;
 mod trails;
 mod voters;
 
+pub use laws::law_one_history;
 pub use replays::replay;

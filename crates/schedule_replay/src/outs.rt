@@ -15,11 +15,7 @@ use script_lang::Script;
 use std::alloc::Global;
 
 /// What the home gives where its transaction begins.
-pub fn outs_at_begin(
-    alloc: Global,
-    run: &RunState,
-    script: &Script,
-) -> Result<Vec<Out>, Memory>
+pub fn outs_at_begin(alloc: Global, run: &RunState, script: &Script) -> Result<Vec<Out>, Memory>
     ensures outs { IfOk result (λ outs. outs.items ≡ begin_outs script.now.home (view run.now.doc (past run.now) script.now.home) script.now) }
 {
     let home = script.home;
@@ -56,12 +52,7 @@ pub fn outs_at_retry(
 }
 
 /// What a node asks the home of a transaction.
-pub fn outs_at_ask(
-    alloc: Global,
-    run: &RunState,
-    n: NodeId,
-    t: TxId,
-) -> Result<Vec<Out>, Memory>
+pub fn outs_at_ask(alloc: Global, run: &RunState, n: NodeId, t: TxId) -> Result<Vec<Out>, Memory>
     ensures outs { IfOk result (λ outs. outs.items ≡ ask_outs (view run.now.doc (past run.now) n) t) }
 {
     ask_outs(alloc, run.doc(), n, run.node(n), t)

@@ -25,12 +25,7 @@ fn only(alloc: Global, act: Act) -> Result<Vec<Act>, Memory>
 }
 
 /// These acts, and behind them the acts of a node with these outs.
-fn acts_of(
-    run: &RunState,
-    first: Vec<Act>,
-    n: NodeId,
-    outs: Vec<Out>,
-) -> Result<Vec<Act>, Memory>
+fn acts_of(run: &RunState, first: Vec<Act>, n: NodeId, outs: Vec<Out>) -> Result<Vec<Act>, Memory>
     requires { length (sent (past run.now)) + 1 + sends outs.items < 2 ^ 32 }
     ensures { IfOk result (λ acts. acts.items ≡ first.items ++ acts_of (past run.now) calm n outs.items) }
 {
