@@ -25,7 +25,7 @@ impl Model for Places {
 }
 
 /// The sum that places a key: over its bytes, 31 times the sum so far and the byte, modulo 2^32.
-fn key_sum(key: &[u8]) -> u64
+pub(crate) fn key_sum(key: &[u8]) -> u64
     ensures value { result ≡ key_sum key.now }
     ensures small { result < 2 ^ 32 }
 {

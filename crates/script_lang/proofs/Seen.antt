@@ -9,7 +9,7 @@ use Rattle.script_lang.specs.declared.scripts.Op.TheVariants as op
 use Rattle.script_lang.specs.Reads.{is_key_among, key_of, keys_named, unless_among, distinct_keys, remote_key, remote_keys, written_key, written_keys}
 
 -- two lists have the same members
-abbrev SameKeys : List Key → List Key → Type 0
+abbrev pub SameKeys : List Key → List Key → Type 0
 SameKeys s t = (q : Key) → is_key_among q s ≡ is_key_among q t
 
 same_more : (s t : List Key) (k : Key) → SameKeys s t → SameKeys (k ∷ s) (k ∷ t)
@@ -38,6 +38,11 @@ or_swap false b c = refl
 at_end : (s : List Key) (k : Key) → SameKeys (k ∷ s) (s ++ k ∷ [])
 at_end [] k q = refl
 at_end (x ∷ s) k q = or_swap (same_key q k) (same_key q x) (is_key_among q s) ∙ ap (λ b. same_key q x || b) (at_end s k q)
+
+-- a key in the middle of a list, or at its head
+pub in_middle : (s t : List Key) (k : Key) → SameKeys (s ++ k ∷ t) (k ∷ s ++ t)
+in_middle [] t k q = refl
+in_middle (x ∷ s) t k q = ap (λ b. same_key q x || b) (in_middle s t k q) ∙ or_swap (same_key q x) (same_key q k) (is_key_among q (s ++ t))
 
 -- what one more key adds to the keys so far
 pub distinct_more : (seen ks : List Key) (k : Key) → seen ++ distinct_keys seen (k ∷ ks) ≡ (seen ++ unless_among seen k) ++ distinct_keys (seen ++ unless_among seen k) ks

@@ -5,3 +5,5 @@ pub mod Reads
 pub mod Reading
 pub mod Words
 pub mod ExprWords
+pub mod Spelling
+pub mod ScriptLines

@@ -1,5 +1,6 @@
 //! An expression, read from the words of a line.
-ghost use Rattle.std.specs.Prelude.{◌≡◌, [], map, drop};
+ghost use Rattle.std.specs.Prelude.{◌≡◌, [], map, drop, IfOk, IsTrue};
+ghost use Rattle.script_lang.specs.Exprs.{is_expr_among};
 ghost use Rattle.script_lang.specs.Reading.{Gives};
 ghost use Rattle.script_lang.specs.Reads.{known_keys};
 ghost use Rattle.script_lang.specs.ExprWords.{number_atom, known_atom, key_atom, atom_of, operator_of, atoms_behind, first_atom, two_atoms, step_of, steps_of, expr_of};
@@ -150,7 +151,8 @@ fn read_steps(alloc: Global, before: &[Op], words: &[&[u8]]) -> Result<StepList,
 /// The expression that these words spell, over the keys that the operations before it have read.
 #[tactic(auto, unfolding(crate::specs::ExprWords::expr_of))]
 pub fn read_expr(alloc: Global, before: &[Op], words: &[&[u8]]) -> Result<Expr, LineEnd>
-    ensures { Gives (λ e. e) result (expr_of (known_keys before.now) (map (λ w. w.now) words.now)) }
+    ensures known { IfOk result (λ e. IsTrue (is_expr_among (known_keys before.now) e)) }
+    ensures value { Gives (λ e. e) result (expr_of (known_keys before.now) (map (λ w. w.now) words.now)) }
 {
     let (word, rest) = word_at(words)?;
     let first = atom_of(before, word)?;

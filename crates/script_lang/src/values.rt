@@ -1,7 +1,7 @@
 //! The values that a transaction has read, and the value of an expression over them.
 ghost use Rattle.std.specs.Prelude.{◌≡◌, IsTrue, OnOk, OnErr};
 ghost use Rattle.std.specs.FinMap as map;
-ghost use Rattle.script_lang.specs.Exprs.{atom_value, step_value, expr_value, all_in_atom, all_in_step};
+ghost use Rattle.script_lang.specs.Exprs.{atom_value, step_value, expr_value, all_in_atom, all_in_step, all_in_steps};
 ghost use Rattle.script_lang.specs.Values.{value_in, has_each_key};
 
 use crate::exprs::{Atom, Expr, Step};
@@ -90,6 +90,46 @@ fn step_value(value: Value, step: &Step, reads: &Reads) -> Value
             }
         }
     }
+}
+
+fn has_atom(atom: &Atom, reads: &Reads) -> bool
+    ensures { result ≡ all_in_atom (map.contains_key reads.now) atom.now }
+{
+    match atom {
+        Atom::Number(_) => true,
+        Atom::Key(key) => reads.get(key).is_some(),
+    }
+}
+
+fn has_step(step: &Step, reads: &Reads) -> bool
+    ensures { result ≡ all_in_step (map.contains_key reads.now) step.now }
+{
+    match step {
+        Step::Add(a) => has_atom(a, reads),
+        Step::Sub(a) => has_atom(a, reads),
+        Step::Mul(a) => has_atom(a, reads),
+        Step::Min(a) => has_atom(a, reads),
+        Step::Max(a) => has_atom(a, reads),
+        Step::Pick(a, b) => has_atom(a, reads) && has_atom(b, reads),
+    }
+}
+
+fn has_steps(steps: &[Step], reads: &Reads) -> bool
+    ensures { result ≡ all_in_steps (map.contains_key reads.now) steps.now }
+{
+    for step in steps {
+        if !has_step(step, reads) {
+            return false;
+        }
+    }
+    true
+}
+
+/// Whether each key of an expression has a value.
+pub fn has_each_key(expr: &Expr, reads: &Reads) -> bool
+    ensures { result ≡ has_each_key reads.now expr.now }
+{
+    has_atom(&expr.first, reads) && has_steps(expr.steps.as_slice(), reads)
 }
 
 /// The value of an expression: its first atom, then its steps from left to right, modulo 2^64.
