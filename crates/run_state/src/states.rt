@@ -55,11 +55,7 @@ fn envelope_at(sent: &[Envelope], m: u32) -> Option<&Envelope>
 }
 
 /// The message that was got last, behind one act more.
-fn got_by(
-    act: &Act,
-    sent: &[Envelope],
-    last: Option<Envelope>,
-) -> Result<Option<Envelope>, Memory>
+fn got_by(act: &Act, sent: &[Envelope], last: Option<Envelope>) -> Result<Option<Envelope>, Memory>
     ensures { IfOk result (λ o. o ≡ got_by act.now sent.now last) }
 {
     let Act::Got(m) = act else {
@@ -331,10 +327,7 @@ impl<'a> RunState<'a> {
         };
         let home = self.node(script.home);
         let (from, message) = (envelope.from, &envelope.message);
-        Ok(Some((
-            t,
-            heard(alloc, doc, script, home, from, message, story)?,
-        )))
+        Ok(Some((t, heard(alloc, doc, script, home, from, message, story)?)))
     }
 
     fn hearing(&self, alloc: Global, m: u32) -> Result<Option<(TxId, Story)>, Memory>

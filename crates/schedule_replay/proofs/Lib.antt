@@ -2,7 +2,11 @@ pub mod Sending
 pub mod Told
 pub mod Clocks
 pub mod Walking
+pub mod Counts
+pub mod Posts
+pub mod Shorts
+pub mod Events
+pub mod Calm
 pub mod Ranges
-pub mod Showing
-pub mod Few
-pub mod Played
+pub mod Loops
+pub mod OneRun

@@ -1,4 +1,4 @@
 pub mod Numbering
 pub mod Stages
 pub mod Walks
-pub mod Worlds
+pub mod Replays

@@ -3,11 +3,6 @@ use Rattle.std.specs.Prelude.{ℕ, ◌+◌, List, [], ◌∷◌}
 use Rattle.grid_model.specs.declared.events.Out.{Out}
 use Rattle.grid_model.specs.declared.events.Out.TheVariants as out
 
--- the number of the next message behind an out
-abbrev pub next_number : ℕ → Out → ℕ
-next_number m (out.Act a) = m
-next_number m (out.Send to said) = m + 1
-
 -- how many of these outs are messages
 abbrev pub sends : List Out → ℕ
 sends [] = 0

@@ -7,10 +7,10 @@ ghost use Rattle.grid_model.specs.Rows.{freed_by, tell_outs};
 ghost use Rattle.schedule_replay.specs.Stages.{node_view};
 
 use crate::advances::push_to;
-use crate::plain_nodes::PlainNode;
 use crate::readers::push_released;
 use grid_model::records::{ended, home_of, pending};
 use grid_model::{Act, Document, Message, Out};
+use run_state::PlainNode;
 use score_base::{Ident, Members, Memory, NodeId, Outcome, Record, TryCopy, TxId, push};
 use std::alloc::Global;
 

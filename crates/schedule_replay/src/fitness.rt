@@ -5,11 +5,11 @@ ghost use Rattle.grid_model.specs.Stories.{is_small, is_small_node, is_small_cau
 ghost use Rattle.grid_model.specs.Fitness.{date_ident, is_fit_request, is_same_ident, is_fit_reply, is_rising, is_fit_prepare, is_part_at, is_at_least, is_fit_outcome, is_fit_content, is_fit_at};
 ghost use Rattle.schedule_replay.specs.Stages.{shown, node_view};
 
-use crate::plain_nodes::PlainNode;
 use crate::stages::{Stage, parts_now};
 use grid_model::records::{are_own_keys, floor, is_among, keys_in, pending};
 use grid_model::{Document, Message, Prepare, ReadRep, ReadReq};
 use placement::Cluster;
+use run_state::PlainNode;
 use score_base::{Ballot, Cause, Date, Ident, Memory, NodeId, Outcome};
 use std::alloc::Global;
 

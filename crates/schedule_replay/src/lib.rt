@@ -1,7 +1,7 @@
 //! The run of a document: the rows of its schedule, played one behind the other.
 //!
-//! [`replay`] gives the acts of the one lawful run. So far nodes and homes are plain: a home is how
-//! its transactions stand, a node has no record, and both answer by the row of the rule table.
+//! [`replay`] gives the acts of the lawful run. Nodes and homes are plain, as `run_state` keeps them:
+//! a node has its records in a list, and each event's acts are the row of the rule table.
 #![tactic(auto)]
 
 mod advances;
@@ -9,17 +9,15 @@ mod answers;
 mod coordinators;
 mod enders;
 mod fitness;
-mod homes;
-mod nodes;
+mod laws;
 mod numbering;
-mod plain_nodes;
+mod outs;
 mod readers;
+mod replays;
+mod schedule;
 mod stages;
 mod trails;
 mod voters;
-mod walks;
-mod worlds;
 
-pub use answers::{answer, ask_outs, begin_outs, retry_outs};
-pub use plain_nodes::PlainNode;
-pub use worlds::replay;
+pub use laws::law_one_history;
+pub use replays::replay;

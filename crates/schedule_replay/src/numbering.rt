@@ -1,6 +1,7 @@
-ghost use Rattle.std.specs.Prelude.{◌≡◌, ◌+◌, ◌<◌, ◌^◌, ◌++◌, ◌∷◌, [], IfOk, OnOk, length};
-ghost use Rattle.grid_model.specs.Rules.{numbered};
-ghost use Rattle.schedule_replay.specs.Numbering.{next_number};
+//! The numbers of messages.
+ghost use Rattle.std.specs.Prelude.{◌≡◌, ◌+◌, ◌<◌, ◌^◌, ◌++◌, ◌∷◌, [], IfOk, OnOk};
+ghost use Rattle.grid_model.specs.Schedules.{numbered};
+ghost use Rattle.schedule_replay.specs.Numbering.{sends};
 
 use grid_model::{Act, Out};
 use score_base::{Memory, NodeId, push};
@@ -8,9 +9,9 @@ use score_base::{Memory, NodeId, push};
 /// Adds one out of a node, as the act that it becomes where the next message has this number; answers
 /// the number of the message behind it.
 fn number_one(acts: &mut Vec<Act>, m: u32, from: NodeId, out: Out) -> Result<u32, Memory>
-    requires { m + 1 < 2 ^ 32 }
+    requires { m + sends (out ∷ []) < 2 ^ 32 }
     ensures acts { OnOk result (acts.new.items ≡ acts.old.items ++ numbered m from (out ∷ [])) }
-    ensures next { IfOk result (λ k. k ≡ next_number m out) }
+    ensures next { IfOk result (λ k. k ≡ m + sends (out ∷ [])) }
 {
     match out {
         Out::Act(act) => {
@@ -26,7 +27,7 @@ fn number_one(acts: &mut Vec<Act>, m: u32, from: NodeId, out: Out) -> Result<u32
 
 /// Adds the outs of a node, each message with its number, where the next one has this number.
 pub fn number_all(acts: &mut Vec<Act>, m: u32, from: NodeId, outs: Vec<Out>) -> Result<(), Memory>
-    requires { m + length outs.items < 2 ^ 32 }
+    requires { m + sends outs.items < 2 ^ 32 }
     ensures { OnOk result (acts.new.items ≡ acts.old.items ++ numbered m from outs.items) }
 {
     let mut next = m;

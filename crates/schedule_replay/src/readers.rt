@@ -10,11 +10,11 @@ ghost use Rattle.grid_model.specs.declared.messages.ReadReq.{ReadReq};
 ghost use Rattle.schedule_replay.specs.Stages.{shown, node_view};
 
 use crate::advances::{advance, first_sid};
-use crate::plain_nodes::PlainNode;
 use crate::stages::{Open, Stage};
 use grid_model::records::{commit_id, floor, is_clear, version_at};
 use grid_model::{Act, Document, HeldRead, Message, Out, ReadRep, ReadReq, Story, Version};
 use placement::Cluster;
+use run_state::PlainNode;
 use score_base::{Date, Ident, Key, Memory, NodeId, Record, TryCopy, append, push};
 use std::alloc::Global;
 

@@ -10,11 +10,11 @@ ghost use Rattle.grid_model.specs.Views.{open_at, acks_at, stage_at, open_stage}
 ghost use Rattle.grid_model.specs.Journals.{undone};
 ghost use Rattle.schedule_replay.specs.Stages.{shown};
 
-use crate::plain_nodes::PlainNode;
 use crate::trails::walk;
 use grid_model::Story;
 use grid_model::records::{Decided, decision, undone};
 use placement::Cluster;
+use run_state::PlainNode;
 use score_base::{Memory, NodeId, NodeList, TxId};
 use script_lang::{Script, is_update, keys};
 use std::alloc::Global;

@@ -7,9 +7,9 @@ use Rattle.run_state.proofs.states.RunState.hearing_at.Goals as goal
 pub returns : goal.returns
 returns c =
     hearing-here c.args.self.now.doc c.doc-doc.result.now (past c.args.self.now) c.args.envelope.now c.args.t c.in-Some.script.now c.in-Some-story.story.now c.in_ok-heard.field-0 c.node-home.result.now
-        c.doc-doc.ensures
-        (grind (arith, common_steps))
-        (grind (arith, common_steps))
-        (grind (arith, common_steps))
-        (grind (arith, common_steps))
-        (grind (arith, common_steps))
+    c.doc-doc.ensures
+    (grind (arith, common_steps))
+    (grind (arith, common_steps))
+    (grind (arith, common_steps))
+    (grind (arith, common_steps))
+    (grind (arith, common_steps))

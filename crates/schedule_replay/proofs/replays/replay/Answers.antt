@@ -1,0 +1,38 @@
+use Rattle.std.proofs.Common.{◌≡◌, ◌≤◌, ◌+◌, ◌++◌, ◌∷◌, [], ◌∙◌, ap, sym, arith, drop, length, true, refl}
+use Rattle.std.specs.Prelude.{sum_by}
+use Rattle.std.specs.List.{flat_map}
+use Rattle.std.proofs.lemmas.List.{append-nil, drop_all}
+use Rattle.grid_model.specs.Documents.{events_of}
+use Rattle.grid_model.specs.Histories.{after}
+use Rattle.grid_model.specs.Schedules.{start_row, events_in}
+use Rattle.run_state.specs.Kept.{past}
+use Rattle.schedule_replay.specs.Replays.{HasRoom, played, plays}
+use Rattle.schedule_replay.proofs.Calm.{lawful-plays}
+use Rattle.schedule_replay.proofs.Loops.{told-item, left-item, drop-item, sum-item, room-start}
+use Rattle.schedule_replay.proofs.replays.replay.Goals as goal
+
+pub loop-item-init : goal.loop-item-init
+loop-item-init c =
+    let acts : c.in_ok-run.run'.acts ≡ start_row c.args.doc.now.cluster.nodes (λ n. true) = ap (λ r. r.acts) c.in_ok-run.ensures ∙ ap (λ r. r.acts ++ c.in_ok-start.start.items) c.in_ok-new.ensures ∙ c.in_ok-start.ensures ∙ ap (λ x. start_row x.nodes (λ n. true)) c.cluster.ensures.value in
+    record {
+      same = ap (λ r. r.doc) c.in_ok-run.ensures ∙ ap (λ r. r.doc) c.in_ok-new.ensures;
+      left = rw (acts, c.items-item-items.ensures.value) (room-start c.args.doc.now (sum_by events_of c.args.doc.now.items) c.items-item-items.ensures.document.events);
+      told = rw (acts, c.items-item-items.ensures.value) refl;
+    }
+
+pub loop-item-preserved : goal.loop-item-preserved
+loop-item-preserved c =
+    let acts : c.in_ok-run-2.run'.acts ≡ c.loop-item.run.acts ++ plays c.args.doc.now (past c.loop-item.run) (events_in c.item-item.result) = ap (λ r. r.acts) c.in_ok-run-2.ensures ∙ ap (λ k. c.loop-item.run.acts ++ plays k (past c.loop-item.run) (events_in c.item-item.result)) c.loop-item.invariant.same in
+    let more : drop c.loop-item.item-index c.items-item-items.result.now ≡ c.item-item.result ∷ drop (c.loop-item.item-index + 1) c.items-item-items.result.now = drop-item _ _ _ c.loop-item-test.true c.item-item.is in
+    let rest = drop (c.loop-item.item-index + 1) c.items-item-items.result.now in
+    let room : HasRoom c.args.doc.now (past c.loop-item.run) (events_of c.item-item.result + sum_by events_of rest) = rw (← sum-item c.item-item.result rest, ← more) c.loop-item.invariant.left in
+    record {
+      same = ap (λ r. r.doc) c.in_ok-run-2.ensures ∙ c.loop-item.invariant.same;
+      left = left-item c.args.doc.now c.loop-item.run.acts c.in_ok-run-2.run'.acts c.item-item.result (sum_by events_of rest) acts room;
+      told = told-item c.args.doc.now c.loop-item.run.acts c.in_ok-run-2.run'.acts (events_in c.item-item.result) (flat_map events_in rest) _ acts (ap (λ is. c.loop-item.run.acts ++ plays c.args.doc.now (past c.loop-item.run) (flat_map events_in is)) (sym more) ∙ c.loop-item.invariant.told);
+    }
+
+pub returns : goal.returns
+returns c =
+    let none : drop c.loop-item.item-index c.items-item-items.result.now ≡ [] = drop_all c.loop-item.item-index c.items-item-items.result.now (grind arith) in
+    lawful-plays c.args.doc.now c.into_acts.result.items (c.into_acts.ensures ∙ sym (append-nil c.loop-item.run.acts) ∙ ap (λ is. c.loop-item.run.acts ++ plays c.args.doc.now (past c.loop-item.run) (flat_map events_in is)) (sym none) ∙ c.loop-item.invariant.told)

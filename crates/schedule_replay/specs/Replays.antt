@@ -1,0 +1,52 @@
+-- How the events of a schedule are played: the disks keep every record and every node that is opened
+-- comes up.
+use Rattle.std.specs.Prelude.{ℕ, ◌≤◌, ◌+◌, ◌*◌, Bool, true, false, List, [], ◌∷◌, ◌++◌, length, IsTrue}
+use Rattle.std.specs.List.{list_all}
+use Rattle.score_base.specs.declared.ids.NodeId.{NodeId}
+use Rattle.grid_model.specs.declared.acts.Act.{Act}
+use Rattle.grid_model.specs.declared.items.Item.{Item}
+use Rattle.grid_model.specs.declared.items.Item.TheVariants as item
+use Rattle.grid_model.specs.Documents.{DocumentData}
+use Rattle.grid_model.specs.Histories.{after, sent}
+use Rattle.grid_model.specs.Nodes.{node}
+use Rattle.grid_model.specs.Schedules.{Choice, row}
+
+-- a record that is written is kept, a node that is opened comes up, and no record in doubt is found
+abbrev pub calm : Choice
+calm = record { keeps = true; opens = true; finds = false }
+
+-- an item that is played: all but stops, fuses and restarts
+abbrev pub is_played : Item → Bool
+is_played (item.Crash n how) = false
+is_played (item.Fuse n k how) = false
+is_played (item.Restart n) = false
+is_played i = true
+
+-- no item of the schedule stops a node, sets a fuse or opens a node again
+abbrev pub AreStopless : List Item → Type 0
+AreStopless items = IsTrue (list_all is_played items)
+
+-- the acts of an event: its row, or nothing where it is not played
+abbrev pub played : DocumentData → List Act → Item → List Act
+played d past (item.Crash n how) = []
+played d past (item.Fuse n k how) = []
+played d past (item.Restart n) = []
+played d past i = row d past i calm
+
+-- the acts of these events, one behind the other
+abbrev pub plays : DocumentData → List Act → List Item → List Act
+plays d past [] = []
+plays d past (e ∷ es) = played d past e ++ plays d (after past (played d past e)) es
+
+-- Behind k events few messages were sent and few reads are held: an event sends at most 16 messages
+-- beside the answers to the reads that its node holds, and holds at most one read. 50,017 is the most
+-- that one of 50,000 events can send.
+pub record IsFew (d : DocumentData) (past : List Act) (k : ℕ) : Type 0 where
+  pub sent_few : length (sent past) ≤ 50017 * k
+  pub held_few : (n : NodeId) → length (node d past n).held ≤ k
+
+-- behind this past, so many events more are at most 50,000 in all
+pub record HasRoom (d : DocumentData) (past : List Act) (events : ℕ) : Type 0 where
+  pub before : ℕ
+  pub few : IsFew d past before
+  pub room : before + events ≤ 50000

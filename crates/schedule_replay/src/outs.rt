@@ -1,0 +1,59 @@
+//! What nodes give at the events of a schedule, by a run so far.
+ghost use Rattle.std.specs.Prelude.{◌≡◌, ◌≤◌, ◌+◌, IfOk, length};
+ghost use Rattle.grid_model.specs.Nodes.{node, script_of};
+ghost use Rattle.grid_model.specs.Views.{view, stage};
+ghost use Rattle.grid_model.specs.Rows.{answer, begin_outs, retry_row, ask_outs};
+ghost use Rattle.run_state.specs.Kept.{past};
+ghost use Rattle.schedule_replay.specs.Numbering.{sends};
+ghost use Rattle.schedule_replay.specs.Replays.{HasRoom};
+
+use crate::answers::{answer, ask_outs, begin_outs, retry_outs, tx_in};
+use grid_model::{Envelope, Out};
+use run_state::{RunState, script_of};
+use score_base::{Memory, NodeId, TxId};
+use script_lang::Script;
+use std::alloc::Global;
+
+/// What the home gives where its transaction begins.
+pub fn outs_at_begin(alloc: Global, run: &RunState, script: &Script) -> Result<Vec<Out>, Memory>
+    ensures outs { IfOk result (λ outs. outs.items ≡ begin_outs script.now.home (view run.now.doc (past run.now) script.now.home) script.now) }
+{
+    let home = script.home;
+    begin_outs(alloc, run.doc(), home, run.node(home), script)
+}
+
+/// What the receiver of a message gives.
+pub fn outs_at_delivery(
+    alloc: Global,
+    run: &RunState,
+    envelope: &Envelope,
+) -> Result<Vec<Out>, Memory>
+    ensures outs { IfOk result (λ outs. outs.items ≡ answer envelope.now.to (view run.now.doc (past run.now) envelope.now.to) envelope.now.from envelope.now.message) }
+{
+    let (doc, n) = (run.doc(), envelope.to);
+    let t = tx_in(&envelope.message);
+    let (script, story) = (script_of(doc.scripts(), t), run.story(t));
+    let (from, message) = (envelope.from, &envelope.message);
+    answer(alloc, doc, n, run.node(n), script, story, from, message)
+}
+
+/// What the home sends again.
+pub fn outs_at_retry(
+    alloc: Global,
+    run: &RunState,
+    t: TxId,
+    home: NodeId,
+) -> Result<Vec<Out>, Memory>
+    ensures outs { IfOk result (λ outs. outs.items ≡ retry_row run.now.doc.cluster t (stage (view run.now.doc (past run.now) home) t)) }
+{
+    let doc = run.doc();
+    let (script, story) = (script_of(doc.scripts(), t), run.story(t));
+    retry_outs(alloc, doc, home, run.node(home), t, script, story)
+}
+
+/// What a node asks the home of a transaction.
+pub fn outs_at_ask(alloc: Global, run: &RunState, n: NodeId, t: TxId) -> Result<Vec<Out>, Memory>
+    ensures outs { IfOk result (λ outs. outs.items ≡ ask_outs (view run.now.doc (past run.now) n) t) }
+{
+    ask_outs(alloc, run.doc(), n, run.node(n), t)
+}

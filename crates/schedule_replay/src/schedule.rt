@@ -1,0 +1,165 @@
+//! The rows of a schedule's items, by a run so far.
+ghost use Rattle.std.specs.Prelude.{◌≡◌, ◌≤◌, ◌<◌, ◌+◌, ◌^◌, ◌++◌, ◌∷◌, [], IfOk, length};
+ghost use Rattle.grid_model.specs.Histories.{sent, sent_at};
+ghost use Rattle.grid_model.specs.Nodes.{node, script_of};
+ghost use Rattle.grid_model.specs.Stories.{story};
+ghost use Rattle.grid_model.specs.Schedules.{next_left, or_void, acts_of, begin_row, deliver_row, drop_row, next_row, retry_at, ask_row};
+ghost use Rattle.run_state.specs.Kept.{past};
+ghost use Rattle.schedule_replay.specs.Numbering.{sends};
+ghost use Rattle.schedule_replay.specs.Replays.{HasRoom, calm, played};
+
+use crate::numbering::number_all;
+use crate::outs::{outs_at_ask, outs_at_begin, outs_at_delivery, outs_at_retry};
+use grid_model::{Act, Item, Out};
+use run_state::{RunState, script_of};
+use score_base::{Memory, NodeId, TxId, push};
+use std::alloc::Global;
+
+/// A list of one act.
+fn only(alloc: Global, act: Act) -> Result<Vec<Act>, Memory>
+    ensures { IfOk result (λ acts. acts.items ≡ act ∷ []) }
+{
+    let mut acts = Vec::new(alloc);
+    push(&mut acts, act)?;
+    Ok(acts)
+}
+
+/// These acts, and behind them the acts of a node with these outs.
+fn acts_of(run: &RunState, first: Vec<Act>, n: NodeId, outs: Vec<Out>) -> Result<Vec<Act>, Memory>
+    requires { length (sent (past run.now)) + 1 + sends outs.items < 2 ^ 32 }
+    ensures { IfOk result (λ acts. acts.items ≡ first.items ++ acts_of (past run.now) calm n outs.items) }
+{
+    let mut acts = first;
+    let next = run.count() as u32 + 1;
+    number_all(&mut acts, next, n, outs)?;
+    Ok(acts)
+}
+
+/// The acts of a node with these outs, or this code where there are none.
+fn acts_or_void(
+    alloc: Global,
+    run: &RunState,
+    code: u8,
+    n: NodeId,
+    outs: Vec<Out>,
+) -> Result<Vec<Act>, Memory>
+    requires { length (sent (past run.now)) + 1 + sends outs.items < 2 ^ 32 }
+    ensures { IfOk result (λ acts. acts.items ≡ or_void code outs.items (acts_of (past run.now) calm n outs.items)) }
+{
+    if outs.is_empty() {
+        return only(alloc, Act::Void(code));
+    }
+    acts_of(run, Vec::new(alloc), n, outs)
+}
+
+/// The row of `begin`.
+fn begin_row(alloc: Global, run: &RunState, t: TxId) -> Result<Vec<Act>, Memory>
+    requires { HasRoom run.now.doc (past run.now) 1 }
+    ensures { IfOk result (λ acts. acts.items ≡ begin_row run.now.doc (past run.now) calm (story run.now.doc (past run.now) t) (script_of t run.now.doc.scripts)) }
+{
+    if run.story(t).is_some() {
+        return only(alloc, Act::Void(1));
+    }
+    let Some(script) = script_of(run.doc().scripts(), t) else {
+        return Ok(Vec::new(alloc));
+    };
+    if !run.node(script.home).up {
+        return only(alloc, Act::Void(2));
+    }
+    let outs = outs_at_begin(alloc, run, script)?;
+    acts_of(run, Vec::new(alloc), script.home, outs)
+}
+
+/// The row of `deliver`.
+fn deliver_row(alloc: Global, run: &RunState, m: u32) -> Result<Vec<Act>, Memory>
+    requires { HasRoom run.now.doc (past run.now) 1 }
+    ensures { IfOk result (λ acts. acts.items ≡ deliver_row run.now.doc (past run.now) calm m (sent_at m (sent (past run.now)))) }
+{
+    let Some(envelope) = run.message(m) else {
+        return only(alloc, Act::Void(3));
+    };
+    if !run.node(envelope.to).up {
+        return only(alloc, Act::Missed(m));
+    }
+    let outs = outs_at_delivery(alloc, run, envelope)?;
+    acts_of(run, only(alloc, Act::Got(m))?, envelope.to, outs)
+}
+
+/// The row of `drop`.
+fn drop_row(alloc: Global, run: &RunState, m: u32) -> Result<Vec<Act>, Memory>
+    ensures { IfOk result (λ acts. acts.items ≡ drop_row m (sent_at m (sent (past run.now)))) }
+{
+    match run.message(m) {
+        None => only(alloc, Act::Void(3)),
+        Some(_) => only(alloc, Act::Dropped(m)),
+    }
+}
+
+/// The least-numbered message that was neither got, missed nor dropped.
+fn next_left(run: &RunState) -> Option<u32>
+    requires { length (sent (past run.now)) + 1 < 2 ^ 32 }
+    ensures { result ≡ next_left (past run.now) }
+{
+    let count = run.count() as u32;
+    for m in 1..count + 1 {
+        if !run.is_gone(m) {
+            return Some(m);
+        }
+    }
+    None
+}
+
+/// The row of one event of `next`.
+fn next_row(alloc: Global, run: &RunState) -> Result<Vec<Act>, Memory>
+    requires { HasRoom run.now.doc (past run.now) 1 }
+    ensures { IfOk result (λ acts. acts.items ≡ next_row run.now.doc (past run.now) calm (next_left (past run.now))) }
+{
+    match next_left(run) {
+        None => only(alloc, Act::Void(4)),
+        Some(m) => deliver_row(alloc, run, m),
+    }
+}
+
+/// The row of `retry`.
+fn retry_row(alloc: Global, run: &RunState, t: TxId) -> Result<Vec<Act>, Memory>
+    requires { HasRoom run.now.doc (past run.now) 1 }
+    ensures { IfOk result (λ acts. acts.items ≡ retry_at run.now.doc (past run.now) calm t (script_of t run.now.doc.scripts)) }
+{
+    let Some(script) = script_of(run.doc().scripts(), t) else {
+        return Ok(Vec::new(alloc));
+    };
+    let home = script.home;
+    if !run.node(home).up {
+        return only(alloc, Act::Void(2));
+    }
+    let outs = outs_at_retry(alloc, run, t, home)?;
+    acts_or_void(alloc, run, 5, home, outs)
+}
+
+/// The row of `ask`.
+fn ask_row(alloc: Global, run: &RunState, n: NodeId, t: TxId) -> Result<Vec<Act>, Memory>
+    requires { HasRoom run.now.doc (past run.now) 1 }
+    ensures { IfOk result (λ acts. acts.items ≡ ask_row run.now.doc (past run.now) calm n t) }
+{
+    if !run.node(n).up {
+        return only(alloc, Act::Void(6));
+    }
+    let outs = outs_at_ask(alloc, run, n, t)?;
+    acts_or_void(alloc, run, 6, n, outs)
+}
+
+/// The acts of an event. Stops, fuses and restarts are not played.
+pub fn row(alloc: Global, run: &RunState, item: Item) -> Result<Vec<Act>, Memory>
+    requires { HasRoom run.now.doc (past run.now) 1 }
+    ensures { IfOk result (λ acts. acts.items ≡ played run.now.doc (past run.now) item) }
+{
+    match item {
+        Item::Begin(t) => begin_row(alloc, run, t),
+        Item::Deliver(m) => deliver_row(alloc, run, m),
+        Item::Drop(m) => drop_row(alloc, run, m),
+        Item::Next(_) => next_row(alloc, run),
+        Item::Retry(t) => retry_row(alloc, run, t),
+        Item::Ask(n, t) => ask_row(alloc, run, n, t),
+        _ => Ok(Vec::new(alloc)),
+    }
+}
