@@ -5,3 +5,5 @@ pub mod ReadSteps
 pub mod Readings
 pub mod AtomsRead
 pub mod StepsRead
+pub mod ScriptRead
+pub mod Known
