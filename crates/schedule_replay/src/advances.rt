@@ -10,7 +10,7 @@ ghost use Rattle.grid_model.specs.Serials.{Map};
 ghost use Rattle.grid_model.specs.Stories.{first_sid};
 
 use crate::stages::{Open, parts_now};
-use crate::trails::{Trail, walk};
+use crate::trails::walk;
 use grid_model::{Act, Message, Out, Prepare, ReadReq};
 use placement::Cluster;
 use score_base::{Date, Ident, Key, KeyList, Memory, NodeId, TxId, Value, WriteList, push};

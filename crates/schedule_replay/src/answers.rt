@@ -1,6 +1,6 @@
 //! What a node gives where a message comes, a transaction begins, or a timer runs out.
 
-ghost use Rattle.std.specs.Prelude.{◌≡◌, ◌≤◌, ◌+◌, ◌∷◌, IfOk, IsTrue, None, length};
+ghost use Rattle.std.specs.Prelude.{◌≡◌, ◌≤◌, ◌+◌, IfOk, IsTrue, None, length};
 ghost use Rattle.std.specs.Option.{option_copied};
 ghost use Rattle.grid_model.specs.Fitness.{is_fit_at, tx_in};
 ghost use Rattle.grid_model.specs.Rows.{row_of, answer_at, begin_outs, retry_row, ask_outs};

@@ -1,9 +1,9 @@
 //! The coordinator: votes, acknowledgements and questions at the home of a transaction.
 
-ghost use Rattle.std.specs.Prelude.{◌≡◌, ◌++◌, ◌∷◌, [], IfOk, OnOk, filter, not};
+ghost use Rattle.std.specs.Prelude.{◌≡◌, ◌++◌, ◌∷◌, [], IfOk, OnOk};
 ghost use Rattle.placement.specs.Places.{others};
 ghost use Rattle.grid_model.specs.Stories.{has_voted};
-ghost use Rattle.grid_model.specs.Rows.{tells, greatest_vote, have_voted, decides, full_row, ballot_row, vote_row, are_all_among, closed_row, ack_row, ask_row, not_voted, not_among};
+ghost use Rattle.grid_model.specs.Rows.{tells, greatest_vote, have_voted, decides, full_row, ballot_row, vote_row, are_all_among, ack_row, ask_row, not_voted, not_among};
 ghost use Rattle.grid_model.specs.Advances.{parts_now};
 ghost use Rattle.schedule_replay.specs.Stages.{shown};
 

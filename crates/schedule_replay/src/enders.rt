@@ -1,6 +1,6 @@
 //! A participant that is told how a transaction ended, or asks.
 
-ghost use Rattle.std.specs.Prelude.{◌≡◌, ◌∷◌, [], ◌++◌, IfOk, OnOk, reverse};
+ghost use Rattle.std.specs.Prelude.{◌≡◌, ◌∷◌, ◌++◌, IfOk, OnOk, reverse};
 ghost use Rattle.score_base.specs.declared.records.Record.TheVariants as record';
 ghost use Rattle.grid_model.specs.Journals.{is_commit};
 ghost use Rattle.grid_model.specs.Rows.{freed_by, tell_outs};

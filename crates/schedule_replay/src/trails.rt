@@ -2,7 +2,6 @@
 
 ghost use Rattle.std.specs.Prelude.{◌≡◌, ◌++◌, ◌∷◌, [], IfOk, OnOk, IsTrue, None};
 ghost use Rattle.std.specs.FinMap as map;
-ghost use Rattle.script_lang.specs.Scripts.{IsBody};
 ghost use Rattle.script_lang.specs.Values.{value_in};
 ghost use Rattle.grid_model.specs.Stories.{waiting};
 ghost use Rattle.grid_model.specs.Advances.{own_reads, own_map, unread};
