@@ -1,11 +1,41 @@
 -- The text that is written is that of the run of the input.
-use Rattle.std.proofs.Common.{◌≡◌, ℕ, ◌≤◌, List, length, Ok, subst, ◌∙◌}
+use Rattle.std.proofs.Common.{◌≡◌, ℕ, ◌≤◌, List, [], ◌∷◌, true, length, Ok, refl, subst, ◌∙◌}
 use Rattle.std.specs.declared.option.Option.{Option}
 use Rattle.std.specs.Io.KnownBytes.{Appends}
 use Rattle.score_base.specs.Faults.{Rose}
 use Rattle.score_io.specs.Streams.{ReadWhole, AppendsPart}
 use Rattle.cluster_file.specs.Doc.{doc}
-use Rattle.score_cli.specs.Answers.{Ran, Done, Broken, IsTextOf}
+use Rattle.std.specs.List.{list_all}
+use Rattle.grid_model.specs.Documents.{DocumentData}
+use Rattle.grid_model.specs.declared.items.Item.{Item}
+use Rattle.grid_model.specs.declared.items.Item.TheVariants as item
+use Rattle.cluster_file.specs.Spelling.{is_built_item}
+use Rattle.cluster_file.proofs.Bools.{and_parts}
+use Rattle.cluster_file.proofs.OneSpelling.{spelled}
+use Rattle.schedule_replay.specs.Replays.{is_played, AreStopless}
+use Rattle.score_cli.specs.Answers.{Ran, Done, Broken, IsRunText, IsTextOf}
+
+-- an item that is read is played
+built_is_played : (i : Item) → is_built_item i ≡ true → is_played i ≡ true
+built_is_played (item.Begin t) e = refl
+built_is_played (item.Deliver m) e = refl
+built_is_played (item.Drop m) e = refl
+built_is_played (item.Next c) e = refl
+built_is_played (item.Retry t) e = refl
+built_is_played (item.Ask n t) e = refl
+built_is_played (item.Crash n how) e = cc
+built_is_played (item.Fuse n k how) e = cc
+built_is_played (item.Restart n) e = cc
+
+built_are_played : (is : List Item) → list_all is_built_item is ≡ true → list_all is_played is ≡ true
+built_are_played [] e = refl
+built_are_played (i ∷ is) e =
+    let both = and_parts (is_built_item i) (list_all is_built_item is) e in
+    rw (built_is_played i both.0) (built_are_played is both.1)
+
+-- the text of the run of a document that was read
+pub text_of_run : (bytes written : List ℕ) (d : DocumentData) → doc bytes ≡ Ok d → (AreStopless d.items → IsRunText d written) → IsTextOf bytes written
+text_of_run bytes written d read run = record { document = d; spelled = read; run = run (built_are_played d.items (spelled bytes d read).built.items) }
 
 ran : (lo ln : Option (List ℕ)) (bytes seen written : List ℕ) → ReadWhole lo ln bytes → length bytes ≤ 4194304 → seen ≡ bytes → IsTextOf seen written → Ran lo ln
 ran lo ln bytes seen written read short same t = record {

@@ -11,4 +11,6 @@ mod status;
 pub use status::{Status, score};
 
 #[cfg(test)]
+mod rows;
+#[cfg(test)]
 mod tests;
