@@ -1,11 +1,11 @@
--- Where no disk fails and no fuse is set, the acts of the rows are lawful.
-use Rattle.std.proofs.Common.{◌≡◌, ◌≢◌, ℕ, ◌+◌, ◌≤◌, ◌&&◌, ◌||◌, ◌==◌, not, Bool, true, false, List, [], ◌∷◌, ◌++◌, length, refl, sym, ap, ◌∙◌, Option, Some, None, arith, if◌then◌else◌, map, replicate, zero, suc}
-use Rattle.std.specs.Prelude.{IsTrue}
+-- Where no disk fails the acts of the rows are a run, and a lawful one where no fuse is set.
+use Rattle.std.proofs.Common.{◌≡◌, ℕ, ◌+◌, ◌&&◌, ◌||◌, ◌==◌, not, Bool, true, false, List, [], ◌∷◌, ◌++◌, length, refl, ap, ◌∙◌, Option, Some, None, arith, if◌then◌else◌, map, replicate, zero, suc}
 use Rattle.std.specs.List.{flat_map, list_all, range_with_len}
 use Rattle.std.proofs.lemmas.List.Folds.{list_all-append}
 use Rattle.script_lang.specs.Scripts.{ScriptData}
 use Rattle.grid_model.specs.declared.acts.Act.{Act}
 use Rattle.grid_model.specs.declared.acts.Act.TheVariants as act
+use Rattle.grid_model.specs.declared.acts.Flag.{Flag}
 use Rattle.grid_model.specs.declared.acts.Flag.TheVariants as flag
 use Rattle.grid_model.specs.declared.events.Out.{Out}
 use Rattle.grid_model.specs.declared.events.Out.TheVariants as out
@@ -15,27 +15,17 @@ use Rattle.grid_model.specs.declared.messages.Envelope.{Envelope}
 use Rattle.grid_model.specs.declared.stories.Story.{Story}
 use Rattle.grid_model.specs.Documents.{DocumentData}
 use Rattle.grid_model.specs.Histories.{after, sent, sent_at}
-use Rattle.grid_model.specs.Nodes.{node, script_of, journal}
+use Rattle.grid_model.specs.Nodes.{node, script_of}
 use Rattle.grid_model.specs.Stories.{story}
 use Rattle.grid_model.specs.Views.{view, stage}
 use Rattle.grid_model.specs.Fitness.{tx_in}
 use Rattle.grid_model.specs.Rows.{answer, begin_outs, retry_row, ask_outs}
-use Rattle.grid_model.specs.Schedules.{numbered, next_number, next_left, acts_of, begin_at, begin_row, deliver_row, drop_row, next_row, or_void, retry_at, ask_row, row, start_row, start_act, events_in}
-use Rattle.grid_model.specs.Runs.{Rows, IsRun, Lawful, Explains, Fuse, fuse, fuse_at_stop, with_opening, with_record, is_empty, is_record_at, is_let, are_let, lets_gate, lets_record, is_stop, is_by_fuse, as_number, faults}
-use Rattle.schedule_replay.specs.Replays.{calm, is_played, AreStopless, played, plays}
+use Rattle.grid_model.specs.Schedules.{numbered, next_number, next_left, acts_of, begin_at, begin_row, deliver_row, drop_row, next_row, or_void, retry_at, ask_row, start_row, start_act, events_in, flag_of, losses, opened_row}
+use Rattle.grid_model.specs.Runs.{Rows, IsRun, Lawful, Explains, Fuse, fuse, fuse_at_stop, is_record_at, is_let, are_let, lets_gate, lets_record, is_stop, as_number, faults}
+use Rattle.schedule_replay.specs.Replays.{calm, is_unfused, AreUnfused, played, plays}
 use Rattle.schedule_replay.proofs.Counts.{Counts, is_own, are_own, counts-begin, counts-answer, counts-retry, counts-ask}
 use Rattle.schedule_replay.proofs.Shorts.{short-at}
-
--- an act of no disk that fails and of no fuse
-abbrev pub is_calm : Act → Bool
-is_calm (act.Armed n k how) = false
-is_calm (act.StillDown n) = false
-is_calm (act.Down n (Some h)) = false
-is_calm a = true
-
-abbrev pub are_calm : List Act → Bool
-are_calm [] = true
-are_calm (a ∷ acts) = is_calm a && are_calm acts
+use Rattle.schedule_replay.proofs.Reopened.{are_calm, are_lost, losses-lost}
 
 calm-own : (a : Act) (acts : List Act) → is_own a ≡ true → are_calm acts ≡ true → are_calm (a ∷ acts) ≡ true
 calm-own a acts e c = grind arith
@@ -49,7 +39,7 @@ pub calm-append : (xs ys : List Act) → are_calm xs ≡ true → are_calm ys �
 calm-append [] ys p q = q
 calm-append (x ∷ xs) ys p q = grind (arith, calm-append xs ys)
 
-calm-after : (past acts : List Act) → are_calm past ≡ true → are_calm acts ≡ true → are_calm (after past acts) ≡ true
+pub calm-after : (past acts : List Act) → are_calm past ≡ true → are_calm acts ≡ true → are_calm (after past acts) ≡ true
 calm-after past [] p q = p
 calm-after past (a ∷ acts) p q = calm-after (a ∷ past) acts (grind arith) (grind arith)
 
@@ -97,20 +87,36 @@ calm-ask d past n t =
     let os : List Out = ask_outs (view d past n) t in
     calm-if (node d past n).up (or_void 6 os (acts_of past calm n os)) (act.Void 6 ∷ []) (calm-or_void 6 os (acts_of past calm n os) (calm-acts past n 1 0 os (counts-ask (view d past n) t))) refl
 
-calm-played : (d : DocumentData) (past : List Act) (i : Item) → are_calm (played d past i) ≡ true
-calm-played d past (item.Begin t) = calm-begin d past (story d past t) (script_of t d.scripts)
-calm-played d past (item.Deliver m) = calm-deliver d past m (sent_at m (sent past))
-calm-played d past (item.Drop m) = calm-drop m (sent_at m (sent past))
-calm-played d past (item.Next c) = calm-next d past (next_left past)
-calm-played d past (item.Retry t) = calm-retry d past t (script_of t d.scripts)
-calm-played d past (item.Ask n t) = calm-ask d past n t
-calm-played d past (item.Crash n how) = refl
-calm-played d past (item.Fuse n k how) = refl
-calm-played d past (item.Restart n) = refl
+lost-calm : (acts : List Act) → are_lost acts ≡ true → are_calm acts ≡ true
+lost-calm [] e = refl
+lost-calm (act.Lost t ∷ acts) e = lost-calm acts e
+lost-calm (a ∷ acts) e = cc
 
-calm-plays : (d : DocumentData) (past : List Act) (es : List Item) → are_calm (plays d past es) ≡ true
-calm-plays d past [] = refl
-calm-plays d past (e ∷ es) = calm-append (played d past e) (plays d (after past (played d past e)) es) (calm-played d past e) (calm-plays d (after past (played d past e)) es)
+calm-opened : (d : DocumentData) (past : List Act) (n : ℕ) (f : Flag) → are_calm (opened_row d past n f) ≡ true
+calm-opened d past n f = lost-calm (losses d (act.Up n f ∷ past) n) (losses-lost d (act.Up n f ∷ past) n)
+
+calm-played : (d : DocumentData) (past : List Act) (i : Item) → is_unfused i ≡ true → are_calm (played d past i) ≡ true
+calm-played d past (item.Begin t) e = calm-begin d past (story d past t) (script_of t d.scripts)
+calm-played d past (item.Deliver m) e = calm-deliver d past m (sent_at m (sent past))
+calm-played d past (item.Drop m) e = calm-drop m (sent_at m (sent past))
+calm-played d past (item.Next c) e = calm-next d past (next_left past)
+calm-played d past (item.Retry t) e = calm-retry d past t (script_of t d.scripts)
+calm-played d past (item.Ask n t) e = calm-ask d past n t
+calm-played d past (item.Crash n how) e = calm-if (node d past n).up (act.Down n None ∷ []) (act.Void 7 ∷ []) refl refl
+calm-played d past (item.Fuse n k how) e = cc
+calm-played d past (item.Restart n) e = calm-if (node d past n).up (act.Void 8 ∷ []) (opened_row d past n (flag_of (node d past n).doubt false)) refl (calm-opened d past n (flag_of (node d past n).doubt false))
+
+pub first-true : (b c : Bool) → (b && c) ≡ true → b ≡ true
+first-true true c e = refl
+first-true false c e = e
+
+pub rest-true : (b c : Bool) → (b && c) ≡ true → c ≡ true
+rest-true true c e = e
+rest-true false c e = cc
+
+calm-plays : (d : DocumentData) (past : List Act) (es : List Item) → list_all is_unfused es ≡ true → are_calm (plays d past es) ≡ true
+calm-plays d past [] q = refl
+calm-plays d past (e ∷ es) q = calm-append (played d past e) (plays d (after past (played d past e)) es) (calm-played d past e (first-true (is_unfused e) (list_all is_unfused es) q)) (calm-plays d (after past (played d past e)) es (rest-true (is_unfused e) (list_all is_unfused es) q))
 
 calm-ups : (ns : List ℕ) → are_calm (map (start_act (λ n. true)) ns) ≡ true
 calm-ups [] = refl
@@ -174,46 +180,35 @@ explained d past n e = record { most = omega (arith, faultless d past n e); some
 
 -- ---- the run
 
-pub played-row : (d : DocumentData) (past : List Act) (i : Item) → is_played i ≡ true → played d past i ≡ row d past i calm
-played-row d past (item.Crash n how) e = cc
-played-row d past (item.Fuse n k how) e = cc
-played-row d past (item.Restart n) e = cc
-played-row d past i e = refl
-
-pub first-true : (b c : Bool) → (b && c) ≡ true → b ≡ true
-first-true true c e = refl
-first-true false c e = e
-
-pub rest-true : (b c : Bool) → (b && c) ≡ true → c ≡ true
-rest-true true c e = e
-rest-true false c e = cc
-
-rows-plays : (d : DocumentData) (past : List Act) (es : List Item) → list_all is_played es ≡ true → Rows d past es (plays d past es)
+rows-plays : (d : DocumentData) (past : List Act) (es : List Item) → Rows d past es (plays d past es)
 unfolding Rows
-rows-plays d past [] e = refl
-rows-plays d past (x ∷ es) e =
-    let here : played d past x ≡ row d past x calm = played-row d past x (first-true (is_played x) (list_all is_played es) e) in
-    (calm, plays d (after past (played d past x)) es, ap (λ z. z ++ plays d (after past (played d past x)) es) here, rw (← here) (rows-plays d (after past (played d past x)) es (rest-true (is_played x) (list_all is_played es) e)))
+rows-plays d past [] = refl
+rows-plays d past (x ∷ es) = (calm, plays d (after past (played d past x)) es, refl, rows-plays d (after past (played d past x)) es)
 
-played-next : (c : ℕ) → list_all is_played (replicate c (item.Next 1)) ≡ true
-played-next zero = refl
-played-next (suc c) = played-next c
+unfused-next : (c : ℕ) → list_all is_unfused (replicate c (item.Next 1)) ≡ true
+unfused-next zero = refl
+unfused-next (suc c) = unfused-next c
 
-played-events : (i : Item) → is_played i ≡ true → list_all is_played (events_in i) ≡ true
-played-events (item.Next c) e = played-next c
-played-events i e = both-true (is_played i) true e refl
+unfused-events : (i : Item) → is_unfused i ≡ true → list_all is_unfused (events_in i) ≡ true
+unfused-events (item.Next c) e = unfused-next c
+unfused-events i e = both-true (is_unfused i) true e refl
 
-pub played-all : (is : List Item) → list_all is_played is ≡ true → list_all is_played (flat_map events_in is) ≡ true
-played-all [] e = refl
-played-all (i ∷ is) e = list_all-append is_played (events_in i) (flat_map events_in is) ∙ both-true (list_all is_played (events_in i)) (list_all is_played (flat_map events_in is)) (played-events i (first-true (is_played i) (list_all is_played is) e)) (played-all is (rest-true (is_played i) (list_all is_played is) e))
+pub unfused-all : (is : List Item) → list_all is_unfused is ≡ true → list_all is_unfused (flat_map events_in is) ≡ true
+unfused-all [] e = refl
+unfused-all (i ∷ is) e = list_all-append is_unfused (events_in i) (flat_map events_in is) ∙ both-true (list_all is_unfused (events_in i)) (list_all is_unfused (flat_map events_in is)) (unfused-events i (first-true (is_unfused i) (list_all is_unfused is) e)) (unfused-all is (rest-true (is_unfused i) (list_all is_unfused is) e))
 
-pub lawful-plays : (d : DocumentData) (h : List Act) → h ≡ start_row d.cluster.nodes (λ n. true) ++ plays d (after [] (start_row d.cluster.nodes (λ n. true))) (flat_map events_in d.items) → AreStopless d.items → Lawful d h (λ n. 0)
-lawful-plays d h e stopless =
+pub run-plays : (d : DocumentData) (h : List Act) → h ≡ start_row d.cluster.nodes (λ n. true) ++ plays d (after [] (start_row d.cluster.nodes (λ n. true))) (flat_map events_in d.items) → IsRun d d.items h
+run-plays d h e =
     let start : List Act = start_row d.cluster.nodes (λ n. true) in
-    let rest : List Act = plays d (after [] start) (flat_map events_in d.items) in
-    let quiet : are_calm (after [] h) ≡ true = calm-after [] h refl (rw e (calm-append start rest (calm-ups (range_with_len 1 d.cluster.nodes)) (calm-plays d (after [] start) (flat_map events_in d.items)))) in
+    record { opens = λ n. true; rest = plays d (after [] start) (flat_map events_in d.items); start = e; rows = rows-plays d (after [] start) (flat_map events_in d.items) }
+
+pub lawful-plays : (d : DocumentData) (h : List Act) → h ≡ start_row d.cluster.nodes (λ n. true) ++ plays d (after [] (start_row d.cluster.nodes (λ n. true))) (flat_map events_in d.items) → AreUnfused d.items → Lawful d h (λ n. 0)
+lawful-plays d h e unfused =
+    let start : List Act = start_row d.cluster.nodes (λ n. true) in
+    let events : list_all is_unfused (flat_map events_in d.items) ≡ true = unfused-all d.items unfused in
+    let quiet : are_calm (after [] h) ≡ true = calm-after [] h refl (rw e (calm-append start (plays d (after [] start) (flat_map events_in d.items)) (calm-ups (range_with_len 1 d.cluster.nodes)) (calm-plays d (after [] start) (flat_map events_in d.items) events))) in
     record {
-      run = record { opens = λ n. true; rest = rest; start = e; rows = rows-plays d (after [] start) (flat_map events_in d.items) (played-all d.items stopless) };
+      run = run-plays d h e;
       fuses = λ n. let-all d (after [] h) n quiet;
       stops = λ n. explained d (after [] h) n quiet;
     }

@@ -1,9 +1,8 @@
 -- How many messages the outs of a row are, how many reads they hold, and that their acts are a node's own.
-use Rattle.std.proofs.Common.{◌≡◌, ℕ, ◌+◌, ◌≤◌, ◌&&◌, ◌==◌, Bool, true, false, List, [], ◌∷◌, ◌++◌, length, refl, sym, ap, ◌∙◌, Option, Some, None, arith, nat_lt, not, map, filter, if◌then◌else◌, is_some}
+use Rattle.std.proofs.Common.{◌≡◌, ℕ, ◌+◌, ◌≤◌, ◌&&◌, ◌==◌, Bool, true, false, List, [], ◌∷◌, ◌++◌, length, refl, Option, Some, None, arith, nat_lt, not, map, filter, if◌then◌else◌, is_some}
 use Rattle.std.specs.List.{list_any, range_with_len}
 use Rattle.std.proofs.lemmas.List.Filters.{length-filter_both}
 use Rattle.std.proofs.lemmas.List.FromFn.{length-range_with_len}
-use Rattle.score_base.specs.declared.ids.Ident.{Ident}
 use Rattle.score_base.specs.declared.keys.Key.{Key}
 use Rattle.score_base.specs.declared.causes.Ballot.{Ballot}
 use Rattle.score_base.specs.declared.causes.Ballot.TheVariants as ballot
@@ -14,7 +13,7 @@ use Rattle.score_base.specs.declared.records.Record.TheVariants as record'
 use Rattle.script_lang.specs.declared.scripts.Op.{Op}
 use Rattle.script_lang.specs.Scripts.{ScriptData}
 use Rattle.script_lang.specs.Reads.{is_update, keys_of}
-use Rattle.placement.specs.Places.{is_among, holds, others, rising_nodes, preferred, parts}
+use Rattle.placement.specs.Places.{is_among, holds, others, rising_nodes, parts}
 use Rattle.placement.specs.Clusters.{ClusterData}
 use Rattle.grid_model.specs.declared.acts.Act.{Act}
 use Rattle.grid_model.specs.declared.acts.Act.TheVariants as act
@@ -22,18 +21,17 @@ use Rattle.grid_model.specs.declared.events.Out.{Out}
 use Rattle.grid_model.specs.declared.events.Out.TheVariants as out
 use Rattle.grid_model.specs.declared.messages.Message.{Message}
 use Rattle.grid_model.specs.declared.messages.Message.TheVariants as message
-use Rattle.grid_model.specs.declared.messages.Prepare.{Prepare}
 use Rattle.grid_model.specs.declared.messages.ReadReq.{ReadReq}
 use Rattle.grid_model.specs.declared.messages.ReadRep.{ReadRep}
 use Rattle.grid_model.specs.declared.stories.HeldRead.{HeldRead}
 use Rattle.grid_model.specs.declared.stories.Voted.{Voted}
 use Rattle.grid_model.specs.declared.versions.Version.{Version}
-use Rattle.grid_model.specs.Journals.{Decision, commit_id, floor, is_clear, ended, is_commit, pending, holder, newer, home_of}
+use Rattle.grid_model.specs.Journals.{commit_id, floor, is_clear, ended, is_commit, pending, home_of}
 use Rattle.grid_model.specs.Stories.{has_voted, waiting, first_sid}
 use Rattle.grid_model.specs.Views.{View, Open, Stage, Apart, Reads, Collects, Commits}
 use Rattle.grid_model.specs.Advances.{advance, advance_end, owns, request, request_of, prepares, prepare_for, parts_now, to_node, unread, own_reads}
 use Rattle.grid_model.specs.Fitness.{is_fit_at}
-use Rattle.grid_model.specs.Rows.{served, version_for, release, dated, ceilings, raises, answered, read_row, reply_row, refused, judged, prepare_row, prepare_outs, tells, decides, full_row, have_voted, greatest_vote, ballot_row, vote_row, are_all_among, closed_row, ack_row, ask_row, commit_row, abort_row, freed_by, tell_outs, row_of, answer_at, begun_at, begin_outs, not_voted, not_among, retry_row, ask_outs}
+use Rattle.grid_model.specs.Rows.{served, version_for, release, ceilings, raises, answered, read_row, reply_row, judged, prepare_row, tells, decides, ballot_row, vote_row, are_all_among, closed_row, ack_row, ask_row, commit_row, abort_row, freed_by, tell_outs, row_of, answer_at, begun_at, begin_outs, not_voted, not_among, retry_row, ask_outs}
 use Rattle.schedule_replay.specs.Numbering.{sends}
 
 -- the reads that some outs hold

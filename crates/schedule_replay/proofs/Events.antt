@@ -1,12 +1,10 @@
 -- Few messages are sent and few reads are held: what one event adds.
-use Rattle.std.proofs.Common.{◌≡◌, ℕ, ◌+◌, ◌*◌, ◌<◌, ◌≤◌, Bool, true, false, List, [], ◌∷◌, ◌++◌, length, length-append, refl, sym, ap, ◌∙◌, subst, Option, Some, None, arith, if◌then◌else◌}
-use Rattle.std.specs.Prelude.{sum_by}
-use Rattle.std.specs.List.{flat_map, list_all}
-use Rattle.std.proofs.lemmas.List.Sums.{sum_by-cons}
+use Rattle.std.proofs.Common.{◌≡◌, ℕ, ◌+◌, ◌≤◌, Bool, true, false, List, [], ◌∷◌, ◌++◌, length, refl, sym, ap, ◌∙◌, Option, Some, None, arith, if◌then◌else◌}
 use Rattle.std.proofs.lemmas.List.{append_assoc, append-nil, length-replicate}
 use Rattle.script_lang.specs.Scripts.{ScriptData}
 use Rattle.grid_model.specs.declared.acts.Act.{Act}
 use Rattle.grid_model.specs.declared.acts.Act.TheVariants as act
+use Rattle.grid_model.specs.declared.acts.Flag.{Flag}
 use Rattle.grid_model.specs.declared.events.Out.{Out}
 use Rattle.grid_model.specs.declared.items.Item.{Item}
 use Rattle.grid_model.specs.declared.items.Item.TheVariants as item
@@ -19,11 +17,12 @@ use Rattle.grid_model.specs.Stories.{story}
 use Rattle.grid_model.specs.Views.{view, stage}
 use Rattle.grid_model.specs.Fitness.{tx_in}
 use Rattle.grid_model.specs.Rows.{answer, begin_outs, retry_row, ask_outs}
-use Rattle.grid_model.specs.Schedules.{numbered, next_number, next_left, acts_of, begin_at, begin_row, deliver_row, drop_row, next_row, or_void, retry_at, ask_row, events_in}
+use Rattle.grid_model.specs.Schedules.{next_number, next_left, acts_of, begin_at, begin_row, deliver_row, drop_row, next_row, or_void, retry_at, ask_row, events_in, flag_of, losses, opened_row}
 use Rattle.schedule_replay.specs.Replays.{IsFew, HasRoom, calm, played, plays}
 use Rattle.schedule_replay.proofs.Counts.{Counts, counts-more, counts-begin, counts-answer, counts-retry, counts-ask}
-use Rattle.schedule_replay.proofs.Posts.{posts, holdings, Adds, adds-numbered, sent-after, held-after}
+use Rattle.schedule_replay.proofs.Posts.{Adds, adds-numbered, sent-after, held-after}
 use Rattle.schedule_replay.proofs.Shorts.{short-at}
+use Rattle.schedule_replay.proofs.Reopened.{are_lost, losses-lost, lost-posts, lost-holdings}
 
 adds-if : (b : Bool) (k : ℕ) (xs ys : List Act) → Adds k xs → Adds k ys → Adds k (if b then xs else ys)
 adds-if true k xs ys p q = p
@@ -86,6 +85,11 @@ adds-ask d past k n t f =
     let os : List Out = ask_outs (view d past n) t in
     adds-if (node d past n).up (16 + k) (or_void 6 os (acts_of past calm n os)) (act.Void 6 ∷ []) (adds-or_void (16 + k) 6 os (acts_of past calm n os) (adds-acts past (16 + k) n os (few-ask d past k n t f))) (record { sent = omega arith; held = omega arith })
 
+adds-opened : (d : DocumentData) (past : List Act) (k n : ℕ) (f : Flag) → Adds k (opened_row d past n f)
+adds-opened d past k n f =
+    let lost : are_lost (losses d (act.Up n f ∷ past) n) ≡ true = losses-lost d (act.Up n f ∷ past) n in
+    record { sent = omega (arith, lost-posts (losses d (act.Up n f ∷ past) n) lost); held = omega (arith, lost-holdings (losses d (act.Up n f ∷ past) n) lost) }
+
 adds-played : (d : DocumentData) (past : List Act) (k : ℕ) (i : Item) → IsFew d past k → Adds (16 + k) (played d past i)
 adds-played d past k (item.Begin t) f = adds-begin d past k (story d past t) (script_of t d.scripts) f
 adds-played d past k (item.Deliver m) f = adds-deliver d past k m (sent_at m (sent past)) f
@@ -93,9 +97,9 @@ adds-played d past k (item.Drop m) f = adds-drop (16 + k) m (sent_at m (sent pas
 adds-played d past k (item.Next c) f = adds-next d past k (next_left past) f
 adds-played d past k (item.Retry t) f = adds-retry d past k t (script_of t d.scripts) f
 adds-played d past k (item.Ask n t) f = adds-ask d past k n t f
-adds-played d past k (item.Crash n how) f = record { sent = omega arith; held = omega arith }
+adds-played d past k (item.Crash n how) f = adds-if (node d past n).up (16 + k) (act.Down n None ∷ []) (act.Void 7 ∷ []) (record { sent = omega arith; held = omega arith }) (record { sent = omega arith; held = omega arith })
 adds-played d past k (item.Fuse n c how) f = record { sent = omega arith; held = omega arith }
-adds-played d past k (item.Restart n) f = record { sent = omega arith; held = omega arith }
+adds-played d past k (item.Restart n) f = adds-if (node d past n).up (16 + k) (act.Void 8 ∷ []) (opened_row d past n (flag_of (node d past n).doubt false)) (record { sent = omega arith; held = omega arith }) (adds-opened d past (16 + k) n (flag_of (node d past n).doubt false))
 
 few-played : (d : DocumentData) (past : List Act) (k : ℕ) (i : Item) → k ≤ 50000 → IsFew d past k → IsFew d (after past (played d past i)) (k + 1)
 few-played d past k i h f =

@@ -5,6 +5,7 @@ pub mod Walking
 pub mod Counts
 pub mod Posts
 pub mod Shorts
+pub mod Reopened
 pub mod Events
 pub mod Calm
 pub mod Ranges

@@ -1,18 +1,15 @@
 -- One event more, and one item more, of those that are left.
 use Rattle.std.proofs.Common.{◌≡◌, ℕ, ◌+◌, ◌<◌, ◌≤◌, List, [], ◌∷◌, ◌++◌, length, true, refl, sym, ap, ◌∙◌, arith, drop, get_or, map}
 use Rattle.std.specs.Prelude.{sum_by}
-use Rattle.std.specs.List.{flat_map, range_with_len}
+use Rattle.std.specs.List.{range_with_len}
 use Rattle.std.proofs.lemmas.List.{append_assoc, drop_more}
 use Rattle.std.proofs.lemmas.List.Sums.{sum_by-cons}
 use Rattle.grid_model.specs.declared.acts.Act.{Act}
-use Rattle.grid_model.specs.declared.acts.Act.TheVariants as act
-use Rattle.grid_model.specs.declared.acts.Flag.TheVariants as flag
 use Rattle.grid_model.specs.declared.items.Item.{Item}
 use Rattle.grid_model.specs.Documents.{DocumentData, events_of}
-use Rattle.grid_model.specs.Histories.{after, sent}
-use Rattle.grid_model.specs.Nodes.{node}
+use Rattle.grid_model.specs.Histories.{after}
 use Rattle.grid_model.specs.Schedules.{start_row, start_act, events_in}
-use Rattle.schedule_replay.specs.Replays.{IsFew, HasRoom, played, plays}
+use Rattle.schedule_replay.specs.Replays.{HasRoom, played, plays}
 use Rattle.schedule_replay.proofs.Posts.{posts, holdings, sent-after, held-after}
 use Rattle.schedule_replay.proofs.Events.{after-append, plays-more, room-event, room-events, room-less, length-events}
 

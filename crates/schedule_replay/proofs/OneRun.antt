@@ -1,9 +1,9 @@
--- A document without stops, fuses and restarts has exactly one lawful run in which no disk fails.
-use Rattle.std.proofs.Common.{◌≡◌, ◌≢◌, ℕ, ◌+◌, ◌<◌, ◌≤◌, ◌&&◌, ◌==◌, not, Bool, true, false, List, [], ◌∷◌, ◌++◌, length, refl, sym, ap, ◌∙◌, subst, Option, Some, None, arith, if◌then◌else◌, map, inl, inr}
-use Rattle.std.specs.Prelude.{IsTrue}
+-- A document whose schedule sets no fuse has exactly one lawful run in which no disk fails.
+use Rattle.std.proofs.Common.{◌≡◌, ℕ, ◌+◌, ◌≤◌, ◌&&◌, ◌==◌, not, Bool, true, false, List, [], ◌∷◌, ◌++◌, length, refl, sym, ap, ◌∙◌, subst, Option, Some, None, arith, if◌then◌else◌, map, inl, inr}
 use Rattle.std.specs.List.{flat_map, list_all, range_with_len}
 use Rattle.std.proofs.lemmas.Bool.{cases_Bool}
 use Rattle.std.proofs.lemmas.Bool.Decides.{nat_tests}
+use Rattle.score_base.specs.declared.records.Record.{Record}
 use Rattle.script_lang.specs.Scripts.{ScriptData}
 use Rattle.grid_model.specs.declared.acts.Act.{Act}
 use Rattle.grid_model.specs.declared.acts.Act.TheVariants as act
@@ -22,13 +22,13 @@ use Rattle.grid_model.specs.Stories.{story}
 use Rattle.grid_model.specs.Views.{view, stage}
 use Rattle.grid_model.specs.Fitness.{tx_in}
 use Rattle.grid_model.specs.Rows.{answer, begin_outs, retry_row, ask_outs}
-use Rattle.grid_model.specs.Schedules.{Choice, numbered, head_of, head_at, stopped, broken, kept, next_number, next_left, acts_of, begin_at, begin_row, deliver_row, drop_row, next_row, or_void, retry_at, ask_row, row, start_row, start_act, events_in}
-use Rattle.grid_model.specs.Runs.{Rows, IsRun, Lawful, Explains, Fuse, fuse, with_opening, with_record, is_stop, is_by_fuse, stops_record, stops_opening, as_number, faults}
-use Rattle.schedule_replay.specs.Replays.{calm, is_played, AreStopless, played, plays}
+use Rattle.grid_model.specs.Schedules.{Choice, numbered, head_of, stopped, broken, kept, next_number, next_left, acts_of, begin_at, begin_row, deliver_row, drop_row, next_row, or_void, retry_at, ask_row, row, start_row, start_act, events_in, flag_of, losses, opened_row}
+use Rattle.grid_model.specs.Runs.{Rows, Lawful, Fuse, fuse, is_stop, is_by_fuse, stops_record, stops_opening, as_number, faults}
+use Rattle.schedule_replay.specs.Replays.{calm, is_unfused, AreUnfused, played, plays}
 use Rattle.schedule_replay.proofs.Counts.{Counts, is_own, are_own, counts-begin, counts-answer, counts-retry, counts-ask}
 use Rattle.schedule_replay.proofs.Shorts.{short-at}
-use Rattle.schedule_replay.proofs.Events.{after-append}
-use Rattle.schedule_replay.proofs.Calm.{is_calm, are_calm, calm-append, played-row, first-true, rest-true, played-all, lawful-plays}
+use Rattle.schedule_replay.proofs.Calm.{calm-after, first-true, rest-true, unfused-all, lawful-plays}
+use Rattle.schedule_replay.proofs.Reopened.{is_calm, are_calm, are_lost, losses-lost, undoubted}
 
 -- ---- no fuse is set
 
@@ -81,73 +81,90 @@ same-kept : (b : Bool) (m n : ℕ) (os : List Out) → are_calm (numbered m n (k
 same-kept true m n os e = refl
 same-kept false m n os e = ap (numbered m n) (same-broken m n os e)
 
--- what is claimed of a row: it sets no fuse, and where it is calm it is the calm row
-record IsOne (acts quiet : List Act) : Type 0 where
+-- what is claimed of a row: it sets no fuse, and where it and its past are calm it is the calm row
+record IsOne (past acts quiet : List Act) : Type 0 where
   pub unset : are_unset acts ≡ true
-  pub same : are_calm acts ≡ true → acts ≡ quiet
+  pub same : are_calm past ≡ true → are_calm acts ≡ true → acts ≡ quiet
 
-one-if : (b : Bool) (xs ys xs' ys' : List Act) → IsOne xs xs' → IsOne ys ys' → IsOne (if b then xs else ys) (if b then xs' else ys')
-one-if true xs ys xs' ys' p q = p
-one-if false xs ys xs' ys' p q = q
+one-if : (past : List Act) (b : Bool) (xs ys xs' ys' : List Act) → IsOne past xs xs' → IsOne past ys ys' → IsOne past (if b then xs else ys) (if b then xs' else ys')
+one-if past true xs ys xs' ys' p q = p
+one-if past false xs ys xs' ys' p q = q
 
-one-same : (xs : List Act) → are_unset xs ≡ true → IsOne xs xs
-one-same xs e = record { unset = e; same = λ quiet. refl }
+one-same : (past xs : List Act) → are_unset xs ≡ true → IsOne past xs xs
+one-same past xs e = record { unset = e; same = λ before quiet. refl }
 
-one-acts : (past : List Act) (c : Choice) (n k j : ℕ) (os : List Out) → Counts k j os → IsOne (acts_of past c n os) (acts_of past calm n os)
-one-acts past c n k j os p = record { unset = unset-kept c.keeps (next_number past) n os p.own; same = same-kept c.keeps (next_number past) n os }
+one-acts : (past : List Act) (c : Choice) (n k j : ℕ) (os : List Out) → Counts k j os → IsOne past (acts_of past c n os) (acts_of past calm n os)
+one-acts past c n k j os p = record { unset = unset-kept c.keeps (next_number past) n os p.own; same = λ before. same-kept c.keeps (next_number past) n os }
 
-one-got : (m : ℕ) (xs ys : List Act) → IsOne xs ys → IsOne (act.Got m ∷ xs) (act.Got m ∷ ys)
-one-got m xs ys p = record { unset = p.unset; same = λ e. ap (λ z. act.Got m ∷ z) (p.same e) }
+one-got : (past : List Act) (m : ℕ) (xs ys : List Act) → IsOne past xs ys → IsOne past (act.Got m ∷ xs) (act.Got m ∷ ys)
+one-got past m xs ys p = record { unset = p.unset; same = λ before e. ap (λ z. act.Got m ∷ z) (p.same before e) }
 
-one-begin_at : (d : DocumentData) (past : List Act) (c : Choice) (s : Option ScriptData) → IsOne (begin_at d past c s) (begin_at d past calm s)
-one-begin_at d past c None = one-same [] refl
+one-begin_at : (d : DocumentData) (past : List Act) (c : Choice) (s : Option ScriptData) → IsOne past (begin_at d past c s) (begin_at d past calm s)
+one-begin_at d past c None = one-same past [] refl
 one-begin_at d past c (Some s) =
     let os : List Out = begin_outs s.home (view d past s.home) s in
-    one-if (node d past s.home).up (acts_of past c s.home os) (act.Void 2 ∷ []) (acts_of past calm s.home os) (act.Void 2 ∷ []) (one-acts past c s.home 16 0 os (counts-begin s.home (view d past s.home) s)) (one-same (act.Void 2 ∷ []) refl)
+    one-if past (node d past s.home).up (acts_of past c s.home os) (act.Void 2 ∷ []) (acts_of past calm s.home os) (act.Void 2 ∷ []) (one-acts past c s.home 16 0 os (counts-begin s.home (view d past s.home) s)) (one-same past (act.Void 2 ∷ []) refl)
 
-one-begin : (d : DocumentData) (past : List Act) (c : Choice) (x : Option Story) (s : Option ScriptData) → IsOne (begin_row d past c x s) (begin_row d past calm x s)
-one-begin d past c (Some x) s = one-same (act.Void 1 ∷ []) refl
+one-begin : (d : DocumentData) (past : List Act) (c : Choice) (x : Option Story) (s : Option ScriptData) → IsOne past (begin_row d past c x s) (begin_row d past calm x s)
+one-begin d past c (Some x) s = one-same past (act.Void 1 ∷ []) refl
 one-begin d past c None s = one-begin_at d past c s
 
-one-deliver : (d : DocumentData) (past : List Act) (c : Choice) (m : ℕ) (o : Option Envelope) → IsOne (deliver_row d past c m o) (deliver_row d past calm m o)
-one-deliver d past c m None = one-same (act.Void 3 ∷ []) refl
+one-deliver : (d : DocumentData) (past : List Act) (c : Choice) (m : ℕ) (o : Option Envelope) → IsOne past (deliver_row d past c m o) (deliver_row d past calm m o)
+one-deliver d past c m None = one-same past (act.Void 3 ∷ []) refl
 one-deliver d past c m (Some e) =
     let os : List Out = answer e.to (view d past e.to) e.from e.message in
-    one-if (node d past e.to).up (act.Got m ∷ acts_of past c e.to os) (act.Missed m ∷ []) (act.Got m ∷ acts_of past calm e.to os) (act.Missed m ∷ []) (one-got m (acts_of past c e.to os) (acts_of past calm e.to os) (one-acts past c e.to (16 + length (node d past e.to).held) 1 os (counts-answer e.to (view d past e.to) (stage (view d past e.to) (tx_in e.message)) e.from e.message))) (one-same (act.Missed m ∷ []) refl)
+    one-if past (node d past e.to).up (act.Got m ∷ acts_of past c e.to os) (act.Missed m ∷ []) (act.Got m ∷ acts_of past calm e.to os) (act.Missed m ∷ []) (one-got past m (acts_of past c e.to os) (acts_of past calm e.to os) (one-acts past c e.to (16 + length (node d past e.to).held) 1 os (counts-answer e.to (view d past e.to) (stage (view d past e.to) (tx_in e.message)) e.from e.message))) (one-same past (act.Missed m ∷ []) refl)
 
-one-drop : (m : ℕ) (o : Option Envelope) → IsOne (drop_row m o) (drop_row m o)
-one-drop m None = one-same (act.Void 3 ∷ []) refl
-one-drop m (Some e) = one-same (act.Dropped m ∷ []) refl
+one-drop : (past : List Act) (m : ℕ) (o : Option Envelope) → IsOne past (drop_row m o) (drop_row m o)
+one-drop past m None = one-same past (act.Void 3 ∷ []) refl
+one-drop past m (Some e) = one-same past (act.Dropped m ∷ []) refl
 
-one-next : (d : DocumentData) (past : List Act) (c : Choice) (o : Option ℕ) → IsOne (next_row d past c o) (next_row d past calm o)
-one-next d past c None = one-same (act.Void 4 ∷ []) refl
+one-next : (d : DocumentData) (past : List Act) (c : Choice) (o : Option ℕ) → IsOne past (next_row d past c o) (next_row d past calm o)
+one-next d past c None = one-same past (act.Void 4 ∷ []) refl
 one-next d past c (Some m) = one-deliver d past c m (sent_at m (sent past))
 
-one-or_void : (code : ℕ) (os : List Out) (xs ys : List Act) → IsOne xs ys → IsOne (or_void code os xs) (or_void code os ys)
-one-or_void code [] xs ys p = one-same (act.Void code ∷ []) refl
-one-or_void code (o ∷ os) xs ys p = p
+one-or_void : (past : List Act) (code : ℕ) (os : List Out) (xs ys : List Act) → IsOne past xs ys → IsOne past (or_void code os xs) (or_void code os ys)
+one-or_void past code [] xs ys p = one-same past (act.Void code ∷ []) refl
+one-or_void past code (o ∷ os) xs ys p = p
 
-one-retry : (d : DocumentData) (past : List Act) (c : Choice) (t : ℕ) (s : Option ScriptData) → IsOne (retry_at d past c t s) (retry_at d past calm t s)
-one-retry d past c t None = one-same [] refl
+one-retry : (d : DocumentData) (past : List Act) (c : Choice) (t : ℕ) (s : Option ScriptData) → IsOne past (retry_at d past c t s) (retry_at d past calm t s)
+one-retry d past c t None = one-same past [] refl
 one-retry d past c t (Some s) =
     let os : List Out = retry_row d.cluster t (stage (view d past s.home) t) in
-    one-if (node d past s.home).up (or_void 5 os (acts_of past c s.home os)) (act.Void 2 ∷ []) (or_void 5 os (acts_of past calm s.home os)) (act.Void 2 ∷ []) (one-or_void 5 os (acts_of past c s.home os) (acts_of past calm s.home os) (one-acts past c s.home 16 0 os (counts-retry d.cluster t (stage (view d past s.home) t) (short-at d past s.home t _ _)))) (one-same (act.Void 2 ∷ []) refl)
+    one-if past (node d past s.home).up (or_void 5 os (acts_of past c s.home os)) (act.Void 2 ∷ []) (or_void 5 os (acts_of past calm s.home os)) (act.Void 2 ∷ []) (one-or_void past 5 os (acts_of past c s.home os) (acts_of past calm s.home os) (one-acts past c s.home 16 0 os (counts-retry d.cluster t (stage (view d past s.home) t) (short-at d past s.home t _ _)))) (one-same past (act.Void 2 ∷ []) refl)
 
-one-ask : (d : DocumentData) (past : List Act) (c : Choice) (n t : ℕ) → IsOne (ask_row d past c n t) (ask_row d past calm n t)
+one-ask : (d : DocumentData) (past : List Act) (c : Choice) (n t : ℕ) → IsOne past (ask_row d past c n t) (ask_row d past calm n t)
 one-ask d past c n t =
     let os : List Out = ask_outs (view d past n) t in
-    one-if (node d past n).up (or_void 6 os (acts_of past c n os)) (act.Void 6 ∷ []) (or_void 6 os (acts_of past calm n os)) (act.Void 6 ∷ []) (one-or_void 6 os (acts_of past c n os) (acts_of past calm n os) (one-acts past c n 1 0 os (counts-ask (view d past n) t))) (one-same (act.Void 6 ∷ []) refl)
+    one-if past (node d past n).up (or_void 6 os (acts_of past c n os)) (act.Void 6 ∷ []) (or_void 6 os (acts_of past calm n os)) (act.Void 6 ∷ []) (one-or_void past 6 os (acts_of past c n os) (acts_of past calm n os) (one-acts past c n 1 0 os (counts-ask (view d past n) t))) (one-same past (act.Void 6 ∷ []) refl)
 
-one-row : (d : DocumentData) (past : List Act) (i : Item) (c : Choice) → is_played i ≡ true → IsOne (row d past i c) (row d past i calm)
+lost-unset : (acts : List Act) → are_lost acts ≡ true → are_unset acts ≡ true
+lost-unset [] e = refl
+lost-unset (act.Lost t ∷ acts) e = lost-unset acts e
+lost-unset (a ∷ acts) e = cc
+
+-- no record is in doubt, so that nothing is to be found
+same-flag : (o : Option Record) (finds : Bool) → o ≡ None → flag_of o finds ≡ flag_of o false
+same-flag None finds e = refl
+same-flag (Some x) finds e = cc
+
+one-opened : (d : DocumentData) (past : List Act) (n : ℕ) (opens finds : Bool) → IsOne past (if opens then opened_row d past n (flag_of (node d past n).doubt finds) else act.StillDown n ∷ []) (opened_row d past n (flag_of (node d past n).doubt false))
+one-opened d past n true finds = record {
+  unset = lost-unset (losses d (act.Up n (flag_of (node d past n).doubt finds) ∷ past) n) (losses-lost d (act.Up n (flag_of (node d past n).doubt finds) ∷ past) n);
+  same = λ before quiet. ap (opened_row d past n) (same-flag (node d past n).doubt finds (undoubted d past n before));
+}
+one-opened d past n false finds = record { unset = refl; same = λ before quiet. cc }
+
+one-row : (d : DocumentData) (past : List Act) (i : Item) (c : Choice) → is_unfused i ≡ true → IsOne past (row d past i c) (row d past i calm)
 one-row d past (item.Begin t) c e = one-begin d past c (story d past t) (script_of t d.scripts)
 one-row d past (item.Deliver m) c e = one-deliver d past c m (sent_at m (sent past))
-one-row d past (item.Drop m) c e = one-drop m (sent_at m (sent past))
+one-row d past (item.Drop m) c e = one-drop past m (sent_at m (sent past))
 one-row d past (item.Next k) c e = one-next d past c (next_left past)
 one-row d past (item.Retry t) c e = one-retry d past c t (script_of t d.scripts)
 one-row d past (item.Ask n t) c e = one-ask d past c n t
-one-row d past (item.Crash n how) c e = cc
+one-row d past (item.Crash n how) c e = one-if past (node d past n).up (act.Down n None ∷ []) (act.Void 7 ∷ []) (act.Down n None ∷ []) (act.Void 7 ∷ []) (one-same past (act.Down n None ∷ []) refl) (one-same past (act.Void 7 ∷ []) refl)
 one-row d past (item.Fuse n k how) c e = cc
-one-row d past (item.Restart n) c e = cc
+one-row d past (item.Restart n) c e = one-if past (node d past n).up (act.Void 8 ∷ []) (if c.opens then opened_row d past n (flag_of (node d past n).doubt c.finds) else act.StillDown n ∷ []) (act.Void 8 ∷ []) (opened_row d past n (flag_of (node d past n).doubt false)) (one-same past (act.Void 8 ∷ []) refl) (one-opened d past n c.opens c.finds)
 
 -- ---- no stop without a fault
 
@@ -223,18 +240,19 @@ calm-second (x ∷ xs) ys e = calm-second xs ys (rest-true (is_calm x) (are_calm
 
 -- ---- the rows
 
-rows-unset : (d : DocumentData) (past : List Act) (es : List Item) (h : List Act) → list_all is_played es ≡ true → Rows d past es h → are_unset h ≡ true
+rows-unset : (d : DocumentData) (past : List Act) (es : List Item) (h : List Act) → list_all is_unfused es ≡ true → Rows d past es h → are_unset h ≡ true
 unfolding Rows
 rows-unset d past [] h e r = rw r refl
-rows-unset d past (x ∷ es) h e (c, rest, is, more) = rw is (unset-append (row d past x c) rest (one-row d past x c (first-true (is_played x) (list_all is_played es) e)).unset (rows-unset d (after past (row d past x c)) es rest (rest-true (is_played x) (list_all is_played es) e) more))
+rows-unset d past (x ∷ es) h e (c, rest, is, more) = rw is (unset-append (row d past x c) rest (one-row d past x c (first-true (is_unfused x) (list_all is_unfused es) e)).unset (rows-unset d (after past (row d past x c)) es rest (rest-true (is_unfused x) (list_all is_unfused es) e) more))
 
-rows-one : (d : DocumentData) (past : List Act) (es : List Item) (h : List Act) → list_all is_played es ≡ true → Rows d past es h → are_calm h ≡ true → h ≡ plays d past es
+rows-one : (d : DocumentData) (past : List Act) (es : List Item) (h : List Act) → list_all is_unfused es ≡ true → Rows d past es h → are_calm past ≡ true → are_calm h ≡ true → h ≡ plays d past es
 unfolding Rows
-rows-one d past [] h e r quiet = r
-rows-one d past (x ∷ es) h e (c, rest, is, more) quiet =
+rows-one d past [] h e r before quiet = r
+rows-one d past (x ∷ es) h e (c, rest, is, more) before quiet =
     let both : are_calm (row d past x c ++ rest) ≡ true = subst (λ z. are_calm z ≡ true) is quiet in
-    let here : row d past x c ≡ played d past x = (one-row d past x c (first-true (is_played x) (list_all is_played es) e)).same (calm-first (row d past x c) rest both) ∙ sym (played-row d past x (first-true (is_played x) (list_all is_played es) e)) in
-    let behind : rest ≡ plays d (after past (row d past x c)) es = rows-one d (after past (row d past x c)) es rest (rest-true (is_played x) (list_all is_played es) e) more (calm-second (row d past x c) rest both) in
+    let now : are_calm (row d past x c) ≡ true = calm-first (row d past x c) rest both in
+    let here : row d past x c ≡ played d past x = (one-row d past x c (first-true (is_unfused x) (list_all is_unfused es) e)).same before now in
+    let behind : rest ≡ plays d (after past (row d past x c)) es = rows-one d (after past (row d past x c)) es rest (rest-true (is_unfused x) (list_all is_unfused es) e) more (calm-after past (row d past x c) before now) (calm-second (row d past x c) rest both) in
     is ∙ ap (λ z. row d past x c ++ z) behind ∙ ap (λ z. z ++ plays d (after past z) es) here
 
 -- ---- the start
@@ -261,19 +279,19 @@ start-one opens (n ∷ ns) e = one-start (opens n) n (map (start_act opens) ns) 
 abbrev the_run : DocumentData → List Act
 the_run d = start_row d.cluster.nodes (λ n. true) ++ plays d (after [] (start_row d.cluster.nodes (λ n. true))) (flat_map events_in d.items)
 
-is-the_run : (d : DocumentData) (h : List Act) → AreStopless d.items → Lawful d h (λ n. 0) → h ≡ the_run d
-is-the_run d h stopless l =
+is-the_run : (d : DocumentData) (h : List Act) → AreUnfused d.items → Lawful d h (λ n. 0) → h ≡ the_run d
+is-the_run d h unfused l =
     let start : List Act = start_row d.cluster.nodes l.run.opens in
-    let played : list_all is_played (flat_map events_in d.items) ≡ true = played-all d.items stopless in
-    let unset : are_unset h ≡ true = rw l.run.start (unset-append start l.run.rest (start-unset l.run.opens (range_with_len 1 d.cluster.nodes)) (rows-unset d (after [] start) (flat_map events_in d.items) l.run.rest played l.run.rows)) in
+    let events : list_all is_unfused (flat_map events_in d.items) ≡ true = unfused-all d.items unfused in
+    let unset : are_unset h ≡ true = rw l.run.start (unset-append start l.run.rest (start-unset l.run.opens (range_with_len 1 d.cluster.nodes)) (rows-unset d (after [] start) (flat_map events_in d.items) l.run.rest events l.run.rows)) in
     let quiet : are_calm h ≡ true = calm-acts [] h (calm-past d (after [] h) (unset-after [] h refl unset) (λ n. (l.stops n).most)) in
     let both : are_calm (start ++ l.run.rest) ≡ true = subst (λ z. are_calm z ≡ true) l.run.start quiet in
     let opened : start ≡ start_row d.cluster.nodes (λ n. true) = start-one l.run.opens (range_with_len 1 d.cluster.nodes) (calm-first start l.run.rest both) in
-    let rest : l.run.rest ≡ plays d (after [] start) (flat_map events_in d.items) = rows-one d (after [] start) (flat_map events_in d.items) l.run.rest played l.run.rows (calm-second start l.run.rest both) in
+    let rest : l.run.rest ≡ plays d (after [] start) (flat_map events_in d.items) = rows-one d (after [] start) (flat_map events_in d.items) l.run.rest events l.run.rows (calm-after [] start refl (calm-first start l.run.rest both)) (calm-second start l.run.rest both) in
     l.run.start ∙ ap (λ z. start ++ z) rest ∙ ap (λ z. z ++ plays d (after [] z) (flat_map events_in d.items)) opened
 
-pub some-run : (d : DocumentData) → AreStopless d.items → (h : List Act) × Lawful d h (λ n. 0)
-some-run d stopless = (the_run d, lawful-plays d (the_run d) refl stopless)
+pub some-run : (d : DocumentData) → AreUnfused d.items → (h : List Act) × Lawful d h (λ n. 0)
+some-run d unfused = (the_run d, lawful-plays d (the_run d) refl unfused)
 
-pub one-run : (d : DocumentData) (h h' : List Act) → AreStopless d.items → Lawful d h (λ n. 0) → Lawful d h' (λ n. 0) → h ≡ h'
-one-run d h h' stopless l l' = is-the_run d h stopless l ∙ sym (is-the_run d h' stopless l')
+pub one-run : (d : DocumentData) (h h' : List Act) → AreUnfused d.items → Lawful d h (λ n. 0) → Lawful d h' (λ n. 0) → h ≡ h'
+one-run d h h' unfused l l' = is-the_run d h unfused l ∙ sym (is-the_run d h' unfused l')

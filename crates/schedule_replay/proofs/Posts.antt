@@ -1,8 +1,6 @@
 -- What acts add: the messages that they send and the reads that they hold, act by act.
-use Rattle.std.proofs.Common.{◌≡◌, ℕ, ◌+◌, ◌*◌, ◌≤◌, ◌&&◌, ◌==◌, Bool, true, false, List, [], ◌∷◌, ◌++◌, length, length-append, refl, sym, ap, ◌∙◌, Option, Some, None, arith, if◌then◌else◌}
-use Rattle.score_base.specs.declared.ids.Ident.{Ident}
+use Rattle.std.proofs.Common.{◌≡◌, ℕ, ◌+◌, ◌≤◌, ◌==◌, Bool, true, false, List, [], ◌∷◌, length, length-append, refl, ap, ◌∙◌, Option, Some, None, arith, if◌then◌else◌}
 use Rattle.score_base.specs.declared.keys.Key.{Key}
-use Rattle.score_base.specs.declared.records.Record.{Record}
 use Rattle.score_base.specs.declared.records.Record.TheVariants as record'
 use Rattle.grid_model.specs.declared.acts.Act.{Act}
 use Rattle.grid_model.specs.declared.acts.Act.TheVariants as act
@@ -12,7 +10,7 @@ use Rattle.grid_model.specs.declared.messages.Envelope.{Envelope}
 use Rattle.grid_model.specs.declared.stories.HeldRead.{HeldRead}
 use Rattle.grid_model.specs.Documents.{DocumentData}
 use Rattle.grid_model.specs.Histories.{after, sent}
-use Rattle.grid_model.specs.Nodes.{Node, node, got, Change, Nothing, Writes, Raises, Holds, Frees, Stops, Starts, Stays, where_at, change, changed, with_held, without_read, is_read, freed, held_by, is_request, said_by, is_home, prepared_by, parts_in, script_of, doubt_of, is_kept}
+use Rattle.grid_model.specs.Nodes.{Node, node, got, Change, Writes, Raises, Holds, Stops, Starts, Stays, where_at, change, changed, with_held, without_read, is_read, freed, held_by, is_request, said_by, is_home, prepared_by, parts_in, script_of, doubt_of, is_kept}
 use Rattle.grid_model.specs.Schedules.{numbered}
 use Rattle.schedule_replay.specs.Numbering.{sends}
 use Rattle.schedule_replay.proofs.Counts.{helds, is_own, are_own, Counts}

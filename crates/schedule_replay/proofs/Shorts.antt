@@ -1,6 +1,5 @@
 -- A Decided that stands has at most 16 parts: they are those of a script.
-use Rattle.std.proofs.Common.{◌≡◌, ℕ, ◌≤◌, ◌&&◌, ◌==◌, Bool, true, false, List, [], ◌∷◌, length, refl, sym, ap, Option, Some, None, arith, if◌then◌else◌}
-use Rattle.score_base.specs.declared.ids.Ident.{Ident}
+use Rattle.std.proofs.Common.{◌≡◌, ℕ, ◌≤◌, ◌==◌, Bool, true, false, List, [], ◌∷◌, length, refl, Option, Some, None, arith, if◌then◌else◌}
 use Rattle.score_base.specs.declared.records.Record.{Record}
 use Rattle.score_base.specs.declared.records.Record.TheVariants as record'
 use Rattle.script_lang.specs.Scripts.{ScriptData}
@@ -12,11 +11,10 @@ use Rattle.grid_model.specs.declared.acts.Head.TheVariants as head
 use Rattle.grid_model.specs.declared.messages.Envelope.{Envelope}
 use Rattle.grid_model.specs.declared.messages.Message.{Message}
 use Rattle.grid_model.specs.declared.messages.Message.TheVariants as message
-use Rattle.grid_model.specs.declared.stories.Story.{Story}
 use Rattle.grid_model.specs.Documents.{DocumentData}
 use Rattle.grid_model.specs.Journals.{Decision, decision, is_closed, undone}
-use Rattle.grid_model.specs.Nodes.{Node, node, got, Change, Writes, Stops, Starts, where_at, change, changed, freed, written, found, prepared_by, prepared_from, record_of, doubt_of, parts_in, parts_of, script_of, is_home, is_kept, is_request, said_by}
-use Rattle.grid_model.specs.Views.{Open, Stage, stage_by, open_stage}
+use Rattle.grid_model.specs.Nodes.{Node, node, got, Change, Writes, Stops, Starts, where_at, change, changed, freed, written, found, prepared_by, prepared_from, record_of, doubt_of, parts_in, script_of, is_home, is_kept, is_request, said_by}
+use Rattle.grid_model.specs.Views.{Open, stage_by, open_stage}
 use Rattle.grid_model.specs.Stories.{waiting}
 use Rattle.schedule_replay.proofs.Counts.{IsShort, parts-short}
 

@@ -15,22 +15,17 @@ use Rattle.grid_model.specs.Schedules.{Choice, row}
 abbrev pub calm : Choice
 calm = record { keeps = true; opens = true; finds = false }
 
--- an item that is played: all but stops, fuses and restarts
-abbrev pub is_played : Item → Bool
-is_played (item.Crash n how) = false
-is_played (item.Fuse n k how) = false
-is_played (item.Restart n) = false
-is_played i = true
+-- an item that sets no fuse
+abbrev pub is_unfused : Item → Bool
+is_unfused (item.Fuse n k how) = false
+is_unfused i = true
 
--- no item of the schedule stops a node, sets a fuse or opens a node again
-abbrev pub AreStopless : List Item → Type 0
-AreStopless items = IsTrue (list_all is_played items)
+-- no item of the schedule sets a fuse
+abbrev pub AreUnfused : List Item → Type 0
+AreUnfused items = IsTrue (list_all is_unfused items)
 
--- the acts of an event: its row, or nothing where it is not played
+-- the acts of an event where no disk fails
 abbrev pub played : DocumentData → List Act → Item → List Act
-played d past (item.Crash n how) = []
-played d past (item.Fuse n k how) = []
-played d past (item.Restart n) = []
 played d past i = row d past i calm
 
 -- the acts of these events, one behind the other
@@ -39,10 +34,10 @@ plays d past [] = []
 plays d past (e ∷ es) = played d past e ++ plays d (after past (played d past e)) es
 
 -- Behind k events few messages were sent and few reads are held: an event sends at most 16 messages
--- beside the answers to the reads that its node holds, and holds at most one read. 50,017 is the most
+-- beside the answers to the reads that its node holds, and holds at most one read. 50,016 is the most
 -- that one of 50,000 events can send.
 pub record IsFew (d : DocumentData) (past : List Act) (k : ℕ) : Type 0 where
-  pub sent_few : length (sent past) ≤ 50017 * k
+  pub sent_few : length (sent past) ≤ 50016 * k
   pub held_few : (n : NodeId) → length (node d past n).held ≤ k
 
 -- behind this past, so many events more are at most 50,000 in all

@@ -14,6 +14,7 @@ mod numbering;
 mod outs;
 mod readers;
 mod replays;
+mod restarts;
 mod schedule;
 mod stages;
 mod trails;

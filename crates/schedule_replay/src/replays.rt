@@ -2,9 +2,9 @@
 ghost use Rattle.std.specs.Prelude.{◌≡◌, ◌++◌, true, replicate, length, IfOk};
 ghost use Rattle.grid_model.specs.Documents.{events_of};
 ghost use Rattle.grid_model.specs.Schedules.{start_row, events_in};
-ghost use Rattle.grid_model.specs.Runs.{Lawful};
+ghost use Rattle.grid_model.specs.Runs.{IsRun, Lawful};
 ghost use Rattle.run_state.specs.Kept.{past};
-ghost use Rattle.schedule_replay.specs.Replays.{HasRoom, AreStopless, played, plays};
+ghost use Rattle.schedule_replay.specs.Replays.{HasRoom, AreUnfused, played, plays};
 
 use crate::schedule::row;
 use grid_model::{Act, Document, Flag, Item};
@@ -60,10 +60,11 @@ fn play_item<'a>(alloc: Global, run: RunState<'a>, item: Item) -> Result<RunStat
     }
 }
 
-/// The acts of a document's run: where no item of its schedule stops a node, sets a fuse or opens a
-/// node again, they are a lawful run in which no disk fails.
+/// The acts of a document's run in which no disk fails. Where the schedule sets no fuse they are a
+/// lawful run without a fault.
 pub fn replay(alloc: Global, doc: &Document) -> Result<Vec<Act>, Memory>
-    ensures { IfOk result (λ acts. AreStopless doc.now.items → Lawful doc.now acts.items (λ n. 0)) }
+    ensures run { IfOk result (λ acts. IsRun doc.now doc.now.items acts.items) }
+    ensures lawful { IfOk result (λ acts. AreUnfused doc.now.items → Lawful doc.now acts.items (λ n. 0)) }
 {
     let start = start_row(alloc, doc.cluster())?;
     let mut run = RunState::new(alloc, doc)?.keep_all(alloc, start)?;

@@ -3,26 +3,18 @@ ghost use Rattle.std.specs.Prelude.{◌≡◌, ◌≤◌, ◌<◌, ◌+◌, ◌^
 ghost use Rattle.grid_model.specs.Histories.{sent, sent_at};
 ghost use Rattle.grid_model.specs.Nodes.{node, script_of};
 ghost use Rattle.grid_model.specs.Stories.{story};
-ghost use Rattle.grid_model.specs.Schedules.{next_left, or_void, acts_of, begin_row, deliver_row, drop_row, next_row, retry_at, ask_row};
+ghost use Rattle.grid_model.specs.Schedules.{next_left, or_void, acts_of, begin_row, deliver_row, drop_row, next_row, retry_at, ask_row, crash_row};
 ghost use Rattle.run_state.specs.Kept.{past};
 ghost use Rattle.schedule_replay.specs.Numbering.{sends};
 ghost use Rattle.schedule_replay.specs.Replays.{HasRoom, calm, played};
 
 use crate::numbering::number_all;
 use crate::outs::{outs_at_ask, outs_at_begin, outs_at_delivery, outs_at_retry};
+use crate::restarts::{only, restart_row};
 use grid_model::{Act, Item, Out};
 use run_state::{RunState, script_of};
-use score_base::{Memory, NodeId, TxId, push};
+use score_base::{Memory, NodeId, TxId};
 use std::alloc::Global;
-
-/// A list of one act.
-fn only(alloc: Global, act: Act) -> Result<Vec<Act>, Memory>
-    ensures { IfOk result (λ acts. acts.items ≡ act ∷ []) }
-{
-    let mut acts = Vec::new(alloc);
-    push(&mut acts, act)?;
-    Ok(acts)
-}
 
 /// These acts, and behind them the acts of a node with these outs.
 fn acts_of(run: &RunState, first: Vec<Act>, n: NodeId, outs: Vec<Out>) -> Result<Vec<Act>, Memory>
@@ -148,7 +140,17 @@ fn ask_row(alloc: Global, run: &RunState, n: NodeId, t: TxId) -> Result<Vec<Act>
     acts_or_void(alloc, run, 6, n, outs)
 }
 
-/// The acts of an event. Stops, fuses and restarts are not played.
+/// The row of `crash`.
+fn crash_row(alloc: Global, run: &RunState, n: NodeId) -> Result<Vec<Act>, Memory>
+    ensures { IfOk result (λ acts. acts.items ≡ crash_row run.now.doc (past run.now) n) }
+{
+    if run.node(n).up {
+        return only(alloc, Act::Down(n, None));
+    }
+    only(alloc, Act::Void(7))
+}
+
+/// The acts of an event where no disk fails.
 pub fn row(alloc: Global, run: &RunState, item: Item) -> Result<Vec<Act>, Memory>
     requires { HasRoom run.now.doc (past run.now) 1 }
     ensures { IfOk result (λ acts. acts.items ≡ played run.now.doc (past run.now) item) }
@@ -160,6 +162,8 @@ pub fn row(alloc: Global, run: &RunState, item: Item) -> Result<Vec<Act>, Memory
         Item::Next(_) => next_row(alloc, run),
         Item::Retry(t) => retry_row(alloc, run, t),
         Item::Ask(n, t) => ask_row(alloc, run, n, t),
-        _ => Ok(Vec::new(alloc)),
+        Item::Crash(n, _) => crash_row(alloc, run, n),
+        Item::Fuse(n, k, how) => only(alloc, Act::Armed(n, k, how)),
+        Item::Restart(n) => restart_row(alloc, run, n),
     }
 }

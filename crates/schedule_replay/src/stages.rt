@@ -64,7 +64,7 @@ pub fn parts_now(alloc: Global, cluster: &Cluster, tx: &Open) -> Result<NodeList
 }
 
 /// Whether a transaction is reading or collecting.
-fn is_open(node: &PlainNode, script: &Script, story: &Story) -> bool
+pub fn is_open(node: &PlainNode, script: &Script, story: &Story) -> bool
     ensures { result ≡ is_open (phase_at script.now (Some story.now) node.now) }
 {
     if story.lost || story.aborted || (story.finished && !is_update(script.ops())) {

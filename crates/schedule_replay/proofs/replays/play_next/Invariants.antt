@@ -1,4 +1,4 @@
-use Rattle.std.proofs.Common.{◌≡◌, ◌+◌, ◌-◌, ◌≤◌, ◌++◌, replicate}
+use Rattle.std.proofs.Common.{◌≡◌, ◌-◌, ◌++◌, replicate}
 use Rattle.grid_model.specs.declared.items.Item.TheVariants as item
 use Rattle.run_state.specs.Kept.{past}
 use Rattle.schedule_replay.specs.Replays.{HasRoom, plays}

@@ -1,4 +1,4 @@
-use Rattle.std.proofs.Common.{◌≡◌, ◌+◌, ◌-◌, ◌≤◌, ◌++◌, drop, [], true}
+use Rattle.std.proofs.Common.{◌≡◌, ◌++◌, drop, [], true}
 use Rattle.std.specs.Prelude.{sum_by}
 use Rattle.std.specs.List.{flat_map}
 use Rattle.grid_model.specs.Documents.{events_of}
