@@ -21,8 +21,9 @@ use Rattle.placement.specs.Places.{are_distinct}
 use Rattle.grid_model.specs.declared.items.Item.TheVariants as item
 use Rattle.cluster_file.specs.declared.drafts.Draft.{Draft}
 use Rattle.cluster_file.specs.declared.drafts.Part.TheVariants as part
-use Rattle.cluster_file.specs.Reading.{◌>>=◌, number_at, in_range, steps}
-use Rattle.cluster_file.specs.Lines.{node_of, key_of, tx_of, is_known, is_taken, with_key, with_number, name_key, name_new_key, new_number, known_number, nodes_line, new_node, node_step, is_next, partition_line, init_line, tx_line, read_line, end_line, with_item, begin_line, deliver_line, drop_line, more_events, next_line}
+use Rattle.script_lang.specs.Reading.{◌>>=◌, number_at, in_range, steps}
+use Rattle.cluster_file.specs.Lines.{is_known, is_taken, with_key, with_number, name_key, name_new_key, new_number, known_number, nodes_line, new_node, node_step, is_next, partition_line, init_line, tx_line, read_line, end_line, with_item, begin_line, deliver_line, drop_line, more_events, next_line}
+use Rattle.script_lang.specs.Words.{node_of, key_of, tx_of}
 use Rattle.cluster_file.specs.Doc.{blank}
 use Rattle.cluster_file.specs.Spelling.{is_node, is_tx, node_word}
 use Rattle.cluster_file.proofs.Bools.{and_parts}

@@ -24,8 +24,9 @@ use Rattle.grid_model.specs.declared.items.Item.TheVariants as item
 use Rattle.cluster_file.specs.declared.drafts.Draft.{Draft}
 use Rattle.cluster_file.specs.declared.drafts.Part.{Part}
 use Rattle.cluster_file.specs.declared.drafts.Part.TheVariants as part
-use Rattle.cluster_file.specs.Reading.{is_word, word_at, end_at, number_at, in_range, steps}
-use Rattle.cluster_file.specs.Lines.{node_of, node_in, key_of, tx_of, is_known, is_taken, with_key, name_key, name_new_key, new_number, known_number, nodes_line, new_node, node_step, is_next, partition_line, init_line, tx_line, read_line, end_line, schedule_line, with_item, begin_line, deliver_line, drop_line, more_events, next_line, script_line, later_line, init_or_later, is_later_item, item_line, part_line, line_in, words_line, is_printed, line_of}
+use Rattle.script_lang.specs.Reading.{is_word, word_at, end_at, number_at, in_range, steps}
+use Rattle.cluster_file.specs.Lines.{is_known, is_taken, with_key, name_key, name_new_key, new_number, known_number, nodes_line, new_node, node_step, is_next, partition_line, init_line, tx_line, read_line, end_line, schedule_line, with_item, begin_line, deliver_line, drop_line, more_events, next_line, script_line, later_line, init_or_later, is_later_item, item_line, part_line, line_in, words_line, line_of}
+use Rattle.script_lang.specs.Words.{node_of, node_in, key_of, tx_of, is_printed}
 use Rattle.cluster_file.specs.Doc.{close, is_whole, pieces_from, at_line, blank, document_of}
 use Rattle.cluster_file.proofs.Bools.{and_parts}
 use Rattle.cluster_file.proofs.Members.{among_numbers, among_keys, distinct_more}

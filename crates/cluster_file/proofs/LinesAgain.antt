@@ -26,7 +26,7 @@ use Rattle.grid_model.specs.declared.items.Item.TheVariants as item
 use Rattle.cluster_file.specs.declared.drafts.Draft.{Draft}
 use Rattle.cluster_file.specs.declared.drafts.Part.{Part}
 use Rattle.cluster_file.specs.declared.drafts.Part.TheVariants as part
-use Rattle.cluster_file.specs.Reading.{◌>>=◌}
+use Rattle.script_lang.specs.Reading.{◌>>=◌}
 use Rattle.cluster_file.specs.Lines.{words_line, init_line, tx_line, schedule_line}
 use Rattle.cluster_file.specs.Doc.{blank}
 use Rattle.cluster_file.specs.Spelling.{IsBuilt, IsInRange, is_built_op, is_built_item, is_node, is_tx, is_init_in_range, has_key, is_script_in_range, is_item_in_range, node_word, nodes_words, partition_words, init_words, tx_words, op_words, item_words, partition_lines, script_lines, document_lines}

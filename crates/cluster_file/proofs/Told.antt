@@ -17,8 +17,9 @@ use Rattle.grid_model.specs.declared.items.Item.TheVariants as item
 use Rattle.cluster_file.specs.declared.drafts.Draft.{Draft}
 use Rattle.cluster_file.specs.declared.drafts.Part.{Part}
 use Rattle.cluster_file.specs.declared.drafts.Part.TheVariants as part
-use Rattle.cluster_file.specs.Reading.{◌>>=◌, is_word, word_at, end_at, or_why, number_at, in_range, steps}
-use Rattle.cluster_file.specs.Lines.{node_of, node_in, key_of, tx_of, tx_in, name_key, name_new_key, new_number, known_number, nodes_line, new_node, node_step, is_next, partition_line, init_line, tx_line, read_line, end_line, schedule_line, with_item, begin_line, deliver_line, drop_line, more_events, next_line, script_line, later_line, init_or_later, is_later_item, item_line, part_line, line_in, words_line}
+use Rattle.script_lang.specs.Reading.{◌>>=◌, is_word, word_at, end_at, or_why, number_at, in_range, steps}
+use Rattle.cluster_file.specs.Lines.{name_key, name_new_key, new_number, known_number, nodes_line, new_node, node_step, is_next, partition_line, init_line, tx_line, read_line, end_line, schedule_line, with_item, begin_line, deliver_line, drop_line, more_events, next_line, script_line, later_line, init_or_later, is_later_item, item_line, part_line, line_in, words_line}
+use Rattle.script_lang.specs.Words.{node_of, node_in, key_of, tx_of, tx_in}
 use Rattle.cluster_file.specs.Doc.{blank}
 use Rattle.cluster_file.specs.Spelling.{is_node, is_tx, is_init_in_range, is_script_in_range, is_item_in_range, has_key, is_built_op, is_built_item, node_word, nodes_words, partition_words, init_words, tx_words, op_words, item_words, partition_lines, script_lines}
 use Rattle.cluster_file.proofs.Bools.{and_parts}

@@ -15,7 +15,6 @@ mod lines;
 #[cfg(test)]
 mod tests;
 mod whys;
-mod words;
 
 pub use documents::read_document;
 pub use laws::law_one_spelling;
