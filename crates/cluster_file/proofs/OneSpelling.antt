@@ -111,6 +111,6 @@ spelled bytes d h = by (pieces_from blank 1 (slice_split (λ b. b == 10) bytes))
           bytes_are = sym (join_with_byte-slice_split 10 bytes) ∙ sym told.0 ∙ ap (flat_map line) (whole_lines e whole);
           document = IsDocument-from_pieces (slice_split (λ b. b == 10) bytes) e read;
           ranges = record { places = told.1.places; inits = told.1.inits; scripts = told.1.scripts; items = told.1.items };
-          built = record { ops = told.1.ops; items = told.1.built };
+          built = record { items = told.1.built };
         })
     by (Err w) read told whole same = cc

@@ -2,8 +2,8 @@
 --
 -- The whys: 1 a first word that cannot stand there, or a word too many; 2 no number; 3 no node of the
 -- cluster; 4 not the next partition; 5 no key; 6 no transaction; 7 a key that was not read before; 8 a
--- repeat; 9 past a limit; 10 a word too few; 11 a byte that is not printed; 12 a form that is not read yet.
-use Rattle.std.specs.Prelude.{ℕ, ◌+◌, ◌==◌, ◌&&◌, ◌||◌, nat_le, Bool, List, [], ◌∷◌, ◌++◌, length, Option, Some, None, Result, Ok, Err, if◌then◌else◌, codes}
+-- repeat; 9 past a limit; 10 a word too few; 11 a byte that is not printed; 12 an item that is not read yet.
+use Rattle.std.specs.Prelude.{ℕ, ◌+◌, ◌==◌, ◌||◌, nat_le, Bool, List, [], ◌∷◌, ◌++◌, length, Option, Some, None, Result, Ok, Err, if◌then◌else◌, codes}
 use Rattle.std.specs.List.{slice_split, list_any, list_all}
 use Rattle.std.specs.Ordering.{nat_cmp}
 use Rattle.std.specs.Cmp.Lexicographic.{slice_cmp}
@@ -11,8 +11,7 @@ use Rattle.std.specs.BTreeSet.{BTreeSet, insert_key}
 use Rattle.score_base.specs.declared.keys.Key.{Key}
 use Rattle.score_base.specs.declared.ids.NodeId.{NodeId}
 use Rattle.score_base.specs.declared.ids.TxId.{TxId}
-use Rattle.score_base.specs.Keys.{is_key, same_key}
-use Rattle.score_base.specs.Numbers.{number}
+use Rattle.score_base.specs.Keys.{same_key}
 use Rattle.script_lang.specs.Scripts.{ScriptData}
 use Rattle.script_lang.specs.declared.scripts.Op.TheVariants as op
 use Rattle.grid_model.specs.declared.items.Item.{Item}

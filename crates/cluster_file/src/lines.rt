@@ -9,7 +9,8 @@ use grid_model::Item;
 use score_base::{Key, Memory, NodeId, NodeList, TxId, Value};
 use script_lang::expr_words::read_expr;
 use script_lang::words::{
-    NodeCount, are_printed, end_at, in_range, is_word, key_of, node_of, number_at, pieces, tx_of, word_at,
+    NodeCount, are_printed, end_at, in_range, is_word, key_of, node_of, number_at, pieces, tx_of,
+    word_at,
 };
 use script_lang::{LineEnd, ScriptDraft};
 use std::alloc::Global;
@@ -217,10 +218,10 @@ fn write_line(
         return Err(LineEnd::Why(9));
     }
     let (word, rest) = word_at(words)?;
-    let key = key_of(word)?;
-    name_key(&mut draft.known, key)?;
+    let target = key_of(word)?;
+    name_key(&mut draft.known, target)?;
     let expr = read_expr(alloc, script.ops(), rest)?;
-    script.push_write(key, expr)?;
+    script.push_write(target, expr)?;
     draft.script = Some(script);
     Ok(draft)
 }
