@@ -99,6 +99,7 @@ is_tx t = nat_le 1 t && nat_le t 65535
 abbrev pub is_init_in_range : Key × Value → Bool
 is_init_in_range x = is_key x.0 && nat_lt x.1 (2 ^ 64)
 
+-- the key is one, and so is each key of the expression, whose numbers are below 2^64
 abbrev pub has_key : Op → Bool
 has_key (op.Read k) = is_key k
 has_key (op.Write k e) = is_key k && is_plain_expr e
