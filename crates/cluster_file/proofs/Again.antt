@@ -16,13 +16,20 @@ use Rattle.score_base.specs.declared.ids.Value.{Value}
 use Rattle.score_base.specs.Keys.{is_key}
 use Rattle.score_base.proofs.Spelling.{number-decimal}
 use Rattle.script_lang.specs.Scripts.{ScriptData}
+use Rattle.script_lang.specs.declared.exprs.Expr.{Expr}
 use Rattle.script_lang.specs.declared.scripts.Op.TheVariants as op
+use Rattle.script_lang.specs.Exprs.{is_expr_among}
+use Rattle.script_lang.specs.Reads.{known_keys}
+use Rattle.script_lang.specs.ExprWords.{expr_of}
+use Rattle.script_lang.specs.Spelling.{expr_words, is_plain_expr}
+use Rattle.script_lang.proofs.StepsRead.{expr_again}
 use Rattle.placement.specs.Places.{are_distinct}
 use Rattle.grid_model.specs.declared.items.Item.TheVariants as item
 use Rattle.cluster_file.specs.declared.drafts.Draft.{Draft}
 use Rattle.cluster_file.specs.declared.drafts.Part.TheVariants as part
-use Rattle.cluster_file.specs.Reading.{◌>>=◌, number_at, in_range, steps}
-use Rattle.cluster_file.specs.Lines.{node_of, key_of, tx_of, is_known, is_taken, with_key, with_number, name_key, name_new_key, new_number, known_number, nodes_line, new_node, node_step, is_next, partition_line, init_line, tx_line, read_line, end_line, with_item, begin_line, deliver_line, drop_line, more_events, next_line}
+use Rattle.script_lang.specs.Reading.{◌>>=◌, number_at, in_range, steps}
+use Rattle.cluster_file.specs.Lines.{is_known, is_taken, with_key, with_number, name_key, name_new_key, new_number, known_number, nodes_line, new_node, node_step, is_next, partition_line, init_line, tx_line, read_line, write_line, end_line, with_item, begin_line, deliver_line, drop_line, more_events, next_line}
+use Rattle.script_lang.specs.Words.{node_of, key_of, tx_of}
 use Rattle.cluster_file.specs.Doc.{blank}
 use Rattle.cluster_file.specs.Spelling.{is_node, is_tx, node_word}
 use Rattle.cluster_file.proofs.Bools.{and_parts}
@@ -128,6 +135,15 @@ read_line_again d s k room few is =
     passes (nat_le 32 (length s.ops)) _ _ _ less
     (goes (key_of k) _ k _ (key_again k is)
     (goes (name_key d.known k) _ (with_key d.known k) _ (name_again d.known k few) refl))
+
+pub write_line_again : (d : Draft) (s : ScriptData) (k : Key) (e : Expr) → length s.ops < 32 → length (insert_key (slice_cmp nat_cmp) d.known.keys k) ≤ 4096 → is_key k ≡ true → is_plain_expr e ≡ true → is_expr_among (known_keys s.ops) e ≡ true → write_line d s (k ∷ expr_words e) ≡ Ok (record d { script = Some (record s { ops = s.ops ++ op.Write k e ∷ [] }); known = with_key d.known k })
+unfolding write_line
+write_line_again d s k e room few is plain among =
+    let less : nat_le 32 (length s.ops) ≡ false = grind (arith, nat_tests, room) in
+    passes (nat_le 32 (length s.ops)) _ _ _ less
+    (goes (key_of k) _ k _ (key_again k is)
+    (goes (name_key d.known k) _ (with_key d.known k) _ (name_again d.known k few)
+    (goes (expr_of (known_keys s.ops) (expr_words e)) _ e _ (expr_again (known_keys s.ops) e among plain) refl)))
 
 pub end_line_again : (d : Draft) (s : ScriptData) → 1 ≤ length s.ops → end_line d s [] ≡ Ok (record d { scripts = d.scripts ++ s ∷ []; script = None })
 unfolding end_line

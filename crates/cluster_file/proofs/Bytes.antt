@@ -10,7 +10,7 @@ use Rattle.std.proofs.lemmas.List.Elements.{All-cons, All-nil}
 use Rattle.std.proofs.lemmas.List.Folds.{list_all-append}
 use Rattle.std.proofs.lemmas.List.Splits.{slice_split_none, slice_split_at}
 use Rattle.score_base.specs.Keys.{is_key, is_key_byte, is_digit}
-use Rattle.cluster_file.specs.Lines.{is_printed}
+use Rattle.script_lang.specs.Words.{is_printed}
 use Rattle.cluster_file.specs.Spelling.{line}
 use Rattle.cluster_file.proofs.Bools.{and_parts}
 use Rattle.cluster_file.proofs.Named.{all_last}

@@ -10,7 +10,12 @@ use Rattle.score_base.specs.declared.ids.NodeId.{NodeId}
 use Rattle.score_base.specs.declared.ids.Value.{Value}
 use Rattle.score_base.specs.declared.keys.Key.{Key}
 use Rattle.score_base.specs.Keys.{is_key}
-use Rattle.script_lang.specs.Scripts.{ScriptData}
+use Rattle.script_lang.specs.Scripts.{ScriptData, are_sound}
+use Rattle.script_lang.specs.declared.exprs.Atom.{Atom}
+use Rattle.script_lang.specs.declared.exprs.Atom.TheVariants as atom
+use Rattle.script_lang.specs.declared.exprs.Step.{Step}
+use Rattle.script_lang.specs.declared.exprs.Step.TheVariants as step
+use Rattle.script_lang.specs.Spelling.{atom_word, step_words, expr_words, op_words, is_plain_atom, is_plain_step, are_plain_steps, is_plain_expr}
 use Rattle.script_lang.specs.declared.scripts.Op.{Op}
 use Rattle.script_lang.specs.declared.scripts.Op.TheVariants as op
 use Rattle.grid_model.specs.Documents.{DocumentData, IsDocument, events_of}
@@ -18,10 +23,10 @@ use Rattle.grid_model.specs.declared.items.Item.{Item}
 use Rattle.grid_model.specs.declared.items.Item.TheVariants as item
 use Rattle.cluster_file.specs.declared.drafts.Draft.{Draft}
 use Rattle.cluster_file.specs.declared.drafts.Part.TheVariants as part
-use Rattle.cluster_file.specs.Reading.{◌>>=◌}
+use Rattle.script_lang.specs.Reading.{◌>>=◌}
 use Rattle.cluster_file.specs.Lines.{words_line, line_of}
 use Rattle.cluster_file.specs.Doc.{◌>>>◌, at_line, is_whole, close, pieces_from, blank, document_of, doc}
-use Rattle.cluster_file.specs.Spelling.{IsBuilt, IsInRange, is_node, is_tx, is_init_in_range, has_key, is_script_in_range, is_item_in_range, node_word, nodes_words, partition_words, init_words, tx_words, op_words, item_words, partition_lines, script_lines, document_lines, spelling}
+use Rattle.cluster_file.specs.Spelling.{IsBuilt, IsInRange, is_node, is_tx, is_init_in_range, has_key, is_script_in_range, is_item_in_range, node_word, nodes_words, partition_words, init_words, tx_words, item_words, partition_lines, script_lines, document_lines, spelling}
 use Rattle.cluster_file.proofs.Bools.{and_parts}
 use Rattle.cluster_file.proofs.Bytes.{is_plain, are_plain, is_line, plain_decimal, plain_key, words_again, printed_words, lines_again}
 use Rattle.cluster_file.proofs.Again.{small}
@@ -69,13 +74,38 @@ init_line x h =
     let both = and_parts (is_key x.0) (nat_lt x.1 (2 ^ 64)) h in
     rw (plain_key x.0 both.0, plain_decimal x.1 (grind (arith, nat_tests, both.1))) refl
 
+plain_atom : (a : Atom) → is_plain_atom a ≡ true → list_all is_plain (atom_word a) ≡ true
+plain_atom (atom.Number v) h = plain_decimal v (grind (arith, nat_tests, h))
+plain_atom (atom.Key k) h = plain_key k h
+
+plain_step : (s : Step) → is_plain_step s ≡ true → are_plain (step_words s) ≡ true
+plain_step (step.Add a) h = rw (plain_atom a h) refl
+plain_step (step.Sub a) h = rw (plain_atom a h) refl
+plain_step (step.Mul a) h = rw (plain_atom a h) refl
+plain_step (step.Min a) h = rw (plain_atom a h) refl
+plain_step (step.Max a) h = rw (plain_atom a h) refl
+plain_step (step.Pick a b) h =
+    let both = and_parts (is_plain_atom a) (is_plain_atom b) h in
+    rw (plain_atom a both.0, plain_atom b both.1) refl
+
+plain_steps : (ss : List Step) → are_plain_steps ss ≡ true → are_plain (flat_map step_words ss) ≡ true
+plain_steps [] h = refl
+plain_steps (s ∷ ss) h =
+    let both = and_parts (is_plain_step s) (are_plain_steps ss) h in
+    all_both (list_all is_plain) (step_words s) (flat_map step_words ss) (plain_step s both.0) (plain_steps ss both.1)
+
 op_line : (o : Op) → has_key o ≡ true → is_line (op_words o) ≡ true
 op_line (op.Read k) h = rw (plain_key k h) refl
-op_line (op.Write k e) h = rw (plain_key k h) refl
+op_line (op.Write k e) h =
+    let both = and_parts (is_key k) (is_plain_expr e) h in
+    let parts = and_parts (is_plain_atom e.first) (are_plain_steps e.steps) both.1 in
+    let long : nat_le 1 (length (codes "write" ∷ k ∷ expr_words e)) ≡ true = grind (arith, nat_tests) in
+    rw (long, plain_key k both.0, plain_atom e.first parts.0, plain_steps e.steps parts.1) refl
 
 script_lines_are : (s : ScriptData) → is_script_in_range s ≡ true → list_all is_line (script_lines s) ≡ true
 script_lines_are s h =
-    let a = and_parts (is_tx s.number && is_node s.home && nat_le 1 (length s.ops) && nat_le (length s.ops) 32) (list_all has_key s.ops) h in
+    let z = and_parts (is_tx s.number && is_node s.home && nat_le 1 (length s.ops) && nat_le (length s.ops) 32 && list_all has_key s.ops) (are_sound [] s.ops) h in
+    let a = and_parts (is_tx s.number && is_node s.home && nat_le 1 (length s.ops) && nat_le (length s.ops) 32) (list_all has_key s.ops) z.0 in
     let b = and_parts (is_tx s.number && is_node s.home && nat_le 1 (length s.ops)) (nat_le (length s.ops) 32) a.0 in
     let c = and_parts (is_tx s.number && is_node s.home) (nat_le 1 (length s.ops)) b.0 in
     let e = and_parts (is_tx s.number) (is_node s.home) c.0 in

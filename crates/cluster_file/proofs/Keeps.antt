@@ -15,7 +15,10 @@ use Rattle.score_base.specs.declared.ids.Value.{Value}
 use Rattle.score_base.specs.Keys.{same_key}
 use Rattle.score_base.specs.Numbers.{number}
 use Rattle.script_lang.specs.Scripts.{ScriptData}
+use Rattle.script_lang.specs.declared.scripts.Op.{Op}
 use Rattle.script_lang.specs.declared.scripts.Op.TheVariants as op
+use Rattle.script_lang.specs.Reads as reads
+use Rattle.script_lang.specs.ExprWords.{expr_of}
 use Rattle.placement.specs.Places.{are_distinct, is_partition}
 use Rattle.placement.specs.Clusters.{are_keys_distinct}
 use Rattle.grid_model.specs.Documents.{IsDocument, script_numbers, are_numbers_distinct, events_of, keys_in, is_item, key_order, number_order}
@@ -24,13 +27,14 @@ use Rattle.grid_model.specs.declared.items.Item.TheVariants as item
 use Rattle.cluster_file.specs.declared.drafts.Draft.{Draft}
 use Rattle.cluster_file.specs.declared.drafts.Part.{Part}
 use Rattle.cluster_file.specs.declared.drafts.Part.TheVariants as part
-use Rattle.cluster_file.specs.Reading.{is_word, word_at, end_at, number_at, in_range, steps}
-use Rattle.cluster_file.specs.Lines.{node_of, node_in, key_of, tx_of, is_known, is_taken, with_key, name_key, name_new_key, new_number, known_number, nodes_line, new_node, node_step, is_next, partition_line, init_line, tx_line, read_line, end_line, schedule_line, with_item, begin_line, deliver_line, drop_line, more_events, next_line, script_line, later_line, init_or_later, is_later_item, item_line, part_line, line_in, words_line, is_printed, line_of}
+use Rattle.script_lang.specs.Reading.{is_word, word_at, end_at, number_at, in_range, steps}
+use Rattle.cluster_file.specs.Lines.{is_known, is_taken, with_key, name_key, name_new_key, new_number, known_number, nodes_line, new_node, node_step, is_next, partition_line, init_line, tx_line, read_line, write_line, end_line, schedule_line, with_item, begin_line, deliver_line, drop_line, more_events, next_line, script_line, later_line, init_or_later, is_later_item, item_line, part_line, line_in, words_line, line_of}
+use Rattle.script_lang.specs.Words.{node_of, node_in, key_of, tx_of, is_printed}
 use Rattle.cluster_file.specs.Doc.{close, is_whole, pieces_from, at_line, blank, document_of}
 use Rattle.cluster_file.proofs.Bools.{and_parts}
 use Rattle.cluster_file.proofs.Members.{among_numbers, among_keys, distinct_more}
 use Rattle.cluster_file.proofs.Steps.{behind, then, either, numbered, below, at_ok}
-use Rattle.cluster_file.proofs.Named.{numbers_last, key_order_last, number_order_last, keys_read, keys_begun, keys_init, all_last, all_but_last, known_in_inits}
+use Rattle.cluster_file.proofs.Named.{numbers_last, key_order_last, number_order_last, keys_op, keys_begun, keys_init, all_last, all_but_last, known_in_inits}
 use Rattle.cluster_file.proofs.SoFar.{IsNamed, IsPlan, IsStage, IsBegun, all_scripts, opened}
 
 -- The words.
@@ -108,9 +112,9 @@ named_tx nodes inits ss known numbers s h room home new none = record {
   taken = ap (λ l. insert_key nat_cmp l s.number) h.taken ∙ sym (number_order_last (script_numbers ss) s.number) ∙ ap number_order (sym (numbers_last ss s));
 }
 
-named_read : (nodes : ℕ) (inits : List (Key × Value)) (ss : List ScriptData) (known ks : List Key) (numbers : List TxId) (s : ScriptData) (k : Key) → IsNamed nodes inits (ss ++ s ∷ []) known numbers → ks ≡ insert_key (slice_cmp nat_cmp) known k → length ks ≤ 4096 → IsNamed nodes inits (ss ++ record s { ops = s.ops ++ op.Read k ∷ [] } ∷ []) ks numbers
-named_read nodes inits ss known ks numbers s k h same few =
-    let t : ScriptData = record s { ops = s.ops ++ op.Read k ∷ [] } in
+named_op : (nodes : ℕ) (inits : List (Key × Value)) (ss : List ScriptData) (known ks : List Key) (numbers : List TxId) (s : ScriptData) (o : Op) → IsNamed nodes inits (ss ++ s ∷ []) known numbers → ks ≡ insert_key (slice_cmp nat_cmp) known (reads.key_of o) → length ks ≤ 4096 → IsNamed nodes inits (ss ++ record s { ops = s.ops ++ o ∷ [] } ∷ []) ks numbers
+named_op nodes inits ss known ks numbers s o h same few =
+    let t : ScriptData = record s { ops = s.ops ++ o ∷ [] } in
     let ts : script_numbers (ss ++ t ∷ []) ≡ script_numbers (ss ++ s ∷ []) = numbers_last ss t ∙ sym (numbers_last ss s) in
     let homes = all_but_last (λ (u : ScriptData). nat_le u.home nodes) ss s h.homes in
     record {
@@ -118,7 +122,7 @@ named_read nodes inits ss known ks numbers s k h same few =
       few = omega (arith, length-append ss (t ∷ []), length-append ss (s ∷ []), h.few);
       distinct = ap are_numbers_distinct ts ∙ h.distinct;
       homes = all_last (λ u. nat_le u.home nodes) ss t homes.0 homes.1;
-      ordered = same ∙ ap (λ l. insert_key (slice_cmp nat_cmp) l k) h.ordered ∙ sym (key_order_last (keys_in inits (ss ++ s ∷ [])) k) ∙ ap key_order (sym (keys_read inits ss s k));
+      ordered = same ∙ ap (λ l. insert_key (slice_cmp nat_cmp) l (reads.key_of o)) h.ordered ∙ sym (key_order_last (keys_in inits (ss ++ s ∷ [])) (reads.key_of o)) ∙ ap key_order (sym (keys_op inits ss s o));
       few_keys = few;
       taken = h.taken ∙ ap number_order (sym ts);
     }
@@ -204,7 +208,16 @@ read_keeps : (d : Draft) (s : ScriptData) (ws : List (List ℕ)) → IsBegun (in
 unfolding read_line
 read_keeps d s ws h = either (nat_le 32 (length s.ops)) _ _ _ (λ e. tt) (λ room. then (word_at ws) _ _ (λ w. then (key_of w.0) _ _ (λ k. behind (name_key d.known k) _ _ _ (name_key_keeps d.known k) (λ known new. then (end_at w.1) _ _ (λ _. record {
   head = h.head;
-  named = named_read d.nodes d.inits d.scripts d.known.keys known.keys d.numbers.keys s k h.named new.same new.few;
+  named = named_op d.nodes d.inits d.scripts d.known.keys known.keys d.numbers.keys s (op.Read k) h.named new.same new.few;
+  plan = plan_none d.nodes (script_numbers (d.scripts ++ s ∷ [])) _ d.items d.events h.stage.0 h.plan;
+  stage = h.stage;
+})))))
+
+write_keeps : (d : Draft) (s : ScriptData) (ws : List (List ℕ)) → IsBegun (inside d s) → IfOk (write_line (outside d) s ws) IsBegun
+unfolding write_line
+write_keeps d s ws h = either (nat_le 32 (length s.ops)) _ _ _ (λ e. tt) (λ room. then (word_at ws) _ _ (λ w. then (key_of w.0) _ _ (λ k. behind (name_key d.known k) _ _ _ (name_key_keeps d.known k) (λ known new. then (expr_of (reads.known_keys s.ops) w.1) _ _ (λ e. record {
+  head = h.head;
+  named = named_op d.nodes d.inits d.scripts d.known.keys known.keys d.numbers.keys s (op.Write k e) h.named new.same new.few;
   plan = plan_none d.nodes (script_numbers (d.scripts ++ s ∷ [])) _ d.items d.events h.stage.0 h.plan;
   stage = h.stage;
 })))))
@@ -219,7 +232,7 @@ end_keeps d s ws h = either (length s.ops == 0) _ _ _ (λ e. tt) (λ some. then 
 }))
 
 script_keeps : (d : Draft) (s : ScriptData) (w : List ℕ) (ws : List (List ℕ)) → IsBegun (inside d s) → IfOk (script_line (outside d) s w ws) IsBegun
-script_keeps d s w ws h = either (is_word w (codes "read")) _ _ _ (λ e. read_keeps d s ws h) (λ e. either (is_word w (codes "write")) _ _ _ (λ e. tt) (λ e. either (is_word w (codes "end")) _ _ _ (λ e. end_keeps d s ws h) (λ e. tt)))
+script_keeps d s w ws h = either (is_word w (codes "read")) _ _ _ (λ e. read_keeps d s ws h) (λ e. either (is_word w (codes "write")) _ _ _ (λ e. write_keeps d s ws h) (λ e. either (is_word w (codes "end")) _ _ _ (λ e. end_keeps d s ws h) (λ e. tt)))
 
 later_keeps : (d : Draft) (w : List ℕ) (ws : List (List ℕ)) → IsBegun d → d.script ≡ None → d.items ≡ [] → 1 ≤ length d.places → IfOk (later_line d w ws) IsBegun
 later_keeps d w ws h none items some = either (is_word w (codes "tx")) _ _ _ (λ e. tx_keeps d ws h none items some) (λ e. either (is_word w (codes "schedule")) _ _ _ (λ e. schedule_keeps d ws h none some) (λ e. tt))

@@ -3,6 +3,7 @@ pub mod Members
 pub mod Steps
 pub mod SoFar
 pub mod Named
+pub mod Known
 pub mod Keeps
 pub mod Bytes
 pub mod Told

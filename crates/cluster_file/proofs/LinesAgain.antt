@@ -14,8 +14,9 @@ use Rattle.score_base.specs.declared.keys.Key.{Key}
 use Rattle.score_base.specs.declared.ids.NodeId.{NodeId}
 use Rattle.score_base.specs.declared.ids.Value.{Value}
 use Rattle.score_base.specs.Keys.{is_key, same_key}
-use Rattle.script_lang.specs.Scripts.{ScriptData}
-use Rattle.script_lang.specs.Reads.{keys_named}
+use Rattle.script_lang.specs.Scripts.{ScriptData, are_sound}
+use Rattle.script_lang.specs.Spelling.{op_words, is_plain_expr}
+use Rattle.script_lang.specs.Reads.{keys_named, key_of}
 use Rattle.script_lang.specs.declared.scripts.Op.{Op}
 use Rattle.script_lang.specs.declared.scripts.Op.TheVariants as op
 use Rattle.placement.specs.Places.{is_partition, are_distinct}
@@ -26,14 +27,15 @@ use Rattle.grid_model.specs.declared.items.Item.TheVariants as item
 use Rattle.cluster_file.specs.declared.drafts.Draft.{Draft}
 use Rattle.cluster_file.specs.declared.drafts.Part.{Part}
 use Rattle.cluster_file.specs.declared.drafts.Part.TheVariants as part
-use Rattle.cluster_file.specs.Reading.{◌>>=◌}
+use Rattle.script_lang.specs.Reading.{◌>>=◌}
 use Rattle.cluster_file.specs.Lines.{words_line, init_line, tx_line, schedule_line}
 use Rattle.cluster_file.specs.Doc.{blank}
-use Rattle.cluster_file.specs.Spelling.{IsBuilt, IsInRange, is_built_op, is_built_item, is_node, is_tx, is_init_in_range, has_key, is_script_in_range, is_item_in_range, node_word, nodes_words, partition_words, init_words, tx_words, op_words, item_words, partition_lines, script_lines, document_lines}
+use Rattle.cluster_file.specs.Spelling.{IsBuilt, IsInRange, is_built_item, is_node, is_tx, is_init_in_range, has_key, is_script_in_range, is_item_in_range, node_word, nodes_words, partition_words, init_words, tx_words, item_words, partition_lines, script_lines, document_lines}
 use Rattle.cluster_file.proofs.Bools.{and_parts}
 use Rattle.cluster_file.proofs.Members.{among_numbers, among_keys, distinct_before, fewer_keys}
-use Rattle.cluster_file.proofs.Named.{numbers_last, key_order_last, number_order_last, keys_read, keys_begun, keys_init, known_in_inits, keys_more_inits, keys_more_scripts, keys_more_ops, numbers_more}
-use Rattle.cluster_file.proofs.Again.{nodes_line_again, partition_line_again, init_line_again, tx_line_again, read_line_again, end_line_again, begin_line_again, deliver_line_again, drop_line_again, next_line_again}
+use Rattle.cluster_file.proofs.Named.{numbers_last, key_order_last, number_order_last, keys_op, keys_begun, keys_init, known_in_inits, keys_more_inits, keys_more_scripts, keys_more_ops, numbers_more}
+use Rattle.cluster_file.proofs.Known.{read_before}
+use Rattle.cluster_file.proofs.Again.{nodes_line_again, partition_line_again, init_line_again, tx_line_again, read_line_again, write_line_again, end_line_again, begin_line_again, deliver_line_again, drop_line_again, next_line_again}
 
 -- what some lines add to a draft
 unfoldable pub lines_from : Draft → List (List (List ℕ)) → Result Draft ℕ
@@ -183,31 +185,38 @@ module _ (n : ℕ) (ps : List (List NodeId)) (xs : List (Key × Value)) where
       by part.Scripts h = refl
       by part.Items h = absurd h
 
-  read_words_again : (ss : List ScriptData) (s : ScriptData) (k : Key) → length s.ops < 32 → length (key_order (keys_in xs (ss ++ record s { ops = s.ops ++ op.Read k ∷ [] } ∷ []))) ≤ 4096 → is_key k ≡ true → words_line (reading n ps xs ss s) (op_words (op.Read k)) ≡ Ok (reading n ps xs ss (record s { ops = s.ops ++ op.Read k ∷ [] }))
-  read_words_again ss s k room few is =
-      let more : ScriptData = record s { ops = s.ops ++ op.Read k ∷ [] } in
-      let named : insert_key (slice_cmp nat_cmp) (key_order (keys_in xs (ss ++ s ∷ []))) k ≡ key_order (keys_in xs (ss ++ more ∷ [])) = sym (key_order_last (keys_in xs (ss ++ s ∷ [])) k) ∙ ap key_order (sym (keys_read xs ss s k)) in
+  op_words_again : (ss : List ScriptData) (s : ScriptData) (o : Op) (todo : List Op) → length s.ops < 32 → length (key_order (keys_in xs (ss ++ record s { ops = s.ops ++ o ∷ [] } ∷ []))) ≤ 4096 → has_key o ≡ true → are_sound [] (s.ops ++ o ∷ todo) ≡ true → words_line (reading n ps xs ss s) (op_words o) ≡ Ok (reading n ps xs ss (record s { ops = s.ops ++ o ∷ [] }))
+  op_words_again ss s o todo room few is sound =
+      let more : ScriptData = record s { ops = s.ops ++ o ∷ [] } in
+      let named : insert_key (slice_cmp nat_cmp) (key_order (keys_in xs (ss ++ s ∷ []))) (key_of o) ≡ key_order (keys_in xs (ss ++ more ∷ [])) = sym (key_order_last (keys_in xs (ss ++ s ∷ [])) (key_of o)) ∙ ap key_order (sym (keys_op xs ss s o)) in
       let numbers : number_order (script_numbers (ss ++ s ∷ [])) ≡ number_order (script_numbers (ss ++ more ∷ [])) = ap number_order (numbers_last ss s ∙ sym (numbers_last ss more)) in
-      read_line_again (record (reading n ps xs ss s) { script = None }) s k room (omega (arith, few, ap length named)) is
+      by o (omega (arith, few, ap length named)) is sound
       ∙ ap (λ ks. Ok (record (reading n ps xs ss more) { known = record { keys = ks }; numbers = record { keys = number_order (script_numbers (ss ++ s ∷ [])) } })) named
       ∙ ap (λ ts. Ok (record (reading n ps xs ss more) { numbers = record { keys = ts } })) numbers
+    where
+      by : (p : Op) → length (insert_key (slice_cmp nat_cmp) (key_order (keys_in xs (ss ++ s ∷ []))) (key_of p)) ≤ 4096 → has_key p ≡ true → are_sound [] (s.ops ++ p ∷ todo) ≡ true
+          → words_line (reading n ps xs ss s) (op_words p) ≡ Ok (record (reading n ps xs ss (record s { ops = s.ops ++ p ∷ [] })) { known = record { keys = insert_key (slice_cmp nat_cmp) (key_order (keys_in xs (ss ++ s ∷ []))) (key_of p) }; numbers = record { keys = number_order (script_numbers (ss ++ s ∷ [])) } })
+      by (op.Read k) less one rest = read_line_again (record (reading n ps xs ss s) { script = None }) s k room less one
+      by (op.Write k e) less one rest =
+          let both = and_parts (is_key k) (is_plain_expr e) one in
+          write_line_again (record (reading n ps xs ss s) { script = None }) s k e room less both.0 both.1 (read_before s.ops k e todo rest)
 
-  ops_again : (ss : List ScriptData) (s : ScriptData) (done todo : List Op) (tail : List (List (List ℕ))) → length (done ++ todo) ≤ 32 → length (key_order (keys_in xs (ss ++ record s { ops = done ++ todo } ∷ []))) ≤ 4096 → list_all is_built_op todo ≡ true → list_all has_key todo ≡ true → lines_from (reading n ps xs ss (record s { ops = done })) (map op_words todo ++ tail) ≡ lines_from (reading n ps xs ss (record s { ops = done ++ todo })) tail
-  ops_again ss s done [] tail room few built are = ap (λ l. lines_from (reading n ps xs ss (record s { ops = l })) tail) (sym (append-nil done))
-  ops_again ss s done (op.Write k e ∷ todo) tail room few built are = let bad : false ≡ true = built in cc
-  ops_again ss s done (op.Read k ∷ todo) tail room few built are =
-      let a = and_parts (is_key k) (list_all has_key todo) are in
-      let assoc : (done ++ op.Read k ∷ []) ++ todo ≡ done ++ op.Read k ∷ todo = append_assoc done (op.Read k ∷ []) todo in
-      let all : keys_in xs (ss ++ record s { ops = done ++ op.Read k ∷ todo } ∷ []) ≡ keys_in xs (ss ++ record s { ops = done ++ op.Read k ∷ [] } ∷ []) ++ keys_named todo = ap (λ l. keys_in xs (ss ++ record s { ops = l } ∷ [])) (sym assoc) ∙ keys_more_ops xs ss s (done ++ op.Read k ∷ []) todo in
-      then_lines (reading n ps xs ss (record s { ops = done })) (reading n ps xs ss (record s { ops = done ++ op.Read k ∷ [] })) (op_words (op.Read k)) (map op_words todo ++ tail) _
-      (read_words_again ss (record s { ops = done }) k (omega (arith, room, length-append done (op.Read k ∷ todo))) (first_few (keys_in xs (ss ++ record s { ops = done ++ op.Read k ∷ [] } ∷ [])) (keys_named todo) (keys_in xs (ss ++ record s { ops = done ++ op.Read k ∷ todo } ∷ [])) all few) a.0)
-      (ops_again ss s (done ++ op.Read k ∷ []) todo tail (subst (λ l. length l ≤ 32) (sym assoc) room) (subst (λ l. length (key_order (keys_in xs (ss ++ record s { ops = l } ∷ []))) ≤ 4096) (sym assoc) few) built a.1
+  ops_again : (ss : List ScriptData) (s : ScriptData) (done todo : List Op) (tail : List (List (List ℕ))) → length (done ++ todo) ≤ 32 → length (key_order (keys_in xs (ss ++ record s { ops = done ++ todo } ∷ []))) ≤ 4096 → list_all has_key todo ≡ true → are_sound [] (done ++ todo) ≡ true → lines_from (reading n ps xs ss (record s { ops = done })) (map op_words todo ++ tail) ≡ lines_from (reading n ps xs ss (record s { ops = done ++ todo })) tail
+  ops_again ss s done [] tail room few are sound = ap (λ l. lines_from (reading n ps xs ss (record s { ops = l })) tail) (sym (append-nil done))
+  ops_again ss s done (o ∷ todo) tail room few are sound =
+      let a = and_parts (has_key o) (list_all has_key todo) are in
+      let assoc : (done ++ o ∷ []) ++ todo ≡ done ++ o ∷ todo = append_assoc done (o ∷ []) todo in
+      let all : keys_in xs (ss ++ record s { ops = done ++ o ∷ todo } ∷ []) ≡ keys_in xs (ss ++ record s { ops = done ++ o ∷ [] } ∷ []) ++ keys_named todo = ap (λ l. keys_in xs (ss ++ record s { ops = l } ∷ [])) (sym assoc) ∙ keys_more_ops xs ss s (done ++ o ∷ []) todo in
+      then_lines (reading n ps xs ss (record s { ops = done })) (reading n ps xs ss (record s { ops = done ++ o ∷ [] })) (op_words o) (map op_words todo ++ tail) _
+      (op_words_again ss (record s { ops = done }) o todo (omega (arith, room, length-append done (o ∷ todo))) (first_few (keys_in xs (ss ++ record s { ops = done ++ o ∷ [] } ∷ [])) (keys_named todo) (keys_in xs (ss ++ record s { ops = done ++ o ∷ todo } ∷ [])) all few) a.0 sound)
+      (ops_again ss s (done ++ o ∷ []) todo tail (subst (λ l. length l ≤ 32) (sym assoc) room) (subst (λ l. length (key_order (keys_in xs (ss ++ record s { ops = l } ∷ []))) ≤ 4096) (sym assoc) few) a.1 (ap (are_sound []) assoc ∙ sound)
       ∙ ap (λ l. lines_from (reading n ps xs ss (record s { ops = l })) tail) assoc)
 
-  script_again : (p : Part) (ss : List ScriptData) (s : ScriptData) (more : List ScriptData) (tail : List (List (List ℕ))) → IsOpen p → are_numbers_distinct (script_numbers (ss ++ s ∷ more)) ≡ true → length (key_order (keys_in xs (ss ++ s ∷ []))) ≤ 4096 → length ss < 4096 → nat_le s.home n ≡ true → is_script_in_range s ≡ true → list_all is_built_op s.ops ≡ true
+  script_again : (p : Part) (ss : List ScriptData) (s : ScriptData) (more : List ScriptData) (tail : List (List (List ℕ))) → IsOpen p → are_numbers_distinct (script_numbers (ss ++ s ∷ more)) ≡ true → length (key_order (keys_in xs (ss ++ s ∷ []))) ≤ 4096 → length ss < 4096 → nat_le s.home n ≡ true → is_script_in_range s ≡ true
       → lines_from (scripted p n ps xs ss) (script_lines s ++ tail) ≡ lines_from (scripted part.Scripts n ps xs (ss ++ s ∷ [])) tail
-  script_again p ss s more tail may distinct few room low is built =
-      let a = and_parts (is_tx s.number && is_node s.home && nat_le 1 (length s.ops) && nat_le (length s.ops) 32) (list_all has_key s.ops) is in
+  script_again p ss s more tail may distinct few room low is =
+      let z = and_parts (is_tx s.number && is_node s.home && nat_le 1 (length s.ops) && nat_le (length s.ops) 32 && list_all has_key s.ops) (are_sound [] s.ops) is in
+      let a = and_parts (is_tx s.number && is_node s.home && nat_le 1 (length s.ops) && nat_le (length s.ops) 32) (list_all has_key s.ops) z.0 in
       let b = and_parts (is_tx s.number && is_node s.home && nat_le 1 (length s.ops)) (nat_le (length s.ops) 32) a.0 in
       let c = and_parts (is_tx s.number && is_node s.home) (nat_le 1 (length s.ops)) b.0 in
       let e = and_parts (is_tx s.number) (is_node s.home) c.0 in
@@ -216,21 +225,20 @@ module _ (n : ℕ) (ps : List (List NodeId)) (xs : List (Key × Value)) where
       then_lines (scripted p n ps xs ss) (reading n ps xs ss (record s { ops = [] })) (tx_words s) ((map op_words s.ops ++ (codes "end" ∷ []) ∷ []) ++ tail) _
       (tx_words_again p ss s more may distinct room e.0 low e.1)
       (ap (lines_from (reading n ps xs ss (record s { ops = [] }))) (append_assoc (map op_words s.ops) ((codes "end" ∷ []) ∷ []) tail)
-      ∙ ops_again ss s [] s.ops ((codes "end" ∷ []) ∷ tail) most few built a.1
+      ∙ ops_again ss s [] s.ops ((codes "end" ∷ []) ∷ tail) most few a.1 z.1
       ∙ then_lines (reading n ps xs ss s) (scripted part.Scripts n ps xs (ss ++ s ∷ [])) (codes "end" ∷ []) tail _ (end_line_again (record (reading n ps xs ss s) { script = None }) s some) refl)
 
-  scripts_again : (p : Part) (ss rest : List ScriptData) (tail : List (List (List ℕ))) (r : Result Draft ℕ) → IsOpen p → are_numbers_distinct (script_numbers (ss ++ rest)) ≡ true → length (key_order (keys_in xs (ss ++ rest))) ≤ 4096 → length (ss ++ rest) ≤ 4096 → list_all (λ s. nat_le s.home n) rest ≡ true → list_all is_script_in_range rest ≡ true → list_all (λ s. list_all is_built_op s.ops) rest ≡ true
+  scripts_again : (p : Part) (ss rest : List ScriptData) (tail : List (List (List ℕ))) (r : Result Draft ℕ) → IsOpen p → are_numbers_distinct (script_numbers (ss ++ rest)) ≡ true → length (key_order (keys_in xs (ss ++ rest))) ≤ 4096 → length (ss ++ rest) ≤ 4096 → list_all (λ s. nat_le s.home n) rest ≡ true → list_all is_script_in_range rest ≡ true
       → ((q : Part) → IsOpen q → lines_from (scripted q n ps xs (ss ++ rest)) tail ≡ r) → lines_from (scripted p n ps xs ss) (flat_map script_lines rest ++ tail) ≡ r
-  scripts_again p ss [] tail r may distinct few room low is built next = ap (λ l. lines_from (scripted p n ps xs l) tail) (sym (append-nil ss)) ∙ next p may
-  scripts_again p ss (s ∷ rest) tail r may distinct few room low is built next =
+  scripts_again p ss [] tail r may distinct few room low is next = ap (λ l. lines_from (scripted p n ps xs l) tail) (sym (append-nil ss)) ∙ next p may
+  scripts_again p ss (s ∷ rest) tail r may distinct few room low is next =
       let l = and_parts (nat_le s.home n) (list_all (λ t. nat_le t.home n) rest) low in
       let i = and_parts (is_script_in_range s) (list_all is_script_in_range rest) is in
-      let b = and_parts (list_all is_built_op s.ops) (list_all (λ t. list_all is_built_op t.ops) rest) built in
       let assoc : (ss ++ s ∷ []) ++ rest ≡ ss ++ s ∷ rest = append_assoc ss (s ∷ []) rest in
       let all : keys_in xs (ss ++ s ∷ rest) ≡ keys_in xs (ss ++ s ∷ []) ++ flat_map (λ t. keys_named t.ops) rest = ap (keys_in xs) (sym assoc) ∙ keys_more_scripts xs (ss ++ s ∷ []) rest in
       ap (lines_from (scripted p n ps xs ss)) (append_assoc (script_lines s) (flat_map script_lines rest) tail)
-      ∙ script_again p ss s rest (flat_map script_lines rest ++ tail) may distinct (first_few (keys_in xs (ss ++ s ∷ [])) (flat_map (λ t. keys_named t.ops) rest) (keys_in xs (ss ++ s ∷ rest)) all few) (omega (arith, room, length-append ss (s ∷ rest))) l.0 i.0 b.0
-      ∙ scripts_again part.Scripts (ss ++ s ∷ []) rest tail r tt (ap (λ m. are_numbers_distinct (script_numbers m)) assoc ∙ distinct) (subst (λ m. length (key_order (keys_in xs m)) ≤ 4096) (sym assoc) few) (subst (λ m. length m ≤ 4096) (sym assoc) room) l.1 i.1 b.1
+      ∙ script_again p ss s rest (flat_map script_lines rest ++ tail) may distinct (first_few (keys_in xs (ss ++ s ∷ [])) (flat_map (λ t. keys_named t.ops) rest) (keys_in xs (ss ++ s ∷ rest)) all few) (omega (arith, room, length-append ss (s ∷ rest))) l.0 i.0
+      ∙ scripts_again part.Scripts (ss ++ s ∷ []) rest tail r tt (ap (λ m. are_numbers_distinct (script_numbers m)) assoc ∙ distinct) (subst (λ m. length (key_order (keys_in xs m)) ≤ 4096) (sym assoc) few) (subst (λ m. length m ≤ 4096) (sym assoc) room) l.1 i.1
       (λ q h. ap (λ m. lines_from (scripted q n ps xs m) tail) assoc ∙ next q h)
 
   schedule_again : (p : Part) (ss : List ScriptData) → IsOpen p → words_line (scripted p n ps xs ss) (codes "schedule" ∷ []) ≡ Ok (running n ps xs ss [] 0)
@@ -290,4 +298,4 @@ document_again d h r b =
     then_lines blank (placed part.Nodes n []) (nodes_words n) (partition_lines 0 ps ++ inits_left) end (nodes_line_again n least most)
     (places_again n ps inits_left h.cluster.places.least h.cluster.places.most h.cluster.places.each h.cluster.within r.places
     ∙ inits_again n ps part.Partitions [] xs scripts_left end tt h.cluster.inits init_keys r.inits (λ p early.
-    scripts_again n ps xs p [] d.scripts ((codes "schedule" ∷ []) ∷ items_left) end (is_open p early) h.numbers h.keys h.count h.homes r.scripts b.ops last))
+    scripts_again n ps xs p [] d.scripts ((codes "schedule" ∷ []) ∷ items_left) end (is_open p early) h.numbers h.keys h.count h.homes r.scripts last))

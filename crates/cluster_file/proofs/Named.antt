@@ -16,7 +16,6 @@ use Rattle.score_base.specs.Keys.{same_key}
 use Rattle.script_lang.specs.Scripts.{ScriptData}
 use Rattle.script_lang.specs.Reads.{keys_named, key_of}
 use Rattle.script_lang.specs.declared.scripts.Op.{Op}
-use Rattle.script_lang.specs.declared.scripts.Op.TheVariants as op
 use Rattle.grid_model.specs.Documents.{script_numbers, keys_in, key_order, number_order}
 
 pub numbers_last : (ss : List ScriptData) (s : ScriptData) → script_numbers (ss ++ s ∷ []) ≡ script_numbers ss ++ s.number ∷ []
@@ -29,23 +28,22 @@ key_order_last ks k = fold-append (insert_key (slice_cmp nat_cmp)) [] ks (k ∷ 
 pub number_order_last : (ts : List TxId) (t : TxId) → number_order (ts ++ t ∷ []) ≡ insert_key nat_cmp (number_order ts) t
 number_order_last ts t = fold-append (insert_key nat_cmp) [] ts (t ∷ [])
 
-keys_named_last : (ops : List Op) (k : Key) → keys_named (ops ++ op.Read k ∷ []) ≡ keys_named ops ++ k ∷ []
-keys_named_last [] k = refl
-keys_named_last (op.Read x ∷ ops) k = ap (λ ks. x ∷ ks) (keys_named_last ops k)
-keys_named_last (op.Write x e ∷ ops) k = ap (λ ks. x ∷ ks) (keys_named_last ops k)
+keys_named_last : (ops : List Op) (o : Op) → keys_named (ops ++ o ∷ []) ≡ keys_named ops ++ key_of o ∷ []
+keys_named_last [] o = refl
+keys_named_last (x ∷ ops) o = ap (λ ks. key_of x ∷ ks) (keys_named_last ops o)
 
 pub last_keys : (inits : List (Key × Value)) (ss : List ScriptData) (s : ScriptData) → keys_in inits (ss ++ s ∷ []) ≡ keys_in inits ss ++ keys_named s.ops
 last_keys inits ss s =
     ap (λ ks. map (λ x. x.0) inits ++ ks) (flat_map-append (λ t. keys_named t.ops) ss (s ∷ []) ∙ ap (λ ks. flat_map (λ t. keys_named t.ops) ss ++ ks) (append-nil (keys_named s.ops)))
     ∙ sym (append_assoc (map (λ x. x.0) inits) (flat_map (λ t. keys_named t.ops) ss) (keys_named s.ops))
 
--- one more read of the last script
-pub keys_read : (inits : List (Key × Value)) (ss : List ScriptData) (s : ScriptData) (k : Key) → keys_in inits (ss ++ record s { ops = s.ops ++ op.Read k ∷ [] } ∷ []) ≡ keys_in inits (ss ++ s ∷ []) ++ k ∷ []
-keys_read inits ss s k =
-    last_keys inits ss (record s { ops = s.ops ++ op.Read k ∷ [] })
-    ∙ ap (λ ks. keys_in inits ss ++ ks) (keys_named_last s.ops k)
-    ∙ sym (append_assoc (keys_in inits ss) (keys_named s.ops) (k ∷ []))
-    ∙ ap (λ ks. ks ++ k ∷ []) (sym (last_keys inits ss s))
+-- one more operation of the last script
+pub keys_op : (inits : List (Key × Value)) (ss : List ScriptData) (s : ScriptData) (o : Op) → keys_in inits (ss ++ record s { ops = s.ops ++ o ∷ [] } ∷ []) ≡ keys_in inits (ss ++ s ∷ []) ++ key_of o ∷ []
+keys_op inits ss s o =
+    last_keys inits ss (record s { ops = s.ops ++ o ∷ [] })
+    ∙ ap (λ ks. keys_in inits ss ++ ks) (keys_named_last s.ops o)
+    ∙ sym (append_assoc (keys_in inits ss) (keys_named s.ops) (key_of o ∷ []))
+    ∙ ap (λ ks. ks ++ key_of o ∷ []) (sym (last_keys inits ss s))
 
 -- one more script without operations
 pub keys_begun : (inits : List (Key × Value)) (ss : List ScriptData) (s : ScriptData) → s.ops ≡ [] → keys_in inits (ss ++ s ∷ []) ≡ keys_in inits ss

@@ -8,7 +8,8 @@ use Rattle.std.proofs.lemmas.List.Splits.{join_with_byte-slice_split}
 use Rattle.grid_model.specs.Documents.{DocumentData, IsDocument}
 use Rattle.cluster_file.specs.declared.drafts.Draft.{Draft}
 use Rattle.cluster_file.specs.declared.whys.Refusal.{Refusal}
-use Rattle.cluster_file.specs.Lines.{is_printed, line_of}
+use Rattle.cluster_file.specs.Lines.{line_of}
+use Rattle.script_lang.specs.Words.{is_printed}
 use Rattle.cluster_file.specs.Doc.{◌>>>◌, at_line, is_whole, close, pieces_from, blank, document_of, doc}
 use Rattle.cluster_file.specs.Spelling.{IsInRange, IsBuilt, line, spelling, nodes_words, partition_lines, init_words, script_lines, document_lines}
 use Rattle.cluster_file.proofs.Bools.{and_parts}
@@ -110,6 +111,6 @@ spelled bytes d h = by (pieces_from blank 1 (slice_split (λ b. b == 10) bytes))
           bytes_are = sym (join_with_byte-slice_split 10 bytes) ∙ sym told.0 ∙ ap (flat_map line) (whole_lines e whole);
           document = IsDocument-from_pieces (slice_split (λ b. b == 10) bytes) e read;
           ranges = record { places = told.1.places; inits = told.1.inits; scripts = told.1.scripts; items = told.1.items };
-          built = record { ops = told.1.ops; items = told.1.built };
+          built = record { items = told.1.built };
         })
     by (Err w) read told whole same = cc

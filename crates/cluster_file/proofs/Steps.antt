@@ -1,6 +1,6 @@
 -- What holds of whatever a reading gives.
 use Rattle.std.proofs.Common.{◌≡◌, ℕ, Bool, true, false, cond, Result, Ok, Err, IfOk, refl, subst}
-use Rattle.cluster_file.specs.Reading.{◌>>=◌}
+use Rattle.script_lang.specs.Reading.{◌>>=◌}
 use Rattle.cluster_file.specs.Doc.{◌>>>◌, at_line}
 use Rattle.cluster_file.specs.declared.whys.Refusal.{Refusal}
 

@@ -1,26 +1,36 @@
 -- Whatever is read is the words of its spelling.
-use Rattle.std.proofs.Common.{◌≡◌, ℕ, ◌+◌, ◌^◌, ◌<◌, ◌≤◌, nat_lt, lit<, length-append, true, ◌&&◌, ◌==◌, List, [], ◌∷◌, ◌++◌, length, nat_le, cond, Option, Some, None, Result, Ok, Err, IfOk, refl, sym, ap, ◌∙◌, subst, map, append_assoc, arith, codes}
+use Rattle.std.proofs.Common.{◌≡◌, ℕ, ◌+◌, ◌^◌, ◌<◌, ◌≤◌, nat_lt, lit<, true, false, ◌&&◌, ◌==◌, List, [], ◌∷◌, ◌++◌, length, nat_le, cond, Option, Some, None, Result, Ok, Err, IfOk, refl, sym, ap, ◌∙◌, subst, map, append_assoc, arith, codes}
 use Rattle.std.specs.Cmp.Lexicographic.{bytes_decides}
 use Rattle.std.specs.Fmt.{decimal}
 use Rattle.std.specs.List.{list_all, flat_map}
 use Rattle.std.proofs.lemmas.Bool.Decides.{nat_tests}
 use Rattle.std.proofs.lemmas.Grind.{flat_map-append}
 use Rattle.std.proofs.lemmas.List.{append-nil, map-append}
+use Rattle.score_base.specs.declared.keys.Key.{Key}
 use Rattle.score_base.specs.declared.ids.NodeId.{NodeId}
 use Rattle.score_base.specs.Keys.{is_key}
 use Rattle.score_base.specs.Numbers.{number, digits_from}
 use Rattle.score_base.proofs.Spelling.{decimal-number, plain, said}
-use Rattle.script_lang.specs.Scripts.{ScriptData}
+use Rattle.script_lang.specs.Scripts.{ScriptData, are_sound, IsFront}
+use Rattle.script_lang.specs.declared.exprs.Expr.{Expr}
+use Rattle.script_lang.specs.declared.scripts.Op.{Op}
 use Rattle.script_lang.specs.declared.scripts.Op.TheVariants as op
+use Rattle.script_lang.specs.Exprs.{is_expr_among}
+use Rattle.script_lang.specs.Reads.{known_keys}
+use Rattle.script_lang.specs.ExprWords.{expr_of}
+use Rattle.script_lang.specs.Spelling.{op_words, expr_words}
+use Rattle.script_lang.proofs.Sound.{IsFront-read, IsFront-write}
+use Rattle.script_lang.proofs.StepsRead.{IsExprOf, expr_read}
 use Rattle.grid_model.specs.declared.items.Item.{Item}
 use Rattle.grid_model.specs.declared.items.Item.TheVariants as item
 use Rattle.cluster_file.specs.declared.drafts.Draft.{Draft}
 use Rattle.cluster_file.specs.declared.drafts.Part.{Part}
 use Rattle.cluster_file.specs.declared.drafts.Part.TheVariants as part
-use Rattle.cluster_file.specs.Reading.{◌>>=◌, is_word, word_at, end_at, or_why, number_at, in_range, steps}
-use Rattle.cluster_file.specs.Lines.{node_of, node_in, key_of, tx_of, tx_in, name_key, name_new_key, new_number, known_number, nodes_line, new_node, node_step, is_next, partition_line, init_line, tx_line, read_line, end_line, schedule_line, with_item, begin_line, deliver_line, drop_line, more_events, next_line, script_line, later_line, init_or_later, is_later_item, item_line, part_line, line_in, words_line}
+use Rattle.script_lang.specs.Reading.{◌>>=◌, is_word, word_at, end_at, or_why, number_at, in_range, steps}
+use Rattle.cluster_file.specs.Lines.{name_key, name_new_key, new_number, known_number, nodes_line, new_node, node_step, is_next, partition_line, init_line, tx_line, read_line, write_line, end_line, schedule_line, with_item, begin_line, deliver_line, drop_line, more_events, next_line, script_line, later_line, init_or_later, is_later_item, item_line, part_line, line_in, words_line}
+use Rattle.script_lang.specs.Words.{node_of, node_in, key_of, tx_of, tx_in}
 use Rattle.cluster_file.specs.Doc.{blank}
-use Rattle.cluster_file.specs.Spelling.{is_node, is_tx, is_init_in_range, is_script_in_range, is_item_in_range, has_key, is_built_op, is_built_item, node_word, nodes_words, partition_words, init_words, tx_words, op_words, item_words, partition_lines, script_lines}
+use Rattle.cluster_file.specs.Spelling.{is_node, is_tx, is_init_in_range, is_script_in_range, is_item_in_range, has_key, is_built_item, node_word, nodes_words, partition_words, init_words, tx_words, item_words, partition_lines, script_lines}
 use Rattle.cluster_file.proofs.Bools.{and_parts}
 use Rattle.cluster_file.proofs.Named.{all_last}
 use Rattle.cluster_file.proofs.Steps.{behind, then, either}
@@ -114,9 +124,8 @@ lines_so_far d =
 pub record IsOpened (s : ScriptData) : Type 0 where
   pub number : is_tx s.number ≡ true
   pub home : is_node s.home ≡ true
-  pub few : nat_le (length s.ops) 32 ≡ true
+  pub front : IsFront s.ops
   pub keys : list_all has_key s.ops ≡ true
-  pub built : list_all is_built_op s.ops ≡ true
 
 abbrev pub MayBeOpened : Option ScriptData → Type 0
 MayBeOpened None = Unit {0}
@@ -127,7 +136,6 @@ pub record IsInRangeSoFar (d : Draft) : Type 0 where
   pub places : list_all (list_all is_node) d.places ≡ true
   pub inits : list_all is_init_in_range d.inits ≡ true
   pub scripts : list_all is_script_in_range d.scripts ≡ true
-  pub ops : list_all (λ s. list_all is_built_op s.ops) d.scripts ≡ true
   pub opened : MayBeOpened d.script
   pub items : list_all is_item_in_range d.items ≡ true
   pub built : list_all is_built_item d.items ≡ true
@@ -190,7 +198,7 @@ unfolding nodes_line
 first_told ws = behind (number_at ws) _ _ _ (number_told ws) (λ n words. behind (in_range 1 16 n.0) _ _ _ (in_range_told 1 16 n.0) (λ c same. behind (end_at n.1) _ _ _ (end_told n.1) (λ z none.
     record {
       lines = ap (λ l. (codes "nodes" ∷ l) ∷ []) (one_number ws n c words.0 same.0 none);
-      ranges = record { places = refl; inits = refl; scripts = refl; ops = refl; opened = tt; items = refl; built = refl };
+      ranges = record { places = refl; inits = refl; scripts = refl; opened = tt; items = refl; built = refl };
     })))
 
 partition_told : (d : Draft) (ws : List (List ℕ)) → d.inits ≡ [] → d.scripts ≡ [] → d.script ≡ None → schedule_lines d.part d.items ≡ [] → IfOk (partition_line d ws) (Adds d (codes "partition" ∷ ws))
@@ -201,7 +209,7 @@ partition_told d ws bare ss none quiet = either (nat_le 64 (length d.places)) _ 
       lines = more_partitions _ _ (partition_lines 0 d.places) (partition_lines 0 (d.places ++ ns ∷ [])) (map init_words d.inits) (flat_map script_lines d.scripts) (open_lines d.script) (schedule_lines d.part d.items)
           (partition_next d.places ns ∙ ap (λ l. partition_lines 0 d.places ++ l ∷ []) all)
           (ap (map init_words) bare) (ap (flat_map script_lines) ss) (ap open_lines none) quiet;
-      ranges = λ few r. record { places = all_last (list_all is_node) d.places ns r.places (nodes.1 few refl); inits = r.inits; scripts = r.scripts; ops = r.ops; opened = r.opened; items = r.items; built = r.built };
+      ranges = λ few r. record { places = all_last (list_all is_node) d.places ns r.places (nodes.1 few refl); inits = r.inits; scripts = r.scripts; opened = r.opened; items = r.items; built = r.built };
     }))))
   where
     next_told : (next i : ℕ) (us : List (List ℕ)) → IfOk (is_next next i us) (λ _. i ≡ next)
@@ -217,7 +225,7 @@ init_told d ws ss none quiet = behind (word_at ws) _ _ _ (word_told ws) (λ w wo
       lines = more_inits _ _ (partition_lines 0 d.places) (map init_words d.inits) (map init_words (d.inits ++ (k, v.0) ∷ [])) (flat_map script_lines d.scripts) (open_lines d.script) (schedule_lines d.part d.items)
           (map-append init_words d.inits ((k, v.0) ∷ []) ∙ ap (λ l. map init_words d.inits ++ (codes "init" ∷ l) ∷ []) (sym all))
           (ap (flat_map script_lines) ss) (ap open_lines none) quiet;
-      ranges = λ few r. record { places = r.places; inits = all_last is_init_in_range d.inits (k, v.0) r.inits one; scripts = r.scripts; ops = r.ops; opened = r.opened; items = r.items; built = r.built };
+      ranges = λ few r. record { places = r.places; inits = all_last is_init_in_range d.inits (k, v.0) r.inits one; scripts = r.scripts; opened = r.opened; items = r.items; built = r.built };
     })))))
 
 tx_lines_told : (d : Draft) (ws : List (List ℕ)) → d.script ≡ None → schedule_lines d.part d.items ≡ [] → IfOk (tx_line d ws) (Adds d (codes "tx" ∷ ws))
@@ -228,7 +236,7 @@ tx_lines_told d ws none quiet = either (nat_le 4096 (length d.scripts)) _ _ _ (�
       lines = more_script _ _ (partition_lines 0 d.places) (map init_words d.inits) (flat_map script_lines d.scripts) (open_lines d.script) ((codes "tx" ∷ decimal t ∷ node_word n ∷ []) ∷ []) (schedule_lines d.part d.items)
           (ap (λ l. (codes "tx" ∷ l) ∷ []) (sym all) ∙ ap (λ l. l ++ (codes "tx" ∷ ws) ∷ []) (sym (ap open_lines none)))
           quiet;
-      ranges = λ few r. record { places = r.places; inits = r.inits; scripts = r.scripts; ops = r.ops; opened = record { number = number.1; home = home.1 few; few = refl; keys = refl; built = refl }; items = r.items; built = r.built };
+      ranges = λ few r. record { places = r.places; inits = r.inits; scripts = r.scripts; opened = record { number = number.1; home = home.1 few; front = record { most = omega arith; sound = refl }; keys = refl }; items = r.items; built = r.built };
     })))))))
 
 -- d with a script that is being read
@@ -239,17 +247,45 @@ inside d s = record d { script = Some s; part = part.Scripts }
 abbrev outside : Draft → Draft
 outside d = record d { script = None; part = part.Scripts }
 
+-- with room for one more operation, they stay a front
+front_read : (ops : List Op) (k : Key) → nat_le 32 (length ops) ≡ false → IsFront ops → IsFront (ops ++ op.Read k ∷ [])
+front_read ops k room front = IsFront-read {E = ℕ} (Ok k) ops (ops ++ op.Read k ∷ []) k front (grind (arith, nat_tests, room)) refl tt
+
+front_write : (ops : List Op) (k : Key) (e : Expr) → nat_le 32 (length ops) ≡ false → is_expr_among (known_keys ops) e ≡ true → IsFront ops → IsFront (ops ++ op.Write k e ∷ [])
+front_write ops k e room among front = IsFront-write {E = ℕ} (Ok k) ops (ops ++ op.Write k e ∷ []) k e front (grind (arith, nat_tests, room)) among refl tt
+
+-- a line of an operation adds its words
+op_lines : (d : Draft) (s : ScriptData) (o : Op) (ws : List (List ℕ)) → ws ≡ op_words o → lines_so_far (inside d (record s { ops = s.ops ++ o ∷ [] })) ≡ lines_so_far (inside d s) ++ ws ∷ []
+op_lines d s o ws e =
+    more_script _ _ (partition_lines 0 d.places) (map init_words d.inits) (flat_map script_lines d.scripts) (tx_words s ∷ map op_words s.ops) (tx_words s ∷ map op_words (s.ops ++ o ∷ [])) []
+    (ap (λ l. tx_words s ∷ l) (map-append op_words s.ops (o ∷ []) ∙ ap (λ l. map op_words s.ops ++ l ∷ []) (sym e)))
+    refl
+
 read_told : (d : Draft) (s : ScriptData) (ws : List (List ℕ)) → IfOk (read_line (outside d) s ws) (Adds (inside d s) (codes "read" ∷ ws))
 unfolding read_line
 read_told d s ws = either (nat_le 32 (length s.ops)) _ _ _ (λ _. tt) (λ room. behind (word_at ws) _ _ _ (word_told ws) (λ w words. behind (key_of w.0) _ _ _ (key_told w.0) (λ k key. then (name_key d.known k) _ _ (λ known. behind (end_at w.1) _ _ _ (end_told w.1) (λ z none_left.
     let all : ws ≡ k ∷ [] = words ∙ ap (λ l. l ∷ w.1) key.0 ∙ ap (λ l. k ∷ l) none_left in
-    let more : nat_le (length (s.ops ++ op.Read k ∷ [])) 32 ≡ true = grind (arith, nat_tests, room, length-append s.ops (op.Read k ∷ [])) in
     record {
-      lines = more_script _ _ (partition_lines 0 d.places) (map init_words d.inits) (flat_map script_lines d.scripts) (tx_words s ∷ map op_words s.ops) (tx_words s ∷ map op_words (s.ops ++ op.Read k ∷ [])) []
-          (ap (λ l. tx_words s ∷ l) (map-append op_words s.ops (op.Read k ∷ []) ∙ ap (λ l. map op_words s.ops ++ (codes "read" ∷ l) ∷ []) (sym all)))
-          refl;
-      ranges = λ few r. record { places = r.places; inits = r.inits; scripts = r.scripts; ops = r.ops; opened = record { number = r.opened.number; home = r.opened.home; few = more; keys = all_last has_key s.ops (op.Read k) r.opened.keys key.1; built = all_last is_built_op s.ops (op.Read k) r.opened.built refl }; items = r.items; built = r.built };
+      lines = op_lines d s (op.Read k) (codes "read" ∷ ws) (ap (λ l. codes "read" ∷ l) all);
+      ranges = λ few r. record { places = r.places; inits = r.inits; scripts = r.scripts; opened = record { number = r.opened.number; home = r.opened.home; front = front_read s.ops k room r.opened.front; keys = all_last has_key s.ops (op.Read k) r.opened.keys key.1 }; items = r.items; built = r.built };
     })))))
+
+write_told : (d : Draft) (s : ScriptData) (ws : List (List ℕ)) → IfOk (write_line (outside d) s ws) (Adds (inside d s) (codes "write" ∷ ws))
+unfolding write_line
+write_told d s ws = either (nat_le 32 (length s.ops)) _ _ _ (λ _. tt) (λ room. behind (word_at ws) _ _ _ (word_told ws) (λ w words. behind (key_of w.0) _ _ _ (key_told w.0) (λ k key. then (name_key d.known k) _ _ (λ known. behind (expr_of (known_keys s.ops) w.1) _ (IsExprOf (known_keys s.ops) w.1) _ (expr_read (known_keys s.ops) w.1) (λ e read.
+    let all : ws ≡ k ∷ expr_words e = words ∙ ap (λ l. l ∷ w.1) key.0 ∙ ap (λ l. k ∷ l) read.spelled in
+    let one : has_key (op.Write k e) ≡ true = rw (key.1, read.plain) refl in
+    record {
+      lines = op_lines d s (op.Write k e) (codes "write" ∷ ws) (ap (λ l. codes "write" ∷ l) all);
+      ranges = λ few r. record { places = r.places; inits = r.inits; scripts = r.scripts; opened = record { number = r.opened.number; home = r.opened.home; front = front_write s.ops k e room read.among r.opened.front; keys = all_last has_key s.ops (op.Write k e) r.opened.keys one }; items = r.items; built = r.built };
+    })))))
+
+-- a script that was read to its end
+script_ranges : (s : ScriptData) → IsOpened s → nat_le 1 (length s.ops) ≡ true → is_script_in_range s ≡ true
+script_ranges s h least =
+    let most : nat_le (length s.ops) 32 ≡ true = grind (arith, nat_tests, h.front.most) in
+    let sound : are_sound [] s.ops ≡ true = h.front.sound in
+    rw (h.number, h.home, least, most, h.keys, sound) refl
 
 end_lines_told : (d : Draft) (s : ScriptData) (ws : List (List ℕ)) → IfOk (end_line (outside d) s ws) (Adds (inside d s) (codes "end" ∷ ws))
 unfolding end_line
@@ -258,7 +294,7 @@ end_lines_told d s ws = either (length s.ops == 0) _ _ _ (λ _. tt) (λ some. be
     record {
       lines = more_scripts _ _ (partition_lines 0 d.places) (map init_words d.inits) (flat_map script_lines d.scripts) (flat_map script_lines (d.scripts ++ s ∷ [])) (tx_words s ∷ map op_words s.ops)
           (flat_map-append script_lines d.scripts (s ∷ []) ∙ ap (λ l. flat_map script_lines d.scripts ++ l) (append-nil (script_lines s) ∙ ap (λ l. tx_words s ∷ (map op_words s.ops ++ (codes "end" ∷ l) ∷ [])) (sym none_left)));
-      ranges = λ few r. record { places = r.places; inits = r.inits; scripts = all_last is_script_in_range d.scripts s r.scripts (rw (r.opened.number, r.opened.home, least, r.opened.few, r.opened.keys) refl); ops = all_last (λ t. list_all is_built_op t.ops) d.scripts s r.ops r.opened.built; opened = tt; items = r.items; built = r.built };
+      ranges = λ few r. record { places = r.places; inits = r.inits; scripts = all_last is_script_in_range d.scripts s r.scripts (script_ranges s r.opened least); opened = tt; items = r.items; built = r.built };
     }))
 
 schedule_told : (d : Draft) (ws : List (List ℕ)) → d.items ≡ [] → schedule_lines d.part d.items ≡ [] → IfOk (schedule_line d ws) (Adds d (codes "schedule" ∷ ws))
@@ -267,7 +303,7 @@ schedule_told d ws none quiet = behind (end_at ws) _ _ _ (end_told ws) (λ z non
     record {
       lines = more_schedule _ _ (partition_lines 0 d.places) (map init_words d.inits) (flat_map script_lines d.scripts) (open_lines d.script) (schedule_lines d.part d.items) ((codes "schedule" ∷ []) ∷ map item_words d.items)
           (ap (λ l. (codes "schedule" ∷ []) ∷ map item_words l) none ∙ ap (λ l. (codes "schedule" ∷ l) ∷ []) (sym none_left) ∙ ap (λ l. l ++ (codes "schedule" ∷ ws) ∷ []) (sym quiet));
-      ranges = λ few r. record { places = r.places; inits = r.inits; scripts = r.scripts; ops = r.ops; opened = r.opened; items = r.items; built = r.built };
+      ranges = λ few r. record { places = r.places; inits = r.inits; scripts = r.scripts; opened = r.opened; items = r.items; built = r.built };
     })
 
 -- d in the schedule
@@ -278,7 +314,7 @@ item_told : (d : Draft) (i : Item) (c : ℕ) (ws : List (List ℕ)) → item_wor
 item_told d i c ws e is built = record {
   lines = more_schedule _ _ (partition_lines 0 d.places) (map init_words d.inits) (flat_map script_lines d.scripts) [] ((codes "schedule" ∷ []) ∷ map item_words d.items) ((codes "schedule" ∷ []) ∷ map item_words (d.items ++ i ∷ []))
       (ap (λ l. (codes "schedule" ∷ []) ∷ l) (map-append item_words d.items (i ∷ []) ∙ ap (λ l. map item_words d.items ++ l ∷ []) e));
-  ranges = λ few r. record { places = r.places; inits = r.inits; scripts = r.scripts; ops = r.ops; opened = r.opened; items = all_last is_item_in_range d.items i r.items is; built = all_last is_built_item d.items i r.built built };
+  ranges = λ few r. record { places = r.places; inits = r.inits; scripts = r.scripts; opened = r.opened; items = all_last is_item_in_range d.items i r.items is; built = all_last is_built_item d.items i r.built built };
 }
 
 begin_told : (d : Draft) (ws : List (List ℕ)) → IfOk (begin_line (planned d) ws) (Adds (planned d) (codes "begin" ∷ ws))
@@ -310,7 +346,7 @@ word_or : (w c : List ℕ) (ws : List (List ℕ)) (d : Draft) (x y : Result Draf
 word_or w c ws d x y h k = either (is_word w c) x y _ (λ e. subst (λ v. IfOk x (Adds d (v ∷ ws))) (sym ((bytes_decides w c).0 e)) h) (λ _. k)
 
 script_told : (d : Draft) (s : ScriptData) (w : List ℕ) (ws : List (List ℕ)) → IfOk (script_line (outside d) s w ws) (Adds (inside d s) (w ∷ ws))
-script_told d s w ws = word_or w (codes "read") ws (inside d s) _ _ (read_told d s ws) (word_or w (codes "write") ws (inside d s) _ _ tt (word_or w (codes "end") ws (inside d s) _ _ (end_lines_told d s ws) tt))
+script_told d s w ws = word_or w (codes "read") ws (inside d s) _ _ (read_told d s ws) (word_or w (codes "write") ws (inside d s) _ _ (write_told d s ws) (word_or w (codes "end") ws (inside d s) _ _ (end_lines_told d s ws) tt))
 
 later_told : (d : Draft) (w : List ℕ) (ws : List (List ℕ)) → d.script ≡ None → d.items ≡ [] → schedule_lines d.part d.items ≡ [] → IfOk (later_line d w ws) (Adds d (w ∷ ws))
 later_told d w ws none items quiet = word_or w (codes "tx") ws d _ _ (tx_lines_told d ws none quiet) (word_or w (codes "schedule") ws d _ _ (schedule_told d ws items quiet) tt)

@@ -1,9 +1,9 @@
 -- What each line of a document adds to what was read before it, or its first why.
 --
 -- The whys: 1 a first word that cannot stand there, or a word too many; 2 no number; 3 no node of the
--- cluster; 4 not the next partition; 5 no key; 6 no transaction; 8 a repeat; 9 past a limit; 10 a word
--- too few; 11 a byte that is not printed; 12 a form that is not read yet.
-use Rattle.std.specs.Prelude.{ℕ, ◌+◌, ◌==◌, ◌&&◌, ◌||◌, nat_le, Bool, List, [], ◌∷◌, ◌++◌, length, Option, Some, None, Result, Ok, Err, if◌then◌else◌, codes}
+-- cluster; 4 not the next partition; 5 no key; 6 no transaction; 7 a key that was not read before; 8 a
+-- repeat; 9 past a limit; 10 a word too few; 11 a byte that is not printed; 12 an item that is not read yet.
+use Rattle.std.specs.Prelude.{ℕ, ◌+◌, ◌==◌, ◌||◌, nat_le, Bool, List, [], ◌∷◌, ◌++◌, length, Option, Some, None, Result, Ok, Err, if◌then◌else◌, codes}
 use Rattle.std.specs.List.{slice_split, list_any, list_all}
 use Rattle.std.specs.Ordering.{nat_cmp}
 use Rattle.std.specs.Cmp.Lexicographic.{slice_cmp}
@@ -11,8 +11,7 @@ use Rattle.std.specs.BTreeSet.{BTreeSet, insert_key}
 use Rattle.score_base.specs.declared.keys.Key.{Key}
 use Rattle.score_base.specs.declared.ids.NodeId.{NodeId}
 use Rattle.score_base.specs.declared.ids.TxId.{TxId}
-use Rattle.score_base.specs.Keys.{is_key, same_key}
-use Rattle.score_base.specs.Numbers.{number}
+use Rattle.score_base.specs.Keys.{same_key}
 use Rattle.script_lang.specs.Scripts.{ScriptData}
 use Rattle.script_lang.specs.declared.scripts.Op.TheVariants as op
 use Rattle.grid_model.specs.declared.items.Item.{Item}
@@ -20,30 +19,10 @@ use Rattle.grid_model.specs.declared.items.Item.TheVariants as item
 use Rattle.cluster_file.specs.declared.drafts.Draft.{Draft}
 use Rattle.cluster_file.specs.declared.drafts.Part.{Part}
 use Rattle.cluster_file.specs.declared.drafts.Part.TheVariants as part
-use Rattle.cluster_file.specs.Reading.{◌>>=◌, is_word, word_at, end_at, number_at, in_range, steps}
-
--- The words.
-
-abbrev pub node_in : ℕ → Option ℕ → Result NodeId ℕ
-node_in nodes None = Err 3
-node_in nodes (Some n) = if nat_le 1 n && nat_le n nodes then Ok n else Err 3
-
--- a node: an 'n' and a number from 1 to the number of nodes
-abbrev pub node_of : ℕ → List ℕ → Result NodeId ℕ
-node_of nodes [] = Err 3
-node_of nodes (b ∷ bs) = if b == 110 then node_in nodes (number bs) else Err 3
-
--- a key
-abbrev pub key_of : List ℕ → Result Key ℕ
-key_of w = if is_key w then Ok w else Err 5
-
-abbrev pub tx_in : Option ℕ → Result TxId ℕ
-tx_in None = Err 6
-tx_in (Some t) = if nat_le 1 t && nat_le t 65535 then Ok t else Err 6
-
--- the number of a transaction, from 1 to 65,535
-abbrev pub tx_of : List ℕ → Result TxId ℕ
-tx_of w = tx_in (number w)
+use Rattle.script_lang.specs.Reads.{known_keys}
+use Rattle.script_lang.specs.Reading.{◌>>=◌, is_word, word_at, end_at, number_at, in_range, steps}
+use Rattle.script_lang.specs.Words.{node_of, key_of, tx_of, is_printed}
+use Rattle.script_lang.specs.ExprWords.{expr_of}
 
 -- What was named before.
 
@@ -118,7 +97,7 @@ init_line d ws = do
   end ← end_at v.1
   Ok (record d { inits = d.inits ++ (k, v.0) ∷ []; known = known; part = part.Inits })
 
--- Scripts: 'tx t n', then 1 to 32 lines 'read k', then 'end'.
+-- Scripts: 'tx t n', then 1 to 32 lines 'read k' or 'write k E', then 'end'.
 
 unfoldable pub tx_line : Draft → List (List ℕ) → Result Draft ℕ
 tx_line d ws = if nat_le 4096 (length d.scripts) then Err 9 else (do
@@ -137,6 +116,14 @@ read_line d s ws = if nat_le 32 (length s.ops) then Err 9 else (do
   known ← name_key d.known k
   end ← end_at w.1
   Ok (record d { script = Some (record s { ops = s.ops ++ op.Read k ∷ [] }); known = known }))
+
+unfoldable pub write_line : Draft → ScriptData → List (List ℕ) → Result Draft ℕ
+write_line d s ws = if nat_le 32 (length s.ops) then Err 9 else (do
+  w ← word_at ws
+  k ← key_of w.0
+  known ← name_key d.known k
+  e ← expr_of (known_keys s.ops) w.1
+  Ok (record d { script = Some (record s { ops = s.ops ++ op.Write k e ∷ [] }); known = known }))
 
 unfoldable pub end_line : Draft → ScriptData → List (List ℕ) → Result Draft ℕ
 end_line d s ws = if length s.ops == 0 then Err 10 else (do
@@ -195,7 +182,7 @@ next_line d ws = do
 abbrev pub script_line : Draft → ScriptData → List ℕ → List (List ℕ) → Result Draft ℕ
 script_line d s w ws =
     if is_word w (codes "read") then read_line d s ws else
-    (if is_word w (codes "write") then Err 12 else
+    (if is_word w (codes "write") then write_line d s ws else
     (if is_word w (codes "end") then end_line d s ws else Err 1))
 
 -- a line behind the initial values
@@ -238,10 +225,6 @@ line_in None d w ws = part_line d.part d w ws
 abbrev pub words_line : Draft → List (List ℕ) → Result Draft ℕ
 words_line d [] = Err 1
 words_line d (w ∷ ws) = line_in d.script (record d { script = None }) w ws
-
--- a byte from the space to the tilde
-abbrev pub is_printed : ℕ → Bool
-is_printed b = nat_le 32 b && nat_le b 126
 
 -- a line of printed bytes, as words between single spaces
 unfoldable pub line_of : Draft → List ℕ → Result Draft ℕ

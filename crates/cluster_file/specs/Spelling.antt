@@ -8,7 +8,8 @@ use Rattle.score_base.specs.declared.ids.NodeId.{NodeId}
 use Rattle.score_base.specs.declared.ids.TxId.{TxId}
 use Rattle.score_base.specs.declared.ids.Value.{Value}
 use Rattle.score_base.specs.Keys.{is_key}
-use Rattle.script_lang.specs.Scripts.{ScriptData}
+use Rattle.script_lang.specs.Scripts.{ScriptData, are_sound}
+use Rattle.script_lang.specs.Spelling.{op_words, is_plain_expr}
 use Rattle.script_lang.specs.declared.scripts.Op.{Op}
 use Rattle.script_lang.specs.declared.scripts.Op.TheVariants as op
 use Rattle.grid_model.specs.Documents.{DocumentData}
@@ -33,11 +34,6 @@ init_words x = codes "init" ∷ x.0 ∷ decimal x.1 ∷ []
 
 abbrev pub tx_words : ScriptData → List (List ℕ)
 tx_words s = codes "tx" ∷ decimal s.number ∷ node_word s.home ∷ []
-
--- an operation; the words of an expression are not written here yet, since no document has one
-abbrev pub op_words : Op → List (List ℕ)
-op_words (op.Read k) = codes "read" ∷ k ∷ []
-op_words (op.Write k e) = codes "write" ∷ k ∷ []
 
 abbrev pub item_words : Item → List (List ℕ)
 item_words (item.Begin t) = codes "begin" ∷ decimal t ∷ []
@@ -77,10 +73,6 @@ spelling d = flat_map line (document_lines d)
 
 -- Which documents have a spelling that is read.
 
-abbrev pub is_built_op : Op → Bool
-is_built_op (op.Read k) = true
-is_built_op (op.Write k e) = false
-
 abbrev pub is_built_item : Item → Bool
 is_built_item (item.Begin t) = true
 is_built_item (item.Deliver m) = true
@@ -92,9 +84,8 @@ is_built_item (item.Crash n how) = false
 is_built_item (item.Fuse n k how) = false
 is_built_item (item.Restart n) = false
 
--- each operation is a read, and each item begins, delivers, drops or takes the next
+-- each item begins, delivers, drops or takes the next
 pub record IsBuilt (d : DocumentData) : Type 0 where
-  pub ops : IsTrue (list_all (λ s. list_all is_built_op s.ops) d.scripts)
   pub items : IsTrue (list_all is_built_item d.items)
 
 -- The ranges that the types of a document's parts have in the code.
@@ -108,13 +99,15 @@ is_tx t = nat_le 1 t && nat_le t 65535
 abbrev pub is_init_in_range : Key × Value → Bool
 is_init_in_range x = is_key x.0 && nat_lt x.1 (2 ^ 64)
 
+-- the key is one, and so is each key of the expression, whose numbers are below 2^64
 abbrev pub has_key : Op → Bool
 has_key (op.Read k) = is_key k
-has_key (op.Write k e) = is_key k
+has_key (op.Write k e) = is_key k && is_plain_expr e
 
--- a script of 1 to 32 operations
+-- a script of 1 to 32 operations, whose expressions have at most 16 steps and name only keys that were
+-- read before
 abbrev pub is_script_in_range : ScriptData → Bool
-is_script_in_range s = is_tx s.number && is_node s.home && nat_le 1 (length s.ops) && nat_le (length s.ops) 32 && list_all has_key s.ops
+is_script_in_range s = is_tx s.number && is_node s.home && nat_le 1 (length s.ops) && nat_le (length s.ops) 32 && list_all has_key s.ops && are_sound [] s.ops
 
 abbrev pub is_item_in_range : Item → Bool
 is_item_in_range (item.Begin t) = is_tx t
@@ -127,7 +120,7 @@ is_item_in_range (item.Crash n how) = is_node n && nat_lt how (2 ^ 64)
 is_item_in_range (item.Fuse n k how) = is_node n && nat_lt k (2 ^ 64) && nat_lt how (2 ^ 64)
 is_item_in_range (item.Restart n) = is_node n
 
--- each key is one, each number is in the range of its type, and each script has 1 to 32 operations
+-- each key is one, each number is in the range of its type, and each script is a whole one
 pub record IsInRange (d : DocumentData) : Type 0 where
   pub places : IsTrue (list_all (list_all is_node) d.cluster.places)
   pub inits : IsTrue (list_all is_init_in_range d.cluster.inits)

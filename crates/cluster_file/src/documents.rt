@@ -3,13 +3,14 @@ ghost use Rattle.grid_model.specs.Documents.{IsDocument};
 ghost use Rattle.cluster_file.specs.Lines.{line_of};
 ghost use Rattle.cluster_file.specs.Doc.{at_line, is_whole, close, pieces_from, blank, document_of, doc, GivesDoc};
 
-use crate::drafts::{Draft, NodeCount, Part};
+use crate::drafts::{Draft, Part};
 use crate::lines::line_of;
-use crate::whys::{DocEnd, LineEnd, Refusal};
-use crate::words::pieces;
+use crate::whys::{DocEnd, Refusal};
 use grid_model::{Document, ItemList, ScriptList};
 use placement::{Cluster, Places};
 use score_base::{Members, WriteList};
+use script_lang::LineEnd;
+use script_lang::words::{NodeCount, pieces};
 use std::alloc::Global;
 use std::collections::BTreeSet;
 

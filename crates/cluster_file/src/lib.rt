@@ -4,8 +4,8 @@
 //! `end`, `schedule`, and items. `doc` in `specs/` is the format: it reads a text line by line and each
 //! line word by word, and [`read_document`] is proved equal to it. `spelling` there writes the words of
 //! a document; [`law_one_spelling`] says that `doc` finds a document in its spelling and in no other
-//! bytes. Of the whole format, a script reads and a schedule begins, delivers, drops and takes the next;
-//! the other forms are refused with why 12 where they may stand.
+//! bytes. Scripts are read whole; of the items, those that begin, deliver, drop and take the next are
+//! read, and the others are refused with why 12 where they may stand.
 #![tactic(auto)]
 
 mod documents;
@@ -15,7 +15,6 @@ mod lines;
 #[cfg(test)]
 mod tests;
 mod whys;
-mod words;
 
 pub use documents::read_document;
 pub use laws::law_one_spelling;

@@ -1,14 +1,18 @@
 ghost use Rattle.std.specs.Prelude.{◌≡◌, ◌≤◌, ◌==◌, ◌+◌, [], map, OnOk};
-ghost use Rattle.std.specs.List.{list_any, list_all};
-ghost use Rattle.cluster_file.specs.Reading.{Gives, steps};
-ghost use Rattle.cluster_file.specs.Lines.{is_known, is_taken, with_key, with_number, name_key, name_new_key, new_number, known_number, nodes_line, new_node, node_step, is_next, partition_line, init_line, tx_line, read_line, end_line, schedule_line, with_item, begin_line, deliver_line, drop_line, more_events, next_line, script_line, later_line, init_or_later, is_later_item, item_line, part_line, words_line, is_printed, line_of};
+ghost use Rattle.std.specs.List.{list_any};
+ghost use Rattle.script_lang.specs.Reading.{Gives, steps};
+ghost use Rattle.cluster_file.specs.Lines.{is_known, is_taken, with_key, with_number, name_key, name_new_key, new_number, known_number, nodes_line, new_node, node_step, is_next, partition_line, init_line, tx_line, read_line, write_line, end_line, schedule_line, with_item, begin_line, deliver_line, drop_line, more_events, next_line, script_line, later_line, init_or_later, is_later_item, item_line, part_line, words_line, line_of};
+ghost use Rattle.script_lang.specs.Words.{is_printed};
 
-use crate::drafts::{Draft, NodeCount, Part};
-use crate::whys::LineEnd;
-use crate::words::{end_at, in_range, is_word, key_of, node_of, number_at, pieces, tx_of, word_at};
+use crate::drafts::{Draft, Part};
 use grid_model::Item;
 use score_base::{Key, Memory, NodeId, NodeList, TxId, Value};
-use script_lang::ScriptDraft;
+use script_lang::expr_words::read_expr;
+use script_lang::words::{
+    NodeCount, are_printed, end_at, in_range, is_word, key_of, node_of, number_at, pieces, tx_of,
+    word_at,
+};
+use script_lang::{LineEnd, ScriptDraft};
 use std::alloc::Global;
 use std::collections::BTreeSet;
 
@@ -114,7 +118,7 @@ fn node_step(count: NodeCount, mut nodes: NodeList, word: &[u8]) -> Result<NodeL
     Ok(nodes)
 }
 
-#[tactic(auto, unfolding(crate::specs::Reading::steps))]
+#[tactic(auto, unfolding(script_lang::specs::Reading::steps))]
 fn nodes_at(alloc: Global, count: NodeCount, words: &[&[u8]]) -> Result<NodeList, LineEnd>
     ensures { Gives (λ ns. ns) result (steps (node_step count) [] (map (λ w. w.now) words.now)) }
 {
@@ -197,6 +201,27 @@ fn read_line(mut draft: Draft, mut script: ScriptDraft, words: &[&[u8]]) -> Resu
     name_key(&mut draft.known, key)?;
     end_at(rest)?;
     script.push_read(key)?;
+    draft.script = Some(script);
+    Ok(draft)
+}
+
+#[tactic(auto, unfolding(crate::specs::Lines::write_line))]
+fn write_line(
+    alloc: Global,
+    mut draft: Draft,
+    mut script: ScriptDraft,
+    words: &[&[u8]],
+) -> Result<Draft, LineEnd>
+    ensures { Gives (λ d. d) result (write_line draft script (map (λ w. w.now) words.now)) }
+{
+    if script.len() >= 32 {
+        return Err(LineEnd::Why(9));
+    }
+    let (word, rest) = word_at(words)?;
+    let target = key_of(word)?;
+    name_key(&mut draft.known, target)?;
+    let expr = read_expr(alloc, script.ops(), rest)?;
+    script.push_write(target, expr)?;
     draft.script = Some(script);
     Ok(draft)
 }
@@ -297,6 +322,7 @@ fn next_line(mut draft: Draft, words: &[&[u8]]) -> Result<Draft, LineEnd>
 }
 
 fn script_line(
+    alloc: Global,
     draft: Draft,
     script: ScriptDraft,
     word: &[u8],
@@ -307,7 +333,7 @@ fn script_line(
     if is_word(word, b"read") {
         read_line(draft, script, rest)
     } else if is_word(word, b"write") {
-        Err(LineEnd::Why(12))
+        write_line(alloc, draft, script, rest)
     } else if is_word(word, b"end") {
         end_line(draft, script, rest)
     } else {
@@ -403,15 +429,9 @@ fn words_line(alloc: Global, mut draft: Draft, words: &[&[u8]]) -> Result<Draft,
         return Err(LineEnd::Why(1));
     };
     match draft.script.take() {
-        Some(script) => script_line(draft, script, word, rest),
+        Some(script) => script_line(alloc, draft, script, word, rest),
         None => part_line(alloc, draft, word, rest),
     }
-}
-
-fn are_printed(line: &[u8]) -> bool
-    ensures { result ≡ list_all is_printed line.now }
-{
-    line.iter().all(|b| 32 <= *b && *b <= 126)
 }
 
 /// What a line adds to what was read before it.

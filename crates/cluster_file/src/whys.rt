@@ -1,6 +1,3 @@
-use score_base::Memory;
-use std::alloc::AllocError;
-
 /// The first line at fault, counted from 1, and why.
 #[derive(Clone, Copy, Debug, PartialEq, Eq)]
 pub struct Refusal {
@@ -15,35 +12,4 @@ pub enum DocEnd {
     Refused(Refusal),
     /// No memory was found.
     Memory,
-}
-
-/// Why a line was not read.
-#[derive(Clone, Copy, Debug, PartialEq, Eq)]
-pub enum LineEnd {
-    /// It is at fault.
-    Why(u8),
-    /// No memory was found.
-    Memory,
-}
-
-impl From<Memory> for LineEnd {
-    ghost use Rattle.std.specs.Prelude.{◌≡◌};
-    ghost use Rattle.cluster_file.specs.declared.whys.LineEnd.TheVariants as ends;
-
-    ghost from_gives = { λ _ e. e ≡ ends.Memory };
-
-    fn from(_e: Memory) -> LineEnd {
-        LineEnd::Memory
-    }
-}
-
-impl From<AllocError> for LineEnd {
-    ghost use Rattle.std.specs.Prelude.{◌≡◌};
-    ghost use Rattle.cluster_file.specs.declared.whys.LineEnd.TheVariants as ends;
-
-    ghost from_gives = { λ _ e. e ≡ ends.Memory };
-
-    fn from(_e: AllocError) -> LineEnd {
-        LineEnd::Memory
-    }
 }

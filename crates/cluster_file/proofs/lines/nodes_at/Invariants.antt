@@ -1,6 +1,6 @@
 use Rattle.std.proofs.Common.{◌≡◌, [], map, drop}
 use Rattle.cluster_file.specs.Lines.{node_step}
-use Rattle.cluster_file.specs.Reading.{steps}
+use Rattle.script_lang.specs.Reading.{steps}
 use Rattle.cluster_file.proofs.lines.nodes_at.Given as goal
 
 abbrev pub invariant-loop-word : goal.invariant-loop-word
