@@ -1,5 +1,5 @@
 -- Each decision in a journal, or in doubt, is of a transaction of that node that runs: what an act owes so that this stays.
-use Rattle.std.proofs.Common.{ℕ, Bool, true, false, ◌&&◌, ◌||◌, ◌==◌, not, IsTrue, List, [], ◌∷◌, ◌++◌, Option, None, Some, is_some, is_none, ◌≡◌, refl, ap, subst, sym, ◌∙◌, arith, ◌⊎◌, inl, inr, if◌then◌else◌}
+use Rattle.std.proofs.Common.{ℕ, Bool, true, false, ◌&&◌, ◌||◌, ◌==◌, not, IsTrue, List, [], ◌∷◌, Option, None, Some, is_none, ◌≡◌, refl, subst, arith, inl, inr, if◌then◌else◌}
 use Rattle.std.proofs.lemmas.Bool.{cases_eq}
 use Rattle.std.proofs.lemmas.Bool.Decides.{nat_tests}
 use Rattle.score_base.specs.declared.ids.TxId.{TxId}
@@ -12,7 +12,6 @@ use Rattle.score_base.specs.declared.records.Record.TheVariants as record'
 use Rattle.script_lang.specs.Scripts.{ScriptData}
 use Rattle.grid_model.specs.declared.acts.Act.{Act}
 use Rattle.grid_model.specs.declared.acts.Act.TheVariants as act
-use Rattle.grid_model.specs.declared.acts.Head.{Head}
 use Rattle.grid_model.specs.declared.acts.Head.TheVariants as head
 use Rattle.grid_model.specs.declared.messages.Envelope.{Envelope}
 use Rattle.grid_model.specs.declared.messages.Message.{Message}
@@ -22,8 +21,8 @@ use Rattle.grid_model.specs.Documents.{DocumentData}
 use Rattle.grid_model.specs.Histories.{after, sent, sent_at}
 use Rattle.grid_model.proofs.PlainOuts.{both}
 use Rattle.grid_model.specs.Journals.{Decision, decision, undone, is_closed}
-use Rattle.grid_model.specs.Nodes.{Node, Change, Writes, Starts, Nothing, Raises, Holds, Frees, Stops, Stays, node, journal, script_of, parts_of, is_home, got, change, changed, where_at, written, found, prepared_by, doubt_of, freed, parts_in, is_request, said_by}
-use Rattle.grid_model.specs.Stories.{Phase, story, told, begun, heard, heard_at, asked, if_told, phase_at, with_vote, with_ack, with_value, with_request, without_answers}
+use Rattle.grid_model.specs.Nodes.{Node, Change, Writes, Starts, Stops, node, journal, script_of, parts_of, is_home, got, change, changed, where_at, written, prepared_by, freed, parts_in, is_request, said_by}
+use Rattle.grid_model.specs.Stories.{Phase, story, told, begun, heard, heard_at, if_told, phase_at, with_vote, with_ack, with_value, with_request, without_answers}
 use Rattle.grid_model.specs.NextViews.{OwnDecisions, is_own_decision, is_running}
 
 -- ---- the decisions of a node
