@@ -25,7 +25,7 @@ use Rattle.cluster_file.specs.declared.drafts.Draft.{Draft}
 use Rattle.cluster_file.specs.declared.drafts.Part.{Part}
 use Rattle.cluster_file.specs.declared.drafts.Part.TheVariants as part
 use Rattle.cluster_file.specs.Reading.{is_word, word_at, end_at, number_at, in_range, steps}
-use Rattle.cluster_file.specs.Lines.{node_of, node_in, key_of, tx_of, is_known, is_taken, with_key, name_key, name_new_key, new_number, known_number, nodes_line, new_node, node_step, is_next, partition_line, init_line, tx_line, read_line, end_line, schedule_line, with_item, begin_line, deliver_line, script_line, later_line, init_or_later, is_later_item, item_line, part_line, line_in, words_line, is_printed, line_of}
+use Rattle.cluster_file.specs.Lines.{node_of, node_in, key_of, tx_of, is_known, is_taken, with_key, name_key, name_new_key, new_number, known_number, nodes_line, new_node, node_step, is_next, partition_line, init_line, tx_line, read_line, end_line, schedule_line, with_item, begin_line, deliver_line, drop_line, more_events, next_line, script_line, later_line, init_or_later, is_later_item, item_line, part_line, line_in, words_line, is_printed, line_of}
 use Rattle.cluster_file.specs.Doc.{close, is_whole, pieces_from, at_line, blank, document_of}
 use Rattle.cluster_file.proofs.Bools.{and_parts}
 use Rattle.cluster_file.proofs.Members.{among_numbers, among_keys, distinct_more}
@@ -130,11 +130,11 @@ plan_none nodes ts us items events none h = record {
   few = h.few;
 }
 
-plan_item : (nodes : ℕ) (ts : List TxId) (items : List Item) (events : ℕ) (i : Item) → IsPlan nodes ts items events → is_item nodes ts i ≡ true → events_of i ≡ 1 → nat_le 50000 events ≡ false → IsPlan nodes ts (items ++ i ∷ []) (events + 1)
-plan_item nodes ts items events i h ok one room = record {
+plan_item : (nodes : ℕ) (ts : List TxId) (items : List Item) (events : ℕ) (i : Item) → IsPlan nodes ts items events → is_item nodes ts i ≡ true → events + events_of i ≤ 50000 → IsPlan nodes ts (items ++ i ∷ []) (events + events_of i)
+plan_item nodes ts items events i h ok room = record {
   each = all_last (is_item nodes ts) items i h.each ok;
-  counted = omega (arith, h.counted, one, sum_by_push events_of items i);
-  few = grind (arith, nat_tests, room);
+  counted = omega (arith, h.counted, sum_by_push events_of items i);
+  few = room;
 }
 
 no_script : (ss : List ScriptData) (o : Option ScriptData) → o ≡ None → ss ++ opened o ≡ ss
@@ -148,12 +148,12 @@ nodes_keeps ws = then (number_at ws) _ _ (λ n. behind (in_range 1 16 n.0) _ _ _
   head = record { least = h.0; most = h.1; few = omega arith; each = refl; within = refl };
   named = record { fresh = refl; few = omega arith; distinct = refl; homes = refl; ordered = refl; few_keys = omega arith; taken = refl };
   plan = record { each = refl; counted = refl; few = omega arith };
-  stage = (refl, refl, refl);
+  stage = (refl, refl, refl, refl);
 })))
 
-partition_keeps : (d : Draft) (ws : List (List ℕ)) → IsBegun d → d.scripts ≡ [] → d.script ≡ None → d.items ≡ [] → IfOk (partition_line d ws) IsBegun
+partition_keeps : (d : Draft) (ws : List (List ℕ)) → IsBegun d → d.scripts ≡ [] → d.script ≡ None → d.items ≡ [] → d.inits ≡ [] → IfOk (partition_line d ws) IsBegun
 unfolding partition_line
-partition_keeps d ws h ss none items = either (nat_le 64 (length d.places)) _ _ _ (λ e. tt) (λ room. then (number_at ws) _ _ (λ i. behind (is_next (length d.places) i.0 i.1) _ _ _ (is_next_keeps (length d.places) i.0 i.1) (λ z some. behind (steps (node_step d.nodes) [] i.1) _ _ _ (steps_keep d.nodes [] i.1 (record { distinct = refl; within = refl }) (omega (arith, some))) (λ ns k.
+partition_keeps d ws h ss none items bare = either (nat_le 64 (length d.places)) _ _ _ (λ e. tt) (λ room. then (number_at ws) _ _ (λ i. behind (is_next (length d.places) i.0 i.1) _ _ _ (is_next_keeps (length d.places) i.0 i.1) (λ z some. behind (steps (node_step d.nodes) [] i.1) _ _ _ (steps_keep d.nodes [] i.1 (record { distinct = refl; within = refl }) (omega (arith, some))) (λ ns k.
     let long : length (d.places ++ ns ∷ []) ≡ length d.places + 1 = length-append d.places (ns ∷ []) in
     let less : length d.places < 64 = grind (arith, nat_tests, room) in
     let least : nat_le 1 (length ns) ≡ true = grind (arith, nat_tests, k.1) in
@@ -162,7 +162,7 @@ partition_keeps d ws h ss none items = either (nat_le 64 (length d.places)) _ _ 
       head = record { least = h.head.least; most = h.head.most; few = omega (arith, long, less); each = all_last is_partition d.places ns h.head.each one; within = all_last (list_all (λ n. nat_le n d.nodes)) d.places ns h.head.within k.0.within };
       named = h.named;
       plan = h.plan;
-      stage = (ss, none, items, omega (arith, long));
+      stage = (ss, none, items, bare, omega (arith, long));
     }))))
 
 init_keeps : (d : Draft) (ws : List (List ℕ)) → IsBegun d → d.scripts ≡ [] → d.script ≡ None → d.items ≡ [] → 1 ≤ length d.places → IfOk (init_line d ws) IsBegun
@@ -231,29 +231,49 @@ init_or_later_keeps d w ws h ss none items some = either (is_word w (codes "init
 abbrev planned : Draft → Draft
 planned d = record d { script = None; part = part.Items }
 
-item_keeps : (d : Draft) (i : Item) → IsBegun (planned d) → is_item d.nodes (script_numbers (d.scripts ++ [])) i ≡ true → events_of i ≡ 1 → nat_le 50000 d.events ≡ false → IsBegun (with_item (planned d) i 1)
-item_keeps d i h ok one room = record {
+item_keeps : (d : Draft) (i : Item) → IsBegun (planned d) → is_item d.nodes (script_numbers (d.scripts ++ [])) i ≡ true → d.events + events_of i ≤ 50000 → IsBegun (with_item (planned d) i (events_of i))
+item_keeps d i h ok room = record {
   head = h.head;
   named = h.named;
-  plan = plan_item d.nodes (script_numbers (d.scripts ++ [])) d.items d.events i h.plan ok one room;
+  plan = plan_item d.nodes (script_numbers (d.scripts ++ [])) d.items d.events i h.plan ok room;
   stage = h.stage;
 }
 
+one_more : (events : ℕ) → nat_le 50000 events ≡ false → events + 1 ≤ 50000
+one_more events room = grind (arith, nat_tests, room)
+
+is_count : (c : ℕ) → 1 ≤ c → c ≤ 50000 → (nat_le 1 c && nat_le c 50000) ≡ true
+is_count c low high =
+    let least : nat_le 1 c ≡ true = grind (arith, nat_tests, low) in
+    let most : nat_le c 50000 ≡ true = grind (arith, nat_tests, high) in
+    rw (least, most) refl
+
 begin_keeps : (d : Draft) (ws : List (List ℕ)) → IsBegun (planned d) → IfOk (begin_line (planned d) ws) IsBegun
 unfolding begin_line
-begin_keeps d ws h = either (nat_le 50000 d.events) _ _ _ (λ e. tt) (λ room. then (word_at ws) _ _ (λ w. then (tx_of w.0) _ _ (λ t. behind (known_number d.numbers t) _ (λ _. is_taken d.numbers t ≡ true) _ (either (is_taken d.numbers t) _ _ _ (λ e. e) (λ e. tt)) (λ z known. then (end_at w.1) _ _ (λ _. item_keeps d (item.Begin t) h (sym (among_numbers t (script_numbers (d.scripts ++ []))) ∙ ap (list_any (λ u. u == t)) (sym h.named.taken) ∙ known) refl room)))))
+begin_keeps d ws h = either (nat_le 50000 d.events) _ _ _ (λ e. tt) (λ room. then (word_at ws) _ _ (λ w. then (tx_of w.0) _ _ (λ t. behind (known_number d.numbers t) _ (λ _. is_taken d.numbers t ≡ true) _ (either (is_taken d.numbers t) _ _ _ (λ e. e) (λ e. tt)) (λ z known. then (end_at w.1) _ _ (λ _. item_keeps d (item.Begin t) h (sym (among_numbers t (script_numbers (d.scripts ++ []))) ∙ ap (list_any (λ u. u == t)) (sym h.named.taken) ∙ known) (one_more d.events room))))))
 
 deliver_keeps : (d : Draft) (ws : List (List ℕ)) → IsBegun (planned d) → IfOk (deliver_line (planned d) ws) IsBegun
 unfolding deliver_line
-deliver_keeps d ws h = either (nat_le 50000 d.events) _ _ _ (λ e. tt) (λ room. then (number_at ws) _ _ (λ n. behind (in_range 1 4294967295 n.0) _ _ _ (in_range_keeps 1 4294967295 n.0) (λ m low. then (end_at n.1) _ _ (λ _. item_keeps d (item.Deliver m) h (grind (arith, nat_tests, low.0)) refl room))))
+deliver_keeps d ws h = either (nat_le 50000 d.events) _ _ _ (λ e. tt) (λ room. then (number_at ws) _ _ (λ n. behind (in_range 1 4294967295 n.0) _ _ _ (in_range_keeps 1 4294967295 n.0) (λ m low. then (end_at n.1) _ _ (λ _. item_keeps d (item.Deliver m) h (grind (arith, nat_tests, low.0)) (one_more d.events room)))))
+
+drop_keeps : (d : Draft) (ws : List (List ℕ)) → IsBegun (planned d) → IfOk (drop_line (planned d) ws) IsBegun
+unfolding drop_line
+drop_keeps d ws h = either (nat_le 50000 d.events) _ _ _ (λ e. tt) (λ room. then (number_at ws) _ _ (λ n. behind (in_range 1 4294967295 n.0) _ _ _ (in_range_keeps 1 4294967295 n.0) (λ m low. then (end_at n.1) _ _ (λ _. item_keeps d (item.Drop m) h (grind (arith, nat_tests, low.0)) (one_more d.events room)))))
+
+more_events_keeps : (events c : ℕ) → IfOk (more_events events c) (λ _. events + c ≤ 50000)
+more_events_keeps events c = either (nat_le (events + c) 50000) _ _ _ (λ e. grind (arith, nat_tests, e)) (λ e. tt)
+
+next_keeps : (d : Draft) (ws : List (List ℕ)) → IsBegun (planned d) → IfOk (next_line (planned d) ws) IsBegun
+unfolding next_line
+next_keeps d ws h = then (number_at ws) _ _ (λ n. behind (in_range 1 50000 n.0) _ _ _ (in_range_keeps 1 50000 n.0) (λ c low. behind (more_events d.events c) _ _ _ (more_events_keeps d.events c) (λ z room. then (end_at n.1) _ _ (λ _. item_keeps d (item.Next c) h (is_count c low.0 low.1) room))))
 
 item_line_keeps : (d : Draft) (w : List ℕ) (ws : List (List ℕ)) → IsBegun (planned d) → IfOk (item_line (planned d) w ws) IsBegun
-item_line_keeps d w ws h = either (is_word w (codes "begin")) _ _ _ (λ e. begin_keeps d ws h) (λ e. either (is_word w (codes "deliver")) _ _ _ (λ e. deliver_keeps d ws h) (λ e. either (is_later_item w) _ _ _ (λ e. tt) (λ e. tt)))
+item_line_keeps d w ws h = either (is_word w (codes "begin")) _ _ _ (λ e. begin_keeps d ws h) (λ e. either (is_word w (codes "deliver")) _ _ _ (λ e. deliver_keeps d ws h) (λ e. either (is_word w (codes "drop")) _ _ _ (λ e. drop_keeps d ws h) (λ e. either (is_word w (codes "next")) _ _ _ (λ e. next_keeps d ws h) (λ e. either (is_later_item w) _ _ _ (λ e. tt) (λ e. tt)))))
 
 part_keeps : (p : Part) (d : Draft) (w : List ℕ) (ws : List (List ℕ)) → IsBegun (record d { script = None; part = p }) → IfOk (part_line p (record d { script = None; part = p }) w ws) IsBegun
 part_keeps part.Start d w ws h = absurd h.stage
-part_keeps part.Nodes d w ws h = either (is_word w (codes "partition")) _ _ _ (λ e. partition_keeps (record d { script = None; part = part.Nodes }) ws h h.stage.0 h.stage.1 h.stage.2) (λ e. tt)
-part_keeps part.Partitions d w ws h = either (is_word w (codes "partition")) _ _ _ (λ e. partition_keeps (record d { script = None; part = part.Partitions }) ws h h.stage.0 h.stage.1 h.stage.2) (λ e. init_or_later_keeps (record d { script = None; part = part.Partitions }) w ws h h.stage.0 h.stage.1 h.stage.2 h.stage.3)
+part_keeps part.Nodes d w ws h = either (is_word w (codes "partition")) _ _ _ (λ e. partition_keeps (record d { script = None; part = part.Nodes }) ws h h.stage.0 h.stage.1 h.stage.2 h.stage.3) (λ e. tt)
+part_keeps part.Partitions d w ws h = either (is_word w (codes "partition")) _ _ _ (λ e. partition_keeps (record d { script = None; part = part.Partitions }) ws h h.stage.0 h.stage.1 h.stage.2 h.stage.3) (λ e. init_or_later_keeps (record d { script = None; part = part.Partitions }) w ws h h.stage.0 h.stage.1 h.stage.2 h.stage.4)
 part_keeps part.Inits d w ws h = init_or_later_keeps (record d { script = None; part = part.Inits }) w ws h h.stage.0 h.stage.1 h.stage.2 h.stage.3
 part_keeps part.Scripts d w ws h = later_keeps (record d { script = None; part = part.Scripts }) w ws h refl h.stage.0 h.stage.1
 part_keeps part.Items d w ws h = item_line_keeps d w ws h
@@ -275,17 +295,18 @@ blank_words_keep : (ws : List (List ℕ)) → IfOk (words_line blank ws) IsBegun
 blank_words_keep [] = tt
 blank_words_keep (w ∷ ws) = either (is_word w (codes "nodes")) _ _ _ (λ e. nodes_keeps ws) (λ e. tt)
 
-line_keeps : (d : Draft) (line : List ℕ) → IsBegun d → IfOk (line_of d line) IsBegun
+pub line_keeps : (d : Draft) (line : List ℕ) → IsBegun d → IfOk (line_of d line) IsBegun
 unfolding line_of
 line_keeps d line h = either (list_all is_printed line) _ _ _ (λ e. words_keep d (slice_split (λ b. b == 32) line) h) (λ e. tt)
 
-blank_line_keeps : (line : List ℕ) → IfOk (line_of blank line) IsBegun
+pub blank_line_keeps : (line : List ℕ) → IfOk (line_of blank line) IsBegun
 unfolding line_of
 blank_line_keeps line = either (list_all is_printed line) _ _ _ (λ e. blank_words_keep (slice_split (λ b. b == 32) line)) (λ e. tt)
 
 -- The whole text.
 
-record IsWhole (d : Draft) : Type 0 where
+-- what was read to the end
+pub record IsWhole (d : Draft) : Type 0 where
   pub begun : IsBegun d
   pub ended : d.part ≡ part.Items
 
@@ -308,7 +329,7 @@ unfolding pieces_from
 pieces_keep d n [] h = tt
 pieces_keep d n (x ∷ xs) h = either (length xs == 0) _ _ _ (λ e. numbered n (close d x) IsWhole (close_keeps d x h)) (λ e. below (at_line n (line_of d x)) _ IsBegun _ (numbered n (line_of d x) IsBegun (line_keeps d x h)) (λ f k. pieces_keep f (n + 1) xs k))
 
-blank_pieces_keep : (n : ℕ) (xs : List (List ℕ)) → IfOk (pieces_from blank n xs) IsWhole
+pub blank_pieces_keep : (n : ℕ) (xs : List (List ℕ)) → IfOk (pieces_from blank n xs) IsWhole
 unfolding pieces_from
 blank_pieces_keep n [] = tt
 blank_pieces_keep n (x ∷ xs) = either (length xs == 0) _ _ _ (λ e. numbered n (close blank x) IsWhole (blank_close_keeps x)) (λ e. below (at_line n (line_of blank x)) _ IsBegun _ (numbered n (line_of blank x) IsBegun (blank_line_keeps x)) (λ f k. pieces_keep f (n + 1) xs k))
@@ -316,7 +337,7 @@ blank_pieces_keep n (x ∷ xs) = either (length xs == 0) _ _ _ (λ e. numbered n
 IsDocument-from_whole : (d : Draft) → IsWhole d → IsDocument (document_of d)
 IsDocument-from_whole d w =
     let h = w.begun in
-    let stage : (d.script ≡ None) × (1 ≤ length d.places) = subst (λ p. IsStage p d.places d.scripts d.script d.items) w.ended h.stage in
+    let stage : (d.script ≡ None) × (1 ≤ length d.places) = subst (λ p. IsStage p d.places d.inits d.scripts d.script d.items) w.ended h.stage in
     let all : all_scripts d ≡ d.scripts = no_script d.scripts d.script stage.0 in
     let named : IsNamed d.nodes d.inits d.scripts d.known.keys d.numbers.keys = subst (λ l. IsNamed d.nodes d.inits l d.known.keys d.numbers.keys) all h.named in
     let plan : IsPlan d.nodes (script_numbers d.scripts) d.items d.events = subst (λ l. IsPlan d.nodes (script_numbers l) d.items d.events) all h.plan in

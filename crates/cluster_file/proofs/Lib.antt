@@ -4,3 +4,9 @@ pub mod Steps
 pub mod SoFar
 pub mod Named
 pub mod Keeps
+pub mod Bytes
+pub mod Told
+pub mod OneSpelling
+pub mod Again
+pub mod LinesAgain
+pub mod BytesAgain

@@ -14,7 +14,7 @@ use Rattle.score_base.specs.declared.ids.TxId.{TxId}
 use Rattle.score_base.specs.declared.ids.Value.{Value}
 use Rattle.score_base.specs.Keys.{same_key}
 use Rattle.script_lang.specs.Scripts.{ScriptData}
-use Rattle.script_lang.specs.Reads.{keys_named}
+use Rattle.script_lang.specs.Reads.{keys_named, key_of}
 use Rattle.script_lang.specs.declared.scripts.Op.{Op}
 use Rattle.script_lang.specs.declared.scripts.Op.TheVariants as op
 use Rattle.grid_model.specs.Documents.{script_numbers, keys_in, key_order, number_order}
@@ -34,7 +34,7 @@ keys_named_last [] k = refl
 keys_named_last (op.Read x ∷ ops) k = ap (λ ks. x ∷ ks) (keys_named_last ops k)
 keys_named_last (op.Write x e ∷ ops) k = ap (λ ks. x ∷ ks) (keys_named_last ops k)
 
-last_keys : (inits : List (Key × Value)) (ss : List ScriptData) (s : ScriptData) → keys_in inits (ss ++ s ∷ []) ≡ keys_in inits ss ++ keys_named s.ops
+pub last_keys : (inits : List (Key × Value)) (ss : List ScriptData) (s : ScriptData) → keys_in inits (ss ++ s ∷ []) ≡ keys_in inits ss ++ keys_named s.ops
 last_keys inits ss s =
     ap (λ ks. map (λ x. x.0) inits ++ ks) (flat_map-append (λ t. keys_named t.ops) ss (s ∷ []) ∙ ap (λ ks. flat_map (λ t. keys_named t.ops) ss ++ ks) (append-nil (keys_named s.ops)))
     ∙ sym (append_assoc (map (λ x. x.0) inits) (flat_map (λ t. keys_named t.ops) ss) (keys_named s.ops))
@@ -74,3 +74,26 @@ all_but_last p (y ∷ xs) x h = by (p y) h (all_but_last p xs x)
 pub known_in_inits : (inits : List (Key × Value)) (k : Key) → list_any (λ x. same_key x.0 k) inits ≡ list_any (same_key k) (keys_in inits [])
 known_in_inits [] k = refl
 known_in_inits (x ∷ inits) k = rw (nat_list_eq_equiv.symm x.0 k, known_in_inits inits k) refl
+
+-- Some more behind others.
+
+pub keys_more_inits : (xs ys : List (Key × Value)) → keys_in (xs ++ ys) [] ≡ keys_in xs [] ++ map (λ x. x.0) ys
+keys_more_inits xs ys = append-nil (map (λ x. x.0) (xs ++ ys)) ∙ map-append (λ x. x.0) xs ys ∙ ap (λ l. l ++ map (λ x. x.0) ys) (sym (append-nil (map (λ x. x.0) xs)))
+
+pub keys_more_scripts : (inits : List (Key × Value)) (ss ts : List ScriptData) → keys_in inits (ss ++ ts) ≡ keys_in inits ss ++ flat_map (λ s. keys_named s.ops) ts
+keys_more_scripts inits ss ts = ap (λ l. map (λ x. x.0) inits ++ l) (flat_map-append (λ s. keys_named s.ops) ss ts) ∙ sym (append_assoc (map (λ x. x.0) inits) (flat_map (λ s. keys_named s.ops) ss) (flat_map (λ s. keys_named s.ops) ts))
+
+keys_named_more : (os rest : List Op) → keys_named (os ++ rest) ≡ keys_named os ++ keys_named rest
+keys_named_more [] rest = refl
+keys_named_more (o ∷ os) rest = ap (λ ks. key_of o ∷ ks) (keys_named_more os rest)
+
+pub keys_more_ops : (inits : List (Key × Value)) (ss : List ScriptData) (s : ScriptData) (os rest : List Op) → keys_in inits (ss ++ record s { ops = os ++ rest } ∷ []) ≡ keys_in inits (ss ++ record s { ops = os } ∷ []) ++ keys_named rest
+keys_more_ops inits ss s os rest =
+    last_keys inits ss (record s { ops = os ++ rest })
+    ∙ ap (λ l. keys_in inits ss ++ l) (keys_named_more os rest)
+    ∙ sym (append_assoc (keys_in inits ss) (keys_named os) (keys_named rest))
+    ∙ ap (λ l. l ++ keys_named rest) (sym (last_keys inits ss (record s { ops = os })))
+
+pub numbers_more : (ss ts : List ScriptData) → script_numbers (ss ++ ts) ≡ script_numbers ss ++ script_numbers ts
+numbers_more [] ts = refl
+numbers_more (s ∷ ss) ts = ap (λ l. s.number ∷ l) (numbers_more ss ts)

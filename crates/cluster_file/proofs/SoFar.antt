@@ -49,17 +49,17 @@ pub record IsPlan (nodes : ℕ) (numbers : List TxId) (items : List Item) (event
   pub few : events ≤ 50000
 
 -- what each part of the document says of the later ones
-abbrev pub IsStage : Part → List (List NodeId) → List ScriptData → Option ScriptData → List Item → Type 0
-IsStage part.Start places scripts script items = ⊥
-IsStage part.Nodes places scripts script items = (scripts ≡ []) × (script ≡ None) × (items ≡ [])
-IsStage part.Partitions places scripts script items = (scripts ≡ []) × (script ≡ None) × (items ≡ []) × (1 ≤ length places)
-IsStage part.Inits places scripts script items = (scripts ≡ []) × (script ≡ None) × (items ≡ []) × (1 ≤ length places)
-IsStage part.Scripts places scripts script items = (items ≡ []) × (1 ≤ length places)
-IsStage part.Items places scripts script items = (script ≡ None) × (1 ≤ length places)
+abbrev pub IsStage : Part → List (List NodeId) → List (Key × Value) → List ScriptData → Option ScriptData → List Item → Type 0
+IsStage part.Start places inits scripts script items = ⊥
+IsStage part.Nodes places inits scripts script items = (scripts ≡ []) × (script ≡ None) × (items ≡ []) × (inits ≡ [])
+IsStage part.Partitions places inits scripts script items = (scripts ≡ []) × (script ≡ None) × (items ≡ []) × (inits ≡ []) × (1 ≤ length places)
+IsStage part.Inits places inits scripts script items = (scripts ≡ []) × (script ≡ None) × (items ≡ []) × (1 ≤ length places)
+IsStage part.Scripts places inits scripts script items = (items ≡ []) × (1 ≤ length places)
+IsStage part.Items places inits scripts script items = (script ≡ None) × (1 ≤ length places)
 
 -- what was read is well formed so far, its first line at least
 pub record IsBegun (d : Draft) : Type 0 where
   pub head : IsHead d.nodes d.places
   pub named : IsNamed d.nodes d.inits (all_scripts d) d.known.keys d.numbers.keys
   pub plan : IsPlan d.nodes (script_numbers (all_scripts d)) d.items d.events
-  pub stage : IsStage d.part d.places d.scripts d.script d.items
+  pub stage : IsStage d.part d.places d.inits d.scripts d.script d.items

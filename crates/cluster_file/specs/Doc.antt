@@ -10,14 +10,10 @@ use Rattle.cluster_file.specs.declared.whys.DocEnd.{DocEnd}
 use Rattle.cluster_file.specs.declared.whys.DocEnd.TheVariants as ends
 use Rattle.cluster_file.specs.Lines.{line_of}
 
--- The why that is answered. While only a part of the format is read, each why but 12 is answered as 1.
-abbrev pub why_now : ℕ → ℕ
-why_now why = if why == 12 then 12 else 1
-
 -- what was read, or the refusal of the line of this number
 abbrev pub at_line : {A : Type 0} → ℕ → Result A ℕ → Result A Refusal
 at_line n (Ok x) = Ok x
-at_line n (Err why) = Err (record { line = n; why = why_now why })
+at_line n (Err why) = Err (record { line = n; why = why })
 
 -- one line behind another: the first at fault decides
 infixl 10 ◌>>>◌

@@ -169,6 +169,26 @@ deliver_line d ws = if nat_le 50000 d.events then Err 9 else (do
   end ← end_at n.1
   Ok (with_item d (item.Deliver m) 1))
 
+unfoldable pub drop_line : Draft → List (List ℕ) → Result Draft ℕ
+drop_line d ws = if nat_le 50000 d.events then Err 9 else (do
+  n ← number_at ws
+  m ← in_range 1 4294967295 n.0
+  end ← end_at n.1
+  Ok (with_item d (item.Drop m) 1))
+
+-- so many more events, at most 50,000 in all
+abbrev pub more_events : ℕ → ℕ → Result ℕ ℕ
+more_events events c = if nat_le (events + c) 50000 then Ok c else Err 9
+
+-- the limit on events is checked at the number, since the item is so many events
+unfoldable pub next_line : Draft → List (List ℕ) → Result Draft ℕ
+next_line d ws = do
+  n ← number_at ws
+  c ← in_range 1 50000 n.0
+  room ← more_events d.events c
+  end ← end_at n.1
+  Ok (with_item d (item.Next c) c)
+
 -- Which lines may stand where.
 
 -- a line inside a script
@@ -190,14 +210,16 @@ init_or_later d w ws = if is_word w (codes "init") then init_line d ws else late
 
 -- the items that are not read yet
 abbrev pub is_later_item : List ℕ → Bool
-is_later_item w = is_word w (codes "drop") || is_word w (codes "next") || is_word w (codes "retry") || is_word w (codes "ask") || is_word w (codes "crash") || is_word w (codes "fuse") || is_word w (codes "restart")
+is_later_item w = is_word w (codes "retry") || is_word w (codes "ask") || is_word w (codes "crash") || is_word w (codes "fuse") || is_word w (codes "restart")
 
 -- a line of the schedule
 abbrev pub item_line : Draft → List ℕ → List (List ℕ) → Result Draft ℕ
 item_line d w ws =
     if is_word w (codes "begin") then begin_line d ws else
     (if is_word w (codes "deliver") then deliver_line d ws else
-    (if is_later_item w then Err 12 else Err 1))
+    (if is_word w (codes "drop") then drop_line d ws else
+    (if is_word w (codes "next") then next_line d ws else
+    (if is_later_item w then Err 12 else Err 1))))
 
 -- a line outside of scripts, by the part of the document that it stands in
 abbrev pub part_line : Part → Draft → List ℕ → List (List ℕ) → Result Draft ℕ

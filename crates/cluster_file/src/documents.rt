@@ -1,7 +1,7 @@
 ghost use Rattle.std.specs.Prelude.{◌≡◌, [], map};
 ghost use Rattle.grid_model.specs.Documents.{IsDocument};
 ghost use Rattle.cluster_file.specs.Lines.{line_of};
-ghost use Rattle.cluster_file.specs.Doc.{why_now, at_line, is_whole, close, pieces_from, blank, document_of, doc, GivesDoc};
+ghost use Rattle.cluster_file.specs.Doc.{at_line, is_whole, close, pieces_from, blank, document_of, doc, GivesDoc};
 
 use crate::drafts::{Draft, NodeCount, Part};
 use crate::lines::line_of;
@@ -13,24 +13,13 @@ use score_base::{Members, WriteList};
 use std::alloc::Global;
 use std::collections::BTreeSet;
 
-/// The why that is answered. While only a part of the format is read, each why but 12 is answered as
-/// 1.
-fn why_now(why: u8) -> u8
-    ensures { result ≡ why_now why }
-{
-    if why == 12 { 12 } else { 1 }
-}
-
 fn line_at(alloc: Global, draft: Draft, n: usize, line: &[u8]) -> Result<Draft, DocEnd>
     ensures { GivesDoc result (at_line n (line_of draft line.now)) }
 {
     match line_of(alloc, draft, line) {
         Ok(next) => Ok(next),
         Err(LineEnd::Memory) => Err(DocEnd::Memory),
-        Err(LineEnd::Why(why)) => Err(DocEnd::Refused(Refusal {
-            line: n,
-            why: why_now(why),
-        })),
+        Err(LineEnd::Why(why)) => Err(DocEnd::Refused(Refusal { line: n, why })),
     }
 }
 
@@ -40,10 +29,7 @@ fn close(draft: Draft, n: usize, tail: &[u8]) -> Result<Draft, DocEnd>
     if tail.is_empty() && draft.part == Part::Items {
         Ok(draft)
     } else {
-        Err(DocEnd::Refused(Refusal {
-            line: n,
-            why: why_now(10),
-        }))
+        Err(DocEnd::Refused(Refusal { line: n, why: 10 }))
     }
 }
 
@@ -79,10 +65,7 @@ fn read_pieces(alloc: Global, pieces: &[&[u8]]) -> Result<Draft, DocEnd>
         n += 1;
         lines = rest;
     }
-    Err(DocEnd::Refused(Refusal {
-        line: n,
-        why: why_now(10),
-    }))
+    Err(DocEnd::Refused(Refusal { line: n, why: 10 }))
 }
 
 fn document_of(draft: Draft) -> Document

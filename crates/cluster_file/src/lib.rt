@@ -2,12 +2,15 @@
 //!
 //! A document is lines of words: `nodes N`, `partition i n..`, `init k v`, scripts from `tx t n` to
 //! `end`, `schedule`, and items. `doc` in `specs/` is the format: it reads a text line by line and each
-//! line word by word, and [`read_document`] is proved equal to it. Of the whole format, a script reads
-//! and a schedule begins and delivers; the other forms are refused with why 12.
+//! line word by word, and [`read_document`] is proved equal to it. `spelling` there writes the words of
+//! a document; [`law_one_spelling`] says that `doc` finds a document in its spelling and in no other
+//! bytes. Of the whole format, a script reads and a schedule begins, delivers, drops and takes the next;
+//! the other forms are refused with why 12 where they may stand.
 #![tactic(auto)]
 
 mod documents;
 mod drafts;
+mod laws;
 mod lines;
 #[cfg(test)]
 mod tests;
@@ -15,4 +18,5 @@ mod whys;
 mod words;
 
 pub use documents::read_document;
+pub use laws::law_one_spelling;
 pub use whys::{DocEnd, Refusal};

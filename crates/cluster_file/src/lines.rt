@@ -1,7 +1,7 @@
-ghost use Rattle.std.specs.Prelude.{◌≡◌, ◌==◌, [], map, OnOk};
+ghost use Rattle.std.specs.Prelude.{◌≡◌, ◌≤◌, ◌==◌, ◌+◌, [], map, OnOk};
 ghost use Rattle.std.specs.List.{list_any, list_all};
 ghost use Rattle.cluster_file.specs.Reading.{Gives, steps};
-ghost use Rattle.cluster_file.specs.Lines.{is_known, is_taken, with_key, with_number, name_key, name_new_key, new_number, known_number, nodes_line, new_node, node_step, is_next, partition_line, init_line, tx_line, read_line, end_line, schedule_line, with_item, begin_line, deliver_line, script_line, later_line, init_or_later, is_later_item, item_line, part_line, words_line, is_printed, line_of};
+ghost use Rattle.cluster_file.specs.Lines.{is_known, is_taken, with_key, with_number, name_key, name_new_key, new_number, known_number, nodes_line, new_node, node_step, is_next, partition_line, init_line, tx_line, read_line, end_line, schedule_line, with_item, begin_line, deliver_line, drop_line, more_events, next_line, script_line, later_line, init_or_later, is_later_item, item_line, part_line, words_line, is_printed, line_of};
 
 use crate::drafts::{Draft, NodeCount, Part};
 use crate::whys::LineEnd;
@@ -256,6 +256,46 @@ fn deliver_line(mut draft: Draft, words: &[&[u8]]) -> Result<Draft, LineEnd>
     Ok(draft)
 }
 
+#[tactic(auto, unfolding(crate::specs::Lines::drop_line))]
+fn drop_line(mut draft: Draft, words: &[&[u8]]) -> Result<Draft, LineEnd>
+    ensures { Gives (λ d. d) result (drop_line draft (map (λ w. w.now) words.now)) }
+{
+    if draft.events >= 50000 {
+        return Err(LineEnd::Why(9));
+    }
+    let (n, rest) = number_at(words)?;
+    let m = in_range(1, 4_294_967_295, n)?;
+    end_at(rest)?;
+    draft.items.push(Item::Drop(m as u32))?;
+    draft.events += 1;
+    Ok(draft)
+}
+
+fn more_events(events: u64, c: u64) -> Result<u64, LineEnd>
+    requires { c ≤ 50000 }
+    ensures value { Gives (λ n. n) result (more_events events c) }
+    ensures few { OnOk result (events + c ≤ 50000) }
+{
+    if events <= 50000 - c {
+        Ok(c)
+    } else {
+        Err(LineEnd::Why(9))
+    }
+}
+
+#[tactic(auto, unfolding(crate::specs::Lines::next_line))]
+fn next_line(mut draft: Draft, words: &[&[u8]]) -> Result<Draft, LineEnd>
+    ensures { Gives (λ d. d) result (next_line draft (map (λ w. w.now) words.now)) }
+{
+    let (n, rest) = number_at(words)?;
+    let c = in_range(1, 50000, n)?;
+    more_events(draft.events, c)?;
+    end_at(rest)?;
+    draft.items.push(Item::Next(c as u32))?;
+    draft.events += c;
+    Ok(draft)
+}
+
 fn script_line(
     draft: Draft,
     script: ScriptDraft,
@@ -300,9 +340,7 @@ fn init_or_later(alloc: Global, draft: Draft, word: &[u8], rest: &[&[u8]]) -> Re
 fn is_later_item(word: &[u8]) -> bool
     ensures { result ≡ is_later_item word.now }
 {
-    is_word(word, b"drop")
-        || is_word(word, b"next")
-        || is_word(word, b"retry")
+    is_word(word, b"retry")
         || is_word(word, b"ask")
         || is_word(word, b"crash")
         || is_word(word, b"fuse")
@@ -316,6 +354,10 @@ fn item_line(draft: Draft, word: &[u8], rest: &[&[u8]]) -> Result<Draft, LineEnd
         begin_line(draft, rest)
     } else if is_word(word, b"deliver") {
         deliver_line(draft, rest)
+    } else if is_word(word, b"drop") {
+        drop_line(draft, rest)
+    } else if is_word(word, b"next") {
+        next_line(draft, rest)
     } else if is_later_item(word) {
         Err(LineEnd::Why(12))
     } else {

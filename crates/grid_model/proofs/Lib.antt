@@ -1,8 +1,7 @@
+pub mod Newest
+pub mod Removed
 pub mod Places
-pub mod Shows
-pub mod FirstOpen
 pub mod FirstWaiting
-pub mod OneHistory
 pub mod Plays
 pub mod TransferActs
 pub mod RunsThatCommit
@@ -21,3 +20,15 @@ pub mod PlainOuts
 pub mod NextSteps
 pub mod DecisionsKept
 pub mod RunsKeep
+pub mod KeyLists
+pub mod Fits
+pub mod Pairs
+pub mod Once
+pub mod Pendings
+pub mod Floors
+pub mod Applied
+pub mod Bests
+pub mod Stands
+pub mod Readable
+pub mod Locks
+pub mod Conflicts

@@ -7,7 +7,8 @@ use Rattle.std.specs.BTreeSet.{insert_key}
 use Rattle.score_base.specs.declared.keys.Key.{Key}
 use Rattle.score_base.specs.declared.ids.TxId.{TxId}
 use Rattle.score_base.specs.declared.ids.Value.{Value}
-use Rattle.script_lang.specs.Scripts.{ScriptData}
+use Rattle.script_lang.specs.declared.scripts.Op.{Op}
+use Rattle.script_lang.specs.Scripts.{ScriptData, are_sound}
 use Rattle.script_lang.specs.Reads.{keys_named}
 use Rattle.placement.specs.Clusters.{ClusterData, IsCluster}
 use Rattle.grid_model.specs.declared.items.Item.{Item}
@@ -74,3 +75,12 @@ pub record IsDocument (d : DocumentData) : Type 0 where
   pub keys : length (key_order (keys_in d.cluster.inits d.scripts)) ≤ 4096
   pub items : IsTrue (list_all (is_item d.cluster.nodes (script_numbers d.scripts)) d.items)
   pub events : sum_by events_of d.items ≤ 50000
+
+-- the operations of a whole script: 1 to 32, whose expressions name only keys that were read before
+abbrev pub is_body : List Op → Bool
+is_body ops = nat_le 1 (length ops) && (nat_le (length ops) 32 && are_sound [] ops)
+
+-- the document is one: what its own type asks of it, and what that of its scripts asks
+pub record IsOne (d : DocumentData) : Type 0 where
+  pub document : IsDocument d
+  pub bodies : IsTrue (list_all (λ s. is_body s.ops) d.scripts)

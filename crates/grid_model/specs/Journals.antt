@@ -160,9 +160,13 @@ up_to s (x ∷ xs) = if nat_le x.1 s then x ∷ up_to s xs else up_to s xs
 abbrev pub version_at : List Record → Key → Value → Ident → Version
 version_at r k start s = best r k start (up_to s (applied r))
 
+-- the newest applied version of k, or the initial one
+abbrev pub newest_version : List Record → Key → Value → Version
+newest_version r k start = best r k start (applied r)
+
 -- the identifier of the newest applied version of k, or 0
 abbrev pub newest : List Record → Key → Ident
-newest r k = (best r k 0 (applied r)).ident
+newest r k = (newest_version r k 0).ident
 
 -- ---- conflicts
 

@@ -1,10 +1,6 @@
 pub mod Documents
 pub mod Keyed
 pub mod Histories
-pub mod Phases
-pub mod Standings
-pub mod Rules
-pub mod Lawful
 pub mod Journals
 pub mod Serials
 pub mod Nodes

@@ -1,9 +1,6 @@
 ghost use Rattle.std.specs.Prelude.{◌≡◌, ℕ, List, [], ◌∷◌, Some};
 ghost use Rattle.grid_model.specs.declared.acts.Act.{Act};
-ghost use Rattle.grid_model.specs.declared.standings.Standing.{Standing};
 ghost use Rattle.grid_model.specs.Documents.{DocumentData};
-ghost use Rattle.grid_model.specs.Lawful.{Lawful};
-ghost use Rattle.grid_model.specs.Standings.{noted, ShowsStandings};
 ghost use Rattle.script_lang.specs.Scripts.{ScriptData};
 ghost use Rattle.grid_model.specs.declared.acts.Act.TheVariants as act;
 ghost use Rattle.grid_model.specs.declared.events.Event.TheVariants as event;
@@ -16,17 +13,6 @@ ghost use Rattle.grid_model.specs.Schedules.{numbered};
 ghost use Rattle.grid_model.specs.NextViews.{OwnDecisions, next_view};
 ghost use Rattle.grid_model.specs.Runs.{IsRun};
 ghost use Rattle.grid_model.specs.declared.items.Item.{Item};
-
-/// A document has exactly one lawful run.
-pub fn law_one_history()
-    ensures some { (d : DocumentData) → (h : List Act) × Lawful d h }
-    ensures one { (d : DocumentData) (h h' : List Act) → Lawful d h → Lawful d h' → h ≡ h' }
-{}
-
-/// Standings that are kept act by act tell what the acts tell.
-pub fn law_standings()
-    ensures { (a : Act) (xs : List (ℕ × Standing)) (past : List Act) → ShowsStandings xs past → ShowsStandings (noted a xs) (a ∷ past) }
-{}
 
 /// The view of a node behind an event is its next view: it follows from the view before, the event and
 /// the outs. The message is one that was sent to the node, or the script is one of the node's own; each

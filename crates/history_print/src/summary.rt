@@ -1,5 +1,5 @@
-ghost use Rattle.std.specs.Prelude.{◌≡◌, ℕ, ◌<◌, ◌++◌, ◌∷◌, [], codes, fold, map, IfOk, OnOk, OnErr, Some, if◌then◌else◌};
-ghost use Rattle.std.specs.Fmt.{decimal};
+//! The summary of a run: a line for each transaction, then one for each key at each of its holders.
+ghost use Rattle.std.specs.Prelude.{◌≡◌, ◌≤◌, ℕ, ◌<◌, ◌++◌, ◌∷◌, [], codes, fold, map, reverse, IfOk, OnOk, OnErr, Some};
 ghost use Rattle.std.specs.List.{flat_map, range_with_len};
 ghost use Rattle.std.specs.Option.{option_copied};
 ghost use Rattle.std.specs.Ordering.{nat_cmp};
@@ -7,208 +7,273 @@ ghost use Rattle.std.specs.Cmp.Lexicographic.{slice_cmp};
 ghost use Rattle.std.specs.BTreeSet.{insert_key};
 ghost use Rattle.script_lang.specs.Reads.{keys_named};
 ghost use Rattle.placement.specs.Places.{is_among};
-ghost use Rattle.grid_model.specs.Keyed.{at_key};
 ghost use Rattle.grid_model.specs.Documents.{script_numbers, number_order, key_order, keys_in};
-ghost use Rattle.grid_model.specs.Histories.{Answered, open_phase, phase_of, snapshot, after};
-ghost use Rattle.grid_model.specs.Standings.{ShowsStandings};
-ghost use Rattle.grid_model.specs.Rules.{script_of};
+ghost use Rattle.grid_model.specs.Copies.{snapshot_in};
+ghost use Rattle.grid_model.specs.Nodes.{journal, script_of};
+ghost use Rattle.grid_model.specs.Journals.{is_closed, decision};
+ghost use Rattle.grid_model.specs.Stories.{phase_by, story};
+ghost use Rattle.run_state.specs.Kept.{past};
 ghost use Rattle.history_print.specs.Acts.{spaced, line};
-ghost use Rattle.history_print.specs.Text.{ident_words, phase_words, snapshot_of, tx_line, script_line, tx_lines, initial_version, version_line, key_lines, keys_lines, summary_by, summary_text};
+ghost use Rattle.history_print.specs.Begun.{open_words, undecided_words, final_words, story_words};
+ghost use Rattle.history_print.specs.Text.{phase_words, tx_line, script_line, tx_lines, version_line, holder_line, key_lines, keys_lines, summary_by, summary_text};
 
-use crate::words::{put_count, put_ident, put_key, put_node_number, put_tx, put_value, put_word};
-use grid_model::{Act, Document, Standing, Standings, is_answered, script_of, snapshot, waiting};
+use crate::words::{put_count, put_ident, put_key, put_node, put_tx, put_value, put_word};
+use grid_model::records::{decided_final, newest_version};
+use grid_model::{Act, Document, Story, Version, first_waiting};
 use placement::Cluster;
-use score_base::{Ident, Key, Memory, NodeId, Value, put_bytes};
-use script_lang::{Op, Script, key_of};
+use run_state::{RunState, script_of};
+use score_base::{Ident, Key, Memory, NodeId, Record, TryCopy, TxId, Value, put_bytes};
+use script_lang::{Op, Script, is_update, key_of};
 use std::alloc::Global;
 use std::collections::BTreeSet;
 
 /// How many nodes a cluster has at most.
 const MOST_NODES: u8 = 16;
 
-#[tactic(auto, unfolding(crate::specs::Text::ident_words))]
-fn put_ident_if(out: &mut Vec<u8>, sid: Option<Ident>) -> Result<(), Memory>
-    ensures { OnOk result (out.new.items ≡ out.old.items ++ spaced (ident_words sid)) }
+#[tactic(auto, unfolding(crate::specs::Begun::open_words))]
+fn put_open(out: &mut Vec<u8>, waits: Option<usize>) -> Result<(), Memory>
+    ensures { OnOk result (out.new.items ≡ out.old.items ++ spaced (open_words waits)) }
 {
-    match sid {
-        None => Ok(()),
-        Some(sid) => put_ident(out, sid),
-    }
-}
-
-#[tactic(auto, unfolding(crate::specs::Text::phase_words))]
-fn put_phase(
-    out: &mut Vec<u8>,
-    is_answered: bool,
-    waits: Option<usize>,
-    sid: Option<Ident>,
-) -> Result<(), Memory>
-    ensures { OnOk result (out.new.items ≡ out.old.items ++ spaced (phase_words (if is_answered then Answered else open_phase waits) sid)) }
-{
-    if is_answered {
-        put_word(out, b"read")?;
-        return put_ident_if(out, sid);
-    }
     match waits {
+        None => put_word(out, b"collecting"),
         Some(j) => {
             put_word(out, b"reading")?;
             put_count(out, j as u64)
         }
-        None => put_word(out, b"collecting"),
     }
 }
 
-#[tactic(auto, unfolding(crate::specs::Text::phase_words))]
-fn put_standing(out: &mut Vec<u8>, ops: &[Op], standing: Option<&Standing>) -> Result<(), Memory>
-    ensures { OnOk result (out.new.items ≡ out.old.items ++ spaced (phase_words (phase_of ops.now (option_copied standing.entry)) (snapshot_of ops.now (option_copied standing.entry)))) }
+#[tactic(auto, unfolding(crate::specs::Begun::undecided_words))]
+fn put_undecided(
+    out: &mut Vec<u8>,
+    aborted: bool,
+    answered: bool,
+    waits: Option<usize>,
+    sid: Ident,
+) -> Result<(), Memory>
+    ensures { OnOk result (out.new.items ≡ out.old.items ++ spaced (undecided_words aborted answered waits sid)) }
 {
-    match standing {
-        None => put_word(out, b"unbegun"),
-        Some(x) => put_phase(
-            out,
-            is_answered(ops, x),
-            waiting(ops, x.taken.as_slice()),
-            snapshot(ops, x),
-        ),
+    if aborted {
+        return put_word(out, b"aborted");
     }
+    if answered {
+        put_word(out, b"read")?;
+        return put_ident(out, sid);
+    }
+    put_open(out, waits)
+}
+
+/// The snapshot identifier of a transaction.
+fn snapshot_of(story: &Story) -> Ident
+    ensures { result ≡ snapshot_in (Some story.now) }
+{
+    match story.sid {
+        None => story.sid0,
+        Some(sid) => sid,
+    }
+}
+
+#[tactic(auto, unfolding(crate::specs::Begun::final_words))]
+fn put_final(out: &mut Vec<u8>, f: Ident) -> Result<(), Memory>
+    ensures { OnOk result (out.new.items ≡ out.old.items ++ spaced (final_words f)) }
+{
+    put_word(out, b"committed")?;
+    put_ident(out, f)
+}
+
+#[tactic(auto, unfolding(crate::specs::Begun::story_words))]
+fn put_begun(
+    out: &mut Vec<u8>,
+    ops: &[Op],
+    story: &Story,
+    final_ident: Option<Ident>,
+) -> Result<(), Memory>
+    ensures { OnOk result (out.new.items ≡ out.old.items ++ spaced (story_words ops.now (Some story.now) final_ident)) }
+{
+    if story.lost {
+        return put_word(out, b"lost");
+    }
+    if let Some(f) = final_ident {
+        return put_final(out, f);
+    }
+    put_undecided(
+        out,
+        story.aborted,
+        story.finished && !is_update(ops),
+        first_waiting(ops, story.values.as_slice()),
+        snapshot_of(story),
+    )
+}
+
+#[tactic(auto, unfolding(crate::specs::Begun::story_words))]
+fn put_story(
+    out: &mut Vec<u8>,
+    ops: &[Op],
+    story: Option<&Story>,
+    final_ident: Option<Ident>,
+) -> Result<(), Memory>
+    ensures { OnOk result (out.new.items ≡ out.old.items ++ spaced (story_words ops.now (option_copied story.entry) final_ident)) }
+{
+    match story {
+        None => put_word(out, b"unbegun"),
+        Some(story) => put_begun(out, ops, story, final_ident),
+    }
+}
+
+/// The phase of a script's transaction, by its story and by the records of its home.
+fn put_phase(
+    out: &mut Vec<u8>,
+    script: &Script,
+    story: Option<&Story>,
+    records: &[Record],
+) -> Result<(), Memory>
+    ensures { OnOk result (out.new.items ≡ out.old.items ++ spaced (phase_words (phase_by script.now.ops (option_copied story.entry) (is_closed script.now.number (reverse records.now)) (decision script.now.number (reverse records.now))) (snapshot_in (option_copied story.entry)))) }
+{
+    let final_ident = decided_final(records, script.number);
+    put_story(out, script.ops(), story, final_ident)
 }
 
 #[tactic(auto, unfolding(crate::specs::Text::tx_line))]
-fn put_tx_line(out: &mut Vec<u8>, script: &Script, standings: &Standings) -> Result<(), Memory>
-    ensures { OnOk result (out.new.items ≡ out.old.items ++ tx_line script.now.number script.now.ops (at_key script.now.number standings.now)) }
+fn put_tx_line(
+    out: &mut Vec<u8>,
+    script: &Script,
+    story: Option<&Story>,
+    records: &[Record],
+) -> Result<(), Memory>
+    ensures { OnOk result (out.new.items ≡ out.old.items ++ tx_line script.now (option_copied story.entry) (reverse records.now)) }
 {
     put_bytes(out, b"tx")?;
     put_tx(out, script.number)?;
-    put_standing(out, script.ops(), standings.get(script.number))?;
+    put_phase(out, script, story, records)?;
     put_bytes(out, b"\n")
 }
 
 #[tactic(auto, unfolding(crate::specs::Text::script_line))]
-fn put_script_line(
-    out: &mut Vec<u8>,
-    script: Option<&Script>,
-    standings: &Standings,
-) -> Result<(), Memory>
-    ensures { OnOk result (out.new.items ≡ out.old.items ++ script_line (λ t. at_key t standings.now) (option_copied script.entry)) }
+fn put_script_line(out: &mut Vec<u8>, script: Option<&Script>, run: &RunState) -> Result<(), Memory>
+    ensures { OnOk result (out.new.items ≡ out.old.items ++ script_line (story run.now.doc (past run.now)) (journal run.now.doc (past run.now)) (option_copied script.entry)) }
 {
     match script {
         None => Ok(()),
-        Some(script) => put_tx_line(out, script, standings),
+        Some(script) => put_tx_line(
+            out,
+            script,
+            run.story(script.number),
+            run.node(script.home).records.as_slice(),
+        ),
     }
 }
 
-fn add_numbers(numbers: &mut BTreeSet<u16>, scripts: &[Script]) -> Result<(), Memory>
+fn add_numbers(numbers: &mut BTreeSet<TxId>, scripts: &[Script]) -> Result<(), Memory>
     ensures { OnOk result (numbers.new.keys ≡ fold (insert_key nat_cmp) numbers.old.keys (script_numbers scripts.now)) }
 {
     for script in scripts {
-        numbers.insert(script.number.get())?;
+        numbers.insert(script.number)?;
     }
     Ok(())
 }
 
 fn put_numbered(
     out: &mut Vec<u8>,
-    numbers: &BTreeSet<u16>,
+    numbers: &BTreeSet<TxId>,
     scripts: &[Script],
-    standings: &Standings,
+    run: &RunState,
 ) -> Result<(), Memory>
-    ensures { OnOk result (out.new.items ≡ out.old.items ++ flat_map (λ t. script_line (λ u. at_key u standings.now) (script_of t scripts.now)) numbers.now.keys) }
+    ensures { OnOk result (out.new.items ≡ out.old.items ++ flat_map (λ t. script_line (story run.now.doc (past run.now)) (journal run.now.doc (past run.now)) (script_of t scripts.now)) numbers.now.keys) }
 {
     for number in numbers {
-        put_script_line(out, script_of(scripts, *number), standings)?;
+        put_script_line(out, script_of(scripts, *number), run)?;
     }
     Ok(())
 }
 
 #[tactic(auto, unfolding(crate::specs::Text::tx_lines))]
-fn put_tx_lines(out: &mut Vec<u8>, scripts: &[Script], standings: &Standings) -> Result<(), Memory>
-    ensures { OnOk result (out.new.items ≡ out.old.items ++ tx_lines scripts.now (λ t. at_key t standings.now)) }
+fn put_tx_lines(out: &mut Vec<u8>, scripts: &[Script], run: &RunState) -> Result<(), Memory>
+    ensures { OnOk result (out.new.items ≡ out.old.items ++ tx_lines scripts.now (story run.now.doc (past run.now)) (journal run.now.doc (past run.now))) }
 {
     let mut numbers = BTreeSet::new(*out.allocator());
     add_numbers(&mut numbers, scripts)?;
-    put_numbered(out, &numbers, scripts, standings)
+    put_numbered(out, &numbers, scripts, run)
 }
 
 #[tactic(auto, unfolding(crate::specs::Text::version_line))]
-fn put_version_line(
-    out: &mut Vec<u8>,
-    key: &Key,
-    n: u8,
-    vn: Ident,
-    value: Value,
-) -> Result<(), Memory>
-    ensures { OnOk result (out.new.items ≡ out.old.items ++ version_line key.now n (vn, value)) }
+fn put_version_line(out: &mut Vec<u8>, key: &Key, n: NodeId, version: Version) -> Result<(), Memory>
+    ensures { OnOk result (out.new.items ≡ out.old.items ++ version_line key.now n version) }
 {
     put_bytes(out, b"key")?;
     put_key(out, key)?;
-    put_node_number(out, n)?;
-    put_value(out, value)?;
-    put_ident(out, vn)?;
+    put_node(out, n)?;
+    put_value(out, version.value)?;
+    put_ident(out, version.ident)?;
     put_bytes(out, b"\n")
 }
 
-fn is_among(n: u8, nodes: &[NodeId]) -> bool
+fn is_among(n: NodeId, nodes: &[NodeId]) -> bool
     ensures { result ≡ is_among n nodes.now }
 {
-    for node in nodes {
-        if node.get() == n {
-            return true;
-        }
-    }
-    false
+    nodes.contains(&n)
 }
 
-fn put_holder(
+#[tactic(auto, unfolding(crate::specs::Text::holder_line))]
+fn put_holder_line(
     out: &mut Vec<u8>,
-    nodes: &[NodeId],
-    n: u8,
+    cluster: &Cluster,
+    run: &RunState,
     key: &Key,
-    vn: Ident,
-    value: Value,
+    n: NodeId,
 ) -> Result<(), Memory>
-    ensures { OnOk result (out.new.items ≡ out.old.items ++ (if is_among n nodes.now then version_line key.now n (vn, value) else [])) }
+    ensures { OnOk result (out.new.items ≡ out.old.items ++ holder_line cluster.now (journal run.now.doc (past run.now)) key.now n) }
 {
-    if !is_among(n, nodes) {
+    if !is_among(n, cluster.places.holders(key)) {
         return Ok(());
     }
-    put_version_line(out, key, n, vn, value)
+    let alloc = *out.allocator();
+    let version = newest_version(
+        alloc,
+        run.node(n).records.as_slice(),
+        key,
+        cluster.init(key),
+    )?;
+    put_version_line(out, key, n, version)
 }
 
-fn put_holders(
+fn put_holder_lines(
     out: &mut Vec<u8>,
-    nodes: &[NodeId],
-    count: u8,
+    cluster: &Cluster,
+    run: &RunState,
     key: &Key,
-    vn: Ident,
-    value: Value,
+    count: u8,
 ) -> Result<(), Memory>
-    ensures { OnOk result (out.new.items ≡ out.old.items ++ flat_map (λ n. if is_among n nodes.now then version_line key.now n (vn, value) else []) (range_with_len 1 count)) }
+    requires { count ≤ 16 }
+    ensures { OnOk result (out.new.items ≡ out.old.items ++ flat_map (holder_line cluster.now (journal run.now.doc (past run.now)) key.now) (range_with_len 1 count)) }
 {
     for i in 0..count {
-        put_holder(out, nodes, i + 1, key, vn, value)?;
+        put_holder_line(out, cluster, run, key, NodeId { number: i + 1 })?;
     }
     Ok(())
 }
 
 #[tactic(auto, unfolding(crate::specs::Text::key_lines))]
-fn put_key_lines(out: &mut Vec<u8>, cluster: &Cluster, key: &Key) -> Result<(), Memory>
-    ensures { OnOk result (out.new.items ≡ out.old.items ++ key_lines cluster.now.places (initial_version cluster.now) key.now) }
+fn put_key_lines(
+    out: &mut Vec<u8>,
+    cluster: &Cluster,
+    run: &RunState,
+    key: &Key,
+) -> Result<(), Memory>
+    ensures { OnOk result (out.new.items ≡ out.old.items ++ key_lines cluster.now (journal run.now.doc (past run.now)) key.now) }
 {
-    put_holders(
-        out,
-        cluster.places.holders(key),
-        MOST_NODES,
-        key,
-        Ident(0),
-        cluster.init(key),
-    )
+    put_holder_lines(out, cluster, run, key, MOST_NODES)
 }
 
-fn put_each_key(out: &mut Vec<u8>, keys: &BTreeSet<Key>, cluster: &Cluster) -> Result<(), Memory>
-    ensures { OnOk result (out.new.items ≡ out.old.items ++ flat_map (key_lines cluster.now.places (initial_version cluster.now)) keys.now.keys) }
+fn put_each_key(
+    out: &mut Vec<u8>,
+    keys: &BTreeSet<Key>,
+    cluster: &Cluster,
+    run: &RunState,
+) -> Result<(), Memory>
+    ensures { OnOk result (out.new.items ≡ out.old.items ++ flat_map (key_lines cluster.now (journal run.now.doc (past run.now))) keys.now.keys) }
 {
     for key in keys {
-        put_key_lines(out, cluster, key)?;
+        put_key_lines(out, cluster, run, key)?;
     }
     Ok(())
 }
@@ -251,43 +316,43 @@ fn key_set(alloc: Global, doc: &Document) -> Result<BTreeSet<Key>, Memory>
 }
 
 #[tactic(auto, unfolding(crate::specs::Text::keys_lines))]
-fn put_keys_lines(out: &mut Vec<u8>, doc: &Document) -> Result<(), Memory>
-    ensures { OnOk result (out.new.items ≡ out.old.items ++ keys_lines doc.now (initial_version doc.now.cluster)) }
+fn put_keys_lines(out: &mut Vec<u8>, doc: &Document, run: &RunState) -> Result<(), Memory>
+    ensures { OnOk result (out.new.items ≡ out.old.items ++ keys_lines doc.now (journal run.now.doc (past run.now))) }
 {
     let keys = key_set(*out.allocator(), doc)?;
-    put_each_key(out, &keys, doc.cluster())
+    put_each_key(out, &keys, doc.cluster(), run)
 }
 
 #[tactic(auto, unfolding(crate::specs::Text::summary_by))]
-fn put_summary(out: &mut Vec<u8>, doc: &Document, standings: &Standings) -> Result<(), Memory>
-    ensures { OnOk result (out.new.items ≡ out.old.items ++ summary_by doc.now (λ t. at_key t standings.now) (initial_version doc.now.cluster)) }
+fn put_summary(out: &mut Vec<u8>, doc: &Document, run: &RunState) -> Result<(), Memory>
+    ensures { OnOk result (out.new.items ≡ out.old.items ++ summary_by doc.now (story run.now.doc (past run.now)) (journal run.now.doc (past run.now))) }
 {
     put_bytes(out, b"summary\n")?;
-    put_tx_lines(out, doc.scripts(), standings)?;
-    put_keys_lines(out, doc)
+    put_tx_lines(out, doc.scripts(), run)?;
+    put_keys_lines(out, doc, run)
 }
 
-/// How transactions stand behind these acts.
-fn standings_of(alloc: Global, acts: &[Act]) -> Result<Standings, Memory>
-    ensures { IfOk result (λ s. ShowsStandings s (after [] acts.now)) }
+/// The run of a document with these acts.
+fn run_of<'a>(alloc: Global, doc: &'a Document, acts: &[Act]) -> Result<RunState<'a>, Memory>
+    ensures { IfOk result (λ run. run ≡ record { doc = doc.now; acts = acts.now }) }
 {
-    let mut standings = Standings::new(alloc);
+    let mut run = RunState::new(alloc, doc)?;
     for act in acts {
-        standings.note(alloc, act)?;
+        run = run.keep(alloc, act.copy()?)?;
     }
-    Ok(standings)
+    Ok(run)
 }
 
-/// Appends the summary of these acts: how each transaction of the document stands behind them, in
-/// rising number, and the newest version of each of its keys at each of the key's holders, in byte
-/// order and then by rising node. After [`Memory`] `out` is as before.
+/// Appends the summary of these acts: the phase of each transaction of the document behind them, in
+/// rising number, and the newest version of each of its keys at each of the key's holders, by the
+/// records that stand, in byte order and then by rising node. After [`Memory`] `out` is as before.
 pub fn write_summary(doc: &Document, acts: &[Act], out: &mut Vec<u8>) -> Result<(), Memory>
     ensures ok { OnOk result (out.new.items ≡ out.old.items ++ summary_text doc.now acts.now) }
     ensures err { OnErr result (out.new.items ≡ out.old.items) }
 {
     let alloc = *out.allocator();
-    let standings = standings_of(alloc, acts)?;
+    let run = run_of(alloc, doc, acts)?;
     let mut summary = Vec::new(alloc);
-    put_summary(&mut summary, doc, &standings)?;
+    put_summary(&mut summary, doc, &run)?;
     put_bytes(out, summary.as_slice())
 }

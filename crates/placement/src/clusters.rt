@@ -1,7 +1,9 @@
-ghost use Rattle.std.specs.Prelude.{◌≡◌, ◌<◌, ◌≤◌, ◌+◌, ◌*◌, ◌%◌, ◌^◌, ◌++◌, ◌∷◌, [], length, IsTrue};
-ghost use Rattle.placement.specs.Places.{key_sum, holders, init_of, IsPlaces};
+ghost use Rattle.std.specs.Prelude.{◌≡◌, ◌<◌, ◌≤◌, ◌+◌, ◌*◌, ◌%◌, ◌^◌, ◌++◌, ◌∷◌, ◌==◌, [], length, IsTrue, IfOk, OnOk};
+ghost use Rattle.std.specs.List.{list_any, filter};
+ghost use Rattle.placement.specs.Places.{key_sum, holders, is_among, holds, parts, preferred, others, init_of, IsPlaces};
 
 use score_base::{Key, Members, Memory, NodeId, NodeList, TryCopy, Value, WriteList};
+use std::alloc::Global;
 use std::marker::Model;
 
 /// The partitions of the keys: 1 to 64 of them, each a list of at least one node, without repeats,
@@ -23,7 +25,7 @@ impl Model for Places {
 }
 
 /// The sum that places a key: over its bytes, 31 times the sum so far and the byte, modulo 2^32.
-fn key_sum(key: &[u8]) -> u64
+pub(crate) fn key_sum(key: &[u8]) -> u64
     ensures value { result ≡ key_sum key.now }
     ensures small { result < 2 ^ 32 }
 {
@@ -32,6 +34,25 @@ fn key_sum(key: &[u8]) -> u64
         sum = (31 * sum + *b as u64) % (1 << 32);
     }
     sum
+}
+
+/// Whether the node is among these.
+fn is_among(node: NodeId, nodes: &[NodeId]) -> bool
+    ensures { result ≡ is_among node nodes.now }
+{
+    nodes.iter().any(|other| *other == node)
+}
+
+/// Puts the nodes of a list but for one last, in order.
+fn push_others(nodes: &mut NodeList, but: NodeId, list: &[NodeId]) -> Result<(), Memory>
+    ensures { OnOk result (nodes.new ≡ nodes.old ++ others but list.now) }
+{
+    for node in list {
+        if *node != but {
+            nodes.push(*node)?;
+        }
+    }
+    Ok(())
 }
 
 impl Places {
@@ -60,6 +81,60 @@ impl Places {
         let partitions = self.partitions.as_slice();
         let place = key_sum(key.bytes()) % partitions.len() as u64;
         partitions[place as usize].as_slice()
+    }
+
+    /// Whether the node holds the key.
+    pub fn holds(&self, node: NodeId, key: &Key) -> bool
+        ensures { result ≡ holds self.now node key.now }
+    {
+        is_among(node, self.holders(key))
+    }
+
+    fn holds_any(&self, node: NodeId, keys: &[Key]) -> bool
+        ensures { result ≡ list_any (holds self.now node) keys.now }
+    {
+        for key in keys {
+            if self.holds(node, key) {
+                return true;
+            }
+        }
+        false
+    }
+
+    fn push_part(&self, parts: &mut NodeList, node: NodeId, keys: &[Key]) -> Result<(), Memory>
+        ensures { OnOk result (parts.new ≡ parts.old ++ filter (λ n. list_any (holds self.now n) keys.now) (node ∷ [])) }
+    {
+        if self.holds_any(node, keys) {
+            parts.push(node)?;
+        }
+        Ok(())
+    }
+
+    /// All nodes that hold one of the keys, rising.
+    #[tactic(auto, unfolding(crate::proofs::Rising::rising_from))]
+    pub fn parts(&self, alloc: Global, keys: &[Key]) -> Result<NodeList, Memory>
+        ensures { IfOk result (λ ns. ns ≡ parts self.now keys.now) }
+    {
+        let mut parts = NodeList::new(alloc);
+        for number in 1..17 {
+            self.push_part(&mut parts, NodeId { number }, keys)?;
+        }
+        Ok(parts)
+    }
+
+    /// The holders of a key in the order that a home prefers: the home first where it holds the key,
+    /// then the others in the order in which the partition lists them.
+    pub fn preferred(&self, alloc: Global, home: NodeId, key: &Key) -> Result<NodeList, Memory>
+        ensures { IfOk result (λ ns. ns ≡ preferred self.now home key.now) }
+    {
+        let holders = self.holders(key);
+        if !is_among(home, holders) {
+            return Ok(NodeList::from_vec(Vec::from_slice(alloc, holders)?));
+        }
+        let mut nodes = NodeList::new(alloc);
+        nodes.push(home)?;
+        push_others(&mut nodes, home, holders)?;
+        Ok(nodes)
     }
 }
 

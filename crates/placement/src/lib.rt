@@ -5,5 +5,7 @@
 #![tactic(auto)]
 
 mod clusters;
+#[cfg(test)]
+mod tests;
 
 pub use clusters::{Cluster, Places};

@@ -33,6 +33,27 @@ steps_value env v (s ∷ ss) = steps_value env (step_value env v s) ss
 abbrev pub expr_value : (Key → Value) → Expr → Value
 expr_value env e = steps_value env (atom_value env e.first) e.steps
 
+-- each key that an atom names passes a test
+abbrev pub all_in_atom : (Key → Bool) → Atom → Bool
+all_in_atom p (atom.Number v) = true
+all_in_atom p (atom.Key k) = p k
+
+abbrev pub all_in_step : (Key → Bool) → Step → Bool
+all_in_step p (step.Add a) = all_in_atom p a
+all_in_step p (step.Sub a) = all_in_atom p a
+all_in_step p (step.Mul a) = all_in_atom p a
+all_in_step p (step.Min a) = all_in_atom p a
+all_in_step p (step.Max a) = all_in_atom p a
+all_in_step p (step.Pick a b) = all_in_atom p a && all_in_atom p b
+
+abbrev pub all_in_steps : (Key → Bool) → List Step → Bool
+all_in_steps p [] = true
+all_in_steps p (s ∷ ss) = all_in_step p s && all_in_steps p ss
+
+-- each key that an expression names passes a test
+abbrev pub all_in_expr : (Key → Bool) → Expr → Bool
+all_in_expr p e = all_in_atom p e.first && all_in_steps p e.steps
+
 -- an atom that is a key is among these
 abbrev pub is_atom_among : List Key → Atom → Bool
 is_atom_among ks (atom.Number v) = true

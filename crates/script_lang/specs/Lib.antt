@@ -1,3 +1,9 @@
 pub mod Exprs
+pub mod Values
 pub mod Scripts
 pub mod Reads
+pub mod Reading
+pub mod Words
+pub mod ExprWords
+pub mod Spelling
+pub mod ScriptLines

@@ -5,10 +5,22 @@
 //! value of an expression, for the keys of a script and for its remote reads stand in `specs/`.
 #![tactic(auto)]
 
+pub mod expr_words;
 mod exprs;
+mod laws;
 mod reads;
+pub mod script_lines;
 mod scripts;
+#[cfg(test)]
+mod tests;
+mod values;
+mod whys;
+pub mod words;
 
 pub use exprs::{Atom, Expr, Step, StepList};
-pub use reads::{is_named, is_update, key_of};
+pub use laws::law_expr_spelling;
+pub use reads::{is_known, is_named, is_update, key_of, keys, read_keys, write_keys};
+pub use script_lines::read_script;
 pub use scripts::{Op, OpList, Script, ScriptDraft};
+pub use values::{Reads, eval, has_each_key};
+pub use whys::{At, LineEnd, ScriptEnd};

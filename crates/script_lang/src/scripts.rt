@@ -1,4 +1,4 @@
-ghost use Rattle.std.specs.Prelude.{◌≡◌, ◌<◌, ◌≤◌, ◌∷◌, ◌++◌, [], length, OnOk, OnErr};
+ghost use Rattle.std.specs.Prelude.{◌≡◌, ◌<◌, ◌≤◌, ◌∷◌, ◌++◌, [], length, IsTrue, OnOk, OnErr};
 
 use crate::exprs::Expr;
 use score_base::{Key, Members, Memory, NodeId, TryCopy, TxId};
@@ -86,6 +86,10 @@ impl Model for ScriptDraft {
 }
 
 impl ScriptDraft {
+    ghost use Rattle.script_lang.specs.Exprs.{is_expr_among};
+    ghost use Rattle.script_lang.specs.Reads.{known_keys};
+    ghost use Rattle.script_lang.specs.Scripts.{IsFront};
+
     /// No operation yet.
     pub fn new(alloc: Global, number: TxId, home: NodeId) -> ScriptDraft
         ensures { result ≡ record { number = number; home = home; ops = [] } }
@@ -105,6 +109,14 @@ impl ScriptDraft {
         self.ops.len()
     }
 
+    /// The operations so far.
+    pub fn ops(&self) -> &[Op]
+        ensures value { result.now ≡ self.now.ops }
+        ensures front { IsFront result.now }
+    {
+        self.ops.as_slice()
+    }
+
     /// Adds a read as the last operation. After [`Memory`] the draft is as before.
     pub fn push_read(&mut self, key: Key) -> Result<(), Memory>
         requires { length self.old.ops < 32 }
@@ -112,6 +124,17 @@ impl ScriptDraft {
         ensures err { OnErr result (self.new ≡ self.old) }
     {
         self.ops.push(Op::Read(key))
+    }
+
+    /// Adds a write as the last operation, of an expression over the keys that the operations before
+    /// it have read. After [`Memory`] the draft is as before.
+    pub fn push_write(&mut self, key: Key, expr: Expr) -> Result<(), Memory>
+        requires room { length self.old.ops < 32 }
+        requires known { IsTrue (is_expr_among (known_keys self.old.ops) expr) }
+        ensures ok { OnOk result (self.new ≡ record self.old { ops = self.old.ops ++ Op.Write key expr ∷ [] }) }
+        ensures err { OnErr result (self.new ≡ self.old) }
+    {
+        self.ops.push(Op::Write(key, expr))
     }
 
     /// The script, once it has an operation.

@@ -1,0 +1,135 @@
+-- The one spelling of a document: lines of words, with single spaces between the words and a line feed
+-- at each line's end.
+use Rattle.std.specs.Prelude.{ℕ, ◌+◌, ◌≤◌, ◌^◌, Bool, true, false, ◌&&◌, nat_le, nat_lt, map, IsTrue, List, [], ◌∷◌, ◌++◌, length, codes}
+use Rattle.std.specs.List.{list_all, flat_map, join_with_byte}
+use Rattle.std.specs.Fmt.{decimal}
+use Rattle.score_base.specs.declared.keys.Key.{Key}
+use Rattle.score_base.specs.declared.ids.NodeId.{NodeId}
+use Rattle.score_base.specs.declared.ids.TxId.{TxId}
+use Rattle.score_base.specs.declared.ids.Value.{Value}
+use Rattle.score_base.specs.Keys.{is_key}
+use Rattle.script_lang.specs.Scripts.{ScriptData}
+use Rattle.script_lang.specs.declared.scripts.Op.{Op}
+use Rattle.script_lang.specs.declared.scripts.Op.TheVariants as op
+use Rattle.grid_model.specs.Documents.{DocumentData}
+use Rattle.grid_model.specs.declared.items.Item.{Item}
+use Rattle.grid_model.specs.declared.items.Item.TheVariants as item
+
+-- The words of each line.
+
+-- a node: an 'n' and its number
+abbrev pub node_word : NodeId → List ℕ
+node_word n = codes "n" ++ decimal n
+
+abbrev pub nodes_words : ℕ → List (List ℕ)
+nodes_words n = codes "nodes" ∷ decimal n ∷ []
+
+-- the partition of this number, and its nodes
+abbrev pub partition_words : ℕ → List NodeId → List (List ℕ)
+partition_words i ns = codes "partition" ∷ decimal i ∷ map node_word ns
+
+abbrev pub init_words : Key × Value → List (List ℕ)
+init_words x = codes "init" ∷ x.0 ∷ decimal x.1 ∷ []
+
+abbrev pub tx_words : ScriptData → List (List ℕ)
+tx_words s = codes "tx" ∷ decimal s.number ∷ node_word s.home ∷ []
+
+-- an operation; the words of an expression are not written here yet, since no document has one
+abbrev pub op_words : Op → List (List ℕ)
+op_words (op.Read k) = codes "read" ∷ k ∷ []
+op_words (op.Write k e) = codes "write" ∷ k ∷ []
+
+abbrev pub item_words : Item → List (List ℕ)
+item_words (item.Begin t) = codes "begin" ∷ decimal t ∷ []
+item_words (item.Deliver m) = codes "deliver" ∷ decimal m ∷ []
+item_words (item.Drop m) = codes "drop" ∷ decimal m ∷ []
+item_words (item.Next c) = codes "next" ∷ decimal c ∷ []
+item_words (item.Retry t) = codes "retry" ∷ decimal t ∷ []
+item_words (item.Ask n t) = codes "ask" ∷ node_word n ∷ decimal t ∷ []
+item_words (item.Crash n how) = codes "crash" ∷ node_word n ∷ decimal how ∷ []
+item_words (item.Fuse n k how) = codes "fuse" ∷ node_word n ∷ decimal k ∷ decimal how ∷ []
+item_words (item.Restart n) = codes "restart" ∷ node_word n ∷ []
+
+-- The lines of a document, each as its words.
+
+-- the partitions, the first of them with this number
+abbrev pub partition_lines : ℕ → List (List NodeId) → List (List (List ℕ))
+partition_lines i [] = []
+partition_lines i (ns ∷ rest) = partition_words i ns ∷ partition_lines (i + 1) rest
+
+-- a script, from its 'tx' to its 'end'
+abbrev pub script_lines : ScriptData → List (List (List ℕ))
+script_lines s = tx_words s ∷ (map op_words s.ops ++ (codes "end" ∷ []) ∷ [])
+
+-- the cluster, the scripts, the schedule
+abbrev pub document_lines : DocumentData → List (List (List ℕ))
+document_lines d =
+    nodes_words d.cluster.nodes ∷ (partition_lines 0 d.cluster.places ++ (map init_words d.cluster.inits
+    ++ (flat_map script_lines d.scripts ++ ((codes "schedule" ∷ []) ∷ map item_words d.items))))
+
+-- a line: its words with single spaces between them, and a line feed
+abbrev pub line : List (List ℕ) → List ℕ
+line words = join_with_byte 32 words ++ 10 ∷ []
+
+-- the bytes of a document
+abbrev pub spelling : DocumentData → List ℕ
+spelling d = flat_map line (document_lines d)
+
+-- Which documents have a spelling that is read.
+
+abbrev pub is_built_op : Op → Bool
+is_built_op (op.Read k) = true
+is_built_op (op.Write k e) = false
+
+abbrev pub is_built_item : Item → Bool
+is_built_item (item.Begin t) = true
+is_built_item (item.Deliver m) = true
+is_built_item (item.Drop m) = true
+is_built_item (item.Next c) = true
+is_built_item (item.Retry t) = false
+is_built_item (item.Ask n t) = false
+is_built_item (item.Crash n how) = false
+is_built_item (item.Fuse n k how) = false
+is_built_item (item.Restart n) = false
+
+-- each operation is a read, and each item begins, delivers, drops or takes the next
+pub record IsBuilt (d : DocumentData) : Type 0 where
+  pub ops : IsTrue (list_all (λ s. list_all is_built_op s.ops) d.scripts)
+  pub items : IsTrue (list_all is_built_item d.items)
+
+-- The ranges that the types of a document's parts have in the code.
+
+abbrev pub is_node : NodeId → Bool
+is_node n = nat_le 1 n && nat_le n 16
+
+abbrev pub is_tx : TxId → Bool
+is_tx t = nat_le 1 t && nat_le t 65535
+
+abbrev pub is_init_in_range : Key × Value → Bool
+is_init_in_range x = is_key x.0 && nat_lt x.1 (2 ^ 64)
+
+abbrev pub has_key : Op → Bool
+has_key (op.Read k) = is_key k
+has_key (op.Write k e) = is_key k
+
+-- a script of 1 to 32 operations
+abbrev pub is_script_in_range : ScriptData → Bool
+is_script_in_range s = is_tx s.number && is_node s.home && nat_le 1 (length s.ops) && nat_le (length s.ops) 32 && list_all has_key s.ops
+
+abbrev pub is_item_in_range : Item → Bool
+is_item_in_range (item.Begin t) = is_tx t
+is_item_in_range (item.Deliver m) = nat_le m 4294967295
+is_item_in_range (item.Drop m) = nat_le m 4294967295
+is_item_in_range (item.Next c) = nat_le c 4294967295
+is_item_in_range (item.Retry t) = is_tx t
+is_item_in_range (item.Ask n t) = is_node n && is_tx t
+is_item_in_range (item.Crash n how) = is_node n && nat_lt how (2 ^ 64)
+is_item_in_range (item.Fuse n k how) = is_node n && nat_lt k (2 ^ 64) && nat_lt how (2 ^ 64)
+is_item_in_range (item.Restart n) = is_node n
+
+-- each key is one, each number is in the range of its type, and each script has 1 to 32 operations
+pub record IsInRange (d : DocumentData) : Type 0 where
+  pub places : IsTrue (list_all (list_all is_node) d.cluster.places)
+  pub inits : IsTrue (list_all is_init_in_range d.cluster.inits)
+  pub scripts : IsTrue (list_all is_script_in_range d.scripts)
+  pub items : IsTrue (list_all is_item_in_range d.items)

@@ -1,6 +1,0 @@
-use Rattle.std.proofs.Common.{◌≡◌, drop}
-use Rattle.grid_model.specs.Keyed.{at_key}
-use Rattle.grid_model.proofs.standings.Standings.get.Given as goal
-
-abbrev pub invariant-loop-pair : goal.invariant-loop-pair
-invariant-loop-pair l = at_key l.t (drop l.pair-index l.pair-items) ≡ at_key l.t l.pair-items

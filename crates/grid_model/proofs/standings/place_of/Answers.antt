@@ -1,7 +1,0 @@
-use Rattle.std.proofs.Common.{arith}
-use Rattle.std.proofs.lemmas.Bool.Decides.{nat_tests}
-use Rattle.grid_model.proofs.Places.{place_here}
-use Rattle.grid_model.proofs.standings.place_of.Goals as goal
-
-pub returns-then-eq-clause-found : goal.returns-then-eq-clause-found
-returns-then-eq-clause-found c = place_here _ _ _ c.index-begun-i.result (grind arith) c.index-begun-i.is (grind (arith, nat_tests)) c.loop-i.invariant.at c.loop-i.invariant.put

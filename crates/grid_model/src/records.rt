@@ -1,0 +1,22 @@
+//! The words over one journal, as plain functions over its records in the order of time.
+//!
+//! Each contract is a definition of `specs/Journals`, which reads the newest record first: hence the
+//! `reverse`. The functions walk the list and keep no table, queue or index; they say what every
+//! faster keeper of a journal has to answer.
+
+mod commits;
+mod conflicts;
+mod decisions;
+mod endings;
+mod fitting;
+mod pairs;
+mod proposals;
+mod values;
+
+pub use commits::{commit_id, is_clear};
+pub use conflicts::{holder, is_key_among, keys_in, newer};
+pub use decisions::{Decided, decided_final, decision, is_closed, undone};
+pub use endings::{ended, floor, pending};
+pub use fitting::{are_own_keys, fits, is_among};
+pub use proposals::{Prepared, home_of, prepared_of};
+pub use values::{newest, newest_version, version_at};

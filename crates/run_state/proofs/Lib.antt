@@ -1,0 +1,4 @@
+pub mod Marked
+pub mod Elsewhere
+pub mod Told
+pub mod Keeping

@@ -1,0 +1,7 @@
+use Rattle.std.proofs.Common.{arith}
+use Rattle.std.proofs.lemmas.Bool.Decides.{nat_tests}
+use Rattle.grid_model.proofs.Places.{place_here}
+use Rattle.run_state.proofs.states.story_place.Goals as goal
+
+pub returns-then-eq-clause-found : goal.returns-then-eq-clause-found
+returns-then-eq-clause-found c = place_here _ _ _ c.index-stories-i.result (grind arith) c.index-stories-i.is (grind (arith, nat_tests)) c.loop-i.invariant.at c.loop-i.invariant.put

@@ -1,0 +1,75 @@
+-- How an atom that was read is spelled, and that its spelling is read as it.
+use Rattle.std.proofs.Common.{◌≡◌, ℕ, ◌+◌, ◌-◌, ◌*◌, ◌<◌, ◌^◌, ◌==◌, ◌&&◌, not, nat_le, nat_lt, Bool, true, false, cond, List, [], ◌∷◌, length, Option, Some, None, Ok, Err, IfOk, refl, sym, ap, ◌∙◌, arith, lit<}
+use Rattle.std.specs.Char.{is_ascii_digit}
+use Rattle.std.specs.Fmt.{decimal}
+use Rattle.std.specs.List.{list_all}
+use Rattle.std.proofs.lemmas.Bool.Decides.{nat_tests}
+use Rattle.score_base.specs.declared.keys.Key.{Key}
+use Rattle.score_base.specs.Keys.{is_key, is_digit, is_key_byte}
+use Rattle.score_base.specs.Numbers.{number, digits_from}
+use Rattle.score_base.proofs.Spelling.{decimal-number, number-decimal, said}
+use Rattle.script_lang.specs.declared.exprs.Atom.{Atom}
+use Rattle.script_lang.specs.declared.exprs.Atom.TheVariants as atom
+use Rattle.script_lang.specs.Exprs.{is_atom_among}
+use Rattle.script_lang.specs.Reads.{is_key_among}
+use Rattle.script_lang.specs.Reading.{◌>>=◌, or_why}
+use Rattle.script_lang.specs.Words.{key_of, begins_with_digit}
+use Rattle.script_lang.specs.ExprWords.{number_atom, known_atom, key_atom, atom_of}
+use Rattle.script_lang.specs.Spelling.{atom_word, is_plain_atom}
+use Rattle.script_lang.proofs.Readings.{behind, either, and_parts, not_parts}
+
+-- the word spells the atom, over the known keys
+pub record IsAtomOf (known : List Key) (w : List ℕ) (a : Atom) : Type 0 where
+  pub spelled : w ≡ atom_word a
+  pub among : is_atom_among known a ≡ true
+  pub plain : is_plain_atom a ≡ true
+
+digits_of : (b : Bool) (x : Option ℕ) (n : ℕ) → cond b None x ≡ Some n → x ≡ Some n
+digits_of true x n e = cc
+digits_of false x n e = e
+
+number_small : (w : List ℕ) (n : ℕ) → number w ≡ Some n → n < 2 ^ 64
+number_small [] n e = cc
+number_small (b ∷ bs) n e = (said 0 (b ∷ bs) n (lit< tt) (digits_of ((b == 48) && not (length bs == 0)) (digits_from 0 (b ∷ bs)) n e)).2
+
+number_read : (known : List Key) (w : List ℕ) → IfOk (number_atom w) (IsAtomOf known w)
+unfolding number_atom
+number_read known w = by (number w) refl
+  where
+    by : (o : Option ℕ) → number w ≡ o → IfOk (or_why 2 o >>= λ n. Ok (atom.Number n)) (IsAtomOf known w)
+    by None e = tt
+    by (Some n) e = record { spelled = decimal-number w n e; among = refl; plain = grind (arith, nat_tests, number_small w n e) }
+
+key_read : (known : List Key) (w : List ℕ) → IfOk (key_atom known w) (IsAtomOf known w)
+unfolding key_atom
+key_read known w = behind (key_of w) (known_atom known) (λ k. (k ≡ w) × (is_key w ≡ true)) (IsAtomOf known w) (either (is_key w) (Ok w) (Err 5) (λ k. (k ≡ w) × (is_key w ≡ true)) (λ e. (refl, e)) (λ e. tt)) (λ k h. either (is_key_among k known) (Ok (atom.Key k)) (Err 7) (IsAtomOf known w) (λ e. record { spelled = sym h.0; among = e; plain = ap is_key h.0 ∙ h.1 }) (λ e. tt))
+
+pub atom_read : (known : List Key) (w : List ℕ) → IfOk (atom_of known w) (IsAtomOf known w)
+unfolding atom_of
+atom_read known w = either (begins_with_digit w) (number_atom w) (key_atom known w) (IsAtomOf known w) (λ e. number_read known w) (λ e. key_read known w)
+
+is_first : (b : Bool) (x : Option ℕ) (n : ℕ) → cond b x None ≡ Some n → b ≡ true
+is_first true x n e = refl
+is_first false x n e = cc
+
+number_first : (w : List ℕ) (n : ℕ) → number w ≡ Some n → begins_with_digit w ≡ true
+number_first [] n e = cc
+number_first (b ∷ bs) n e =
+    let first = is_first (is_ascii_digit b && nat_lt (10 * 0 + (b - 48)) (2 ^ 64)) (digits_from (10 * 0 + (b - 48)) bs) n (digits_of ((b == 48) && not (length bs == 0)) (digits_from 0 (b ∷ bs)) n e) in
+    (and_parts (is_ascii_digit b) (nat_lt (10 * 0 + (b - 48)) (2 ^ 64)) first).0
+
+key_first : (k : Key) → is_key k ≡ true → begins_with_digit k ≡ false
+key_first [] e = cc
+key_first (b ∷ bs) e = not_parts (is_digit b) (first (not (is_digit b)) (is_key_byte b) (nat_le (length bs) 31) (list_all is_key_byte bs) e)
+  where
+    first : (p q r t : Bool) → (p && q && r && t) ≡ true → p ≡ true
+    first true q r t h = refl
+    first false q r t h = cc
+
+pub atom_again : (known : List Key) (a : Atom) → is_atom_among known a ≡ true → is_plain_atom a ≡ true → atom_of known (atom_word a) ≡ Ok a
+unfolding atom_of number_atom key_atom
+atom_again known (atom.Number v) among plain =
+    let small : v < 2 ^ 64 = grind (arith, nat_tests, plain) in
+    let read = number-decimal v small in
+    rw (number_first (decimal v) v read, read) refl
+atom_again known (atom.Key k) among plain = rw (key_first k plain, plain, among) refl
