@@ -28,9 +28,9 @@ ended-commits t f (y ∷ r) h = ended-commits t f r h
 pub commits-ended : (c : ClusterData) (n : NodeId) (t : TxId) (f : Ident) (r : List Record) → all_fit c n r ≡ true → has_pair t f (commits r) ≡ true → ended t r ≡ Some (outcome.Commit f)
 commits-ended c n t f [] fit h = absurd (grind (arith, h))
 commits-ended c n t f (record'.Ended u (outcome.Commit e) ∷ r) fit h = elim (or_cases (u == t && e == f) (has_pair t f (commits r)) h) [
-  | inl here ↦ grind (arith, nat_tests, here)
-  | inr more ↦ ended-stays c n t (outcome.Commit f) (record'.Ended u (outcome.Commit e)) r fit (commits-ended c n t f r (rest-fits c n (record'.Ended u (outcome.Commit e)) r fit) more)
-]
+    | inl here ↦ grind (arith, nat_tests, here)
+    | inr more ↦ ended-stays c n t (outcome.Commit f) (record'.Ended u (outcome.Commit e)) r fit (commits-ended c n t f r (rest-fits c n (record'.Ended u (outcome.Commit e)) r fit) more)
+    ]
 commits-ended c n t f (record'.Ended u outcome.Abort ∷ r) fit h = ended-stays c n t (outcome.Commit f) (record'.Ended u outcome.Abort) r fit (commits-ended c n t f r (rest-fits c n (record'.Ended u outcome.Abort) r fit) h)
 commits-ended c n t f (y ∷ r) fit h = commits-ended c n t f r (rest-fits c n y r fit) h
 
@@ -42,13 +42,13 @@ commits-grow t f y r h = h
 -- below every pending proposal no commit comes anew
 pub commits-below : (c : ClusterData) (n : NodeId) (s : Ident) (t : TxId) (f : Ident) (y : Record) (r : List Record) → all_fit c n (y ∷ r) ≡ true → is_clear s r ≡ true → f ≤ s → has_pair t f (commits (y ∷ r)) ≡ true → has_pair t f (commits r) ≡ true
 commits-below c n s t f (record'.Ended u (outcome.Commit e)) r fit clear le h = elim (or_cases (u == t && e == f) (has_pair t f (commits r)) h) [
-  | inl here ↦ absurd (
-      let q = commit-fits c n r u e (newest-fits c n (record'.Ended u (outcome.Commit e)) r fit) in
-      let lt = clear-pending s u q.0 r clear q.1 in
-      let le' = q.2 in
-      grind (arith, nat_tests, here))
-  | inr more ↦ more
-]
+    | inl here ↦ absurd (
+        let q = commit-fits c n r u e (newest-fits c n (record'.Ended u (outcome.Commit e)) r fit) in
+        let lt = clear-pending s u q.0 r clear q.1 in
+        let le' = q.2 in
+        grind (arith, nat_tests, here))
+    | inr more ↦ more
+    ]
 commits-below c n s t f (record'.Ended u outcome.Abort) r fit clear le h = h
 commits-below c n s t f y r fit clear le h = h
 
@@ -60,7 +60,6 @@ applied-each t f r (x ∷ xs) = go (is_clear x.1 r) same (applied-each t f r xs)
   where
     same : (x.0 == t && x.1 == f) ≡ true → is_clear f r ≡ is_clear x.1 r
     same h = let e : f ≡ x.1 = grind (arith, nat_tests, h) in ap (λ g. is_clear g r) e
-
     go : (b : Bool) → ((x.0 == t && x.1 == f) ≡ true → is_clear f r ≡ b) → has_pair t f (applied_of r xs) ≡ (has_pair t f xs && is_clear f r) → has_pair t f (if b then x ∷ applied_of r xs else applied_of r xs) ≡ (((x.0 == t && x.1 == f) || has_pair t f xs) && is_clear f r)
     go true e more = grind (arith, e, more)
     go false e more = grind (arith, e, more)
@@ -112,9 +111,9 @@ applied-below c n s t f y r fit clear le h =
 -- what is applied anew has a final identifier at or above a pending proposal
 pub applied-anew : (c : ClusterData) (n : NodeId) (t : TxId) (f : Ident) (y : Record) (r : List Record) → all_fit c n (y ∷ r) ≡ true → has_pair t f (applied (y ∷ r)) ≡ true → has_pair t f (applied r) ≡ false → IsHeldBy f r
 applied-anew c n t f y r fit h new = elim (cases_Bool (is_clear f r)) [
-  | inl clear ↦ absurd (let old = applied-below c n f t f y r fit clear (omega arith) h in grind (arith, old, new))
-  | inr held ↦ not-clear c n f r (rest-fits c n y r fit) held
-]
+    | inl clear ↦ absurd (let old = applied-below c n f t f y r fit clear (omega arith) h in grind (arith, old, new))
+    | inr held ↦ not-clear c n f r (rest-fits c n y r fit) held
+    ]
 
 -- ---- the commit identifier
 
@@ -125,16 +124,16 @@ greatest-bound t f (x ∷ xs) h = grind (arith, nat_tests, greatest-bound t f xs
 pub greatest-one : (xs : List (TxId × Ident)) → (greatest xs ≡ 0) ⊎ ((t : TxId) × (has_pair t (greatest xs) xs ≡ true))
 greatest-one [] = inl refl
 greatest-one (x ∷ xs) = elim (cases_Bool (nat_lt (greatest xs) x.1)) [
-  | inl here ↦
-      let is : max x.1 (greatest xs) ≡ x.1 = grind (arith, nat_tests, here) in
-      inr (x.0, rw is (grind (arith, nat_tests)))
-  | inr rest ↦
-      let is : max x.1 (greatest xs) ≡ greatest xs = grind (arith, nat_tests, rest) in
-      elim (greatest-one xs) [
+    | inl here ↦
+        let is : max x.1 (greatest xs) ≡ x.1 = grind (arith, nat_tests, here) in
+        inr (x.0, rw is (grind (arith, nat_tests)))
+    | inr rest ↦
+        let is : max x.1 (greatest xs) ≡ greatest xs = grind (arith, nat_tests, rest) in
+        elim (greatest-one xs) [
         | inl none ↦ inl (is ∙ none)
         | inr one ↦ inr (one.0, (let P : Ident → Type 0 = λ g. has_pair one.0 g (x ∷ xs) ≡ true in subst P (sym is) (or_right (x.0 == one.0 && x.1 == greatest xs) (has_pair one.0 (greatest xs) xs) one.1)))
-      ]
-]
+        ]
+    ]
 
 pub applied-commit_id : (t : TxId) (f : Ident) (r : List Record) → has_pair t f (applied r) ≡ true → f ≤ commit_id r
 applied-commit_id t f r h = greatest-bound t f (applied r) h
@@ -150,24 +149,24 @@ zero-clear c n (y ∷ r) fit = zero-clear c n r (rest-fits c n y r fit)
 -- it is below every pending proposal
 pub commit_id-clear : (c : ClusterData) (n : NodeId) (r : List Record) → all_fit c n r ≡ true → is_clear (commit_id r) r ≡ true
 commit_id-clear c n r fit = elim (greatest-one (applied r)) [
-  | inl none ↦ (let P : Ident → Type 0 = λ s. is_clear s r ≡ true in subst P (sym none) (zero-clear c n r fit))
-  | inr one ↦ (applied-says c n one.0 (commit_id r) r fit one.1).clear
-]
+    | inl none ↦ (let P : Ident → Type 0 = λ s. is_clear s r ≡ true in subst P (sym none) (zero-clear c n r fit))
+    | inr one ↦ (applied-says c n one.0 (commit_id r) r fit one.1).clear
+    ]
 
 pub commit_id-pending : (c : ClusterData) (n : NodeId) (t : TxId) (p : Ident) (r : List Record) → all_fit c n r ≡ true → pending t r ≡ Some p → commit_id r < p
 commit_id-pending c n t p r fit h = clear-pending (commit_id r) t p r (commit_id-clear c n r fit) h
 
 pub commit_id-floor : (r : List Record) → commit_id r ≤ floor r
 commit_id-floor r = elim (greatest-one (applied r)) [
-  | inl none ↦ (let e : commit_id r ≡ 0 = none in omega arith)
-  | inr one ↦ applied-floor one.0 (commit_id r) r one.1
-]
+    | inl none ↦ (let e : commit_id r ≡ 0 = none in omega arith)
+    | inr one ↦ applied-floor one.0 (commit_id r) r one.1
+    ]
 
 pub commit_id-grows : (c : ClusterData) (n : NodeId) (y : Record) (r : List Record) → fits c n r y ≡ true → commit_id r ≤ commit_id (y ∷ r)
 commit_id-grows c n y r fit = elim (greatest-one (applied r)) [
-  | inl none ↦ (let e : commit_id r ≡ 0 = none in omega arith)
-  | inr one ↦ applied-commit_id one.0 (commit_id r) (y ∷ r) (applied-grows c n one.0 (commit_id r) y r fit one.1)
-]
+    | inl none ↦ (let e : commit_id r ≡ 0 = none in omega arith)
+    | inr one ↦ applied-commit_id one.0 (commit_id r) (y ∷ r) (applied-grows c n one.0 (commit_id r) y r fit one.1)
+    ]
 
 pub commit_id-later : (c : ClusterData) (n : NodeId) (s r : List Record) → all_fit c n (s ++ r) ≡ true → commit_id r ≤ commit_id (s ++ r)
 commit_id-later c n [] r fit = omega arith

@@ -42,12 +42,12 @@ later-self f u x b = grind (arith, nat_tests)
 pub best-bound : (w : TxId → Option Value) (start : Value) (u : TxId) (f : Ident) (v : Value) (xs : List (TxId × Ident)) → has_pair u f xs ≡ true → w u ≡ Some v → IsAtMost f u (best_of w start xs)
 best-bound w start u f v [] h e = absurd (grind (arith, h))
 best-bound w start u f v (x ∷ xs) h e = elim (or_cases (x.0 == u && x.1 == f) (has_pair u f xs) h) [
-  | inl here ↦
-      let u' : x.0 ≡ u = grind (arith, nat_tests, here) in
-      let f' : x.1 ≡ f = grind (arith, nat_tests, here) in
-      rw (u', f', e) (later-self f u v (best_of w start xs))
-  | inr more ↦ later-most x.1 f x.0 u (w x.0) (best_of w start xs) (best-bound w start u f v xs more e)
-]
+    | inl here ↦
+        let u' : x.0 ≡ u = grind (arith, nat_tests, here) in
+        let f' : x.1 ≡ f = grind (arith, nat_tests, here) in
+        rw (u', f', e) (later-self f u v (best_of w start xs))
+    | inr more ↦ later-most x.1 f x.0 u (w x.0) (best_of w start xs) (best-bound w start u f v xs more e)
+    ]
 
 -- the best is one that wrote, or the initial value
 pub data IsOneOf (w : TxId → Option Value) (start : Value) (xs : List (TxId × Ident)) (b : Version) : Type 0 where
@@ -65,7 +65,6 @@ best-one w start (x ∷ xs) = go (w x.0) refl (best-one w start xs)
     choose : (v : Value) (b : Bool) → w x.0 ≡ Some v → IsOneOf w start xs (best_of w start xs) → IsOneOf w start (x ∷ xs) (if b then record { ident = x.1; of = x.0; value = v } else best_of w start xs)
     choose v true e h = written x.0 x.1 v (grind (arith, nat_tests)) e refl
     choose v false e h = one-more w start x xs _ h
-
     go : (o : Option Value) → w x.0 ≡ o → IsOneOf w start xs (best_of w start xs) → IsOneOf w start (x ∷ xs) (later x.1 x.0 o (best_of w start xs))
     go None e h = one-more w start x xs _ h
     go (Some v) e h = choose v (is_behind x.1 x.0 (best_of w start xs)) e h

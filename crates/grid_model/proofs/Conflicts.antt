@@ -39,8 +39,8 @@ newer-none r [] sid k h is = absurd (grind (arith, is))
 newer-none r (x ∷ ks) sid k h is =
     let here = newer-here (newest r x) sid x (newer r ks sid) h in
     elim (cases_Bool (same_key k x)) [
-      | inl same ↦ (let P : Key → Type 0 = λ z. newest r z ≤ sid in subst P (sym (same_key-is k x same)) here.0)
-      | inr other ↦ newer-none r ks sid k here.1 (grind (arith, other, is))
+    | inl same ↦ (let P : Key → Type 0 = λ z. newest r z ≤ sid in subst P (sym (same_key-is k x same)) here.0)
+    | inr other ↦ newer-none r ks sid k here.1 (grind (arith, other, is))
     ]
 
 -- ---- one before the other
@@ -76,7 +76,6 @@ conflict-before c n t u a home parts sid p reads writes r fit ne e both =
         let no' : conflicts_with (prepared_of t r) reads writes ≡ false = holder-free r u reads writes t f.free ne l in
         let no'' : conflict a.reads a.writes reads writes ≡ false = rw e at no' in
         grind (arith, no'', both))
-
     go : FitsPrepared c n r u parts sid p reads writes → all_fit c n r ≡ true → (o : Option Outcome) → ended t r ≡ o → is_locking t r ≡ false → IsBefore o a (record { home = home; sid = sid; proposal = p; reads = reads; writes = writes })
     go f rest None is l = absurd (
         let runs = pending-locks t a.proposal r (running-pending c n t a r rest e is) in
@@ -87,10 +86,10 @@ conflict-before c n t u a home parts sid p reads writes r fit ne e both =
         let waits' : not (is_clear g r) ≡ false = rw is at waits in
         let clear : is_clear g r ≡ true = grind (arith, waits') in
         committed g refl (above-final p t g r f.above is) (λ k w read.
-        let v = written-some k t a r e w in
-        let new = newest-bound t g k v.0 r (says-applied t g r is clear) v.1 in
-        let old = newer-none r reads sid k f.seen read in
-        omega arith)
+            let v = written-some k t a r e w in
+            let new = newest-bound t g k v.0 r (says-applied t g r is clear) v.1 in
+            let old = newer-none r reads sid k f.seen read in
+            omega arith)
 
 -- ---- of two that conflict one is before the other
 
@@ -99,26 +98,26 @@ conflicts-ordered c n t u a b [] fit ne ea eb both = absurd (grind (arith, ea))
 conflicts-ordered c n t u a b (record'.Prepared v home parts sid p reads writes ∷ r) fit ne ea eb both =
     let y : Record = record'.Prepared v home parts sid p reads writes in
     elim (cases_eq v t) [
-      | inl same ↦
-          let this = first t a same ea in
-          let other : v == u ≡ false = grind (arith, nat_tests) in
-          let eb' : prepared_of u r ≡ Some b = sym (prepared-other u y r other) ∙ eb in
-          let both' : conflict b.reads b.writes a.reads a.writes ≡ true = conflict-turned b.reads a.reads b.writes a.writes ∙ both in
-          let P : Prepared → Type 0 = λ z. conflict b.reads b.writes z.reads z.writes ≡ true in
-          inr (subst (IsBefore (ended u r) b) this (conflict-before c n u v b home parts sid p reads writes r fit (grind (arith, nat_tests, other)) eb' (subst P (sym this) both')))
-      | inr ne' ↦
-          let other : v == t ≡ false = grind (arith, nat_tests) in
-          let ea' : prepared_of t r ≡ Some a = sym (prepared-other t y r other) ∙ ea in
-          elim (cases_eq v u) [
-            | inl same ↦
-                let this = first u b same eb in
-                let P : Prepared → Type 0 = λ z. conflict a.reads a.writes z.reads z.writes ≡ true in
-                inl (subst (IsBefore (ended t r) a) this (conflict-before c n t v a home parts sid p reads writes r fit (grind (arith, nat_tests, other)) ea' (subst P (sym this) both)))
-            | inr ne'' ↦
-                let other' : v == u ≡ false = grind (arith, nat_tests) in
-                let eb' : prepared_of u r ≡ Some b = sym (prepared-other u y r other') ∙ eb in
-                conflicts-ordered c n t u a b r (rest-fits c n y r fit) ne ea' eb' both
-          ]
+    | inl same ↦
+        let this = first t a same ea in
+        let other : v == u ≡ false = grind (arith, nat_tests) in
+        let eb' : prepared_of u r ≡ Some b = sym (prepared-other u y r other) ∙ eb in
+        let both' : conflict b.reads b.writes a.reads a.writes ≡ true = conflict-turned b.reads a.reads b.writes a.writes ∙ both in
+        let P : Prepared → Type 0 = λ z. conflict b.reads b.writes z.reads z.writes ≡ true in
+        inr (subst (IsBefore (ended u r) b) this (conflict-before c n u v b home parts sid p reads writes r fit (grind (arith, nat_tests, other)) eb' (subst P (sym this) both')))
+    | inr ne' ↦
+        let other : v == t ≡ false = grind (arith, nat_tests) in
+        let ea' : prepared_of t r ≡ Some a = sym (prepared-other t y r other) ∙ ea in
+        elim (cases_eq v u) [
+        | inl same ↦
+            let this = first u b same eb in
+            let P : Prepared → Type 0 = λ z. conflict a.reads a.writes z.reads z.writes ≡ true in
+            inl (subst (IsBefore (ended t r) a) this (conflict-before c n t v a home parts sid p reads writes r fit (grind (arith, nat_tests, other)) ea' (subst P (sym this) both)))
+        | inr ne'' ↦
+            let other' : v == u ≡ false = grind (arith, nat_tests) in
+            let eb' : prepared_of u r ≡ Some b = sym (prepared-other u y r other') ∙ eb in
+            conflicts-ordered c n t u a b r (rest-fits c n y r fit) ne ea' eb' both
+        ]
     ]
   where
     first : (w : TxId) (x : Prepared) → v ≡ w → prepared_of w (record'.Prepared v home parts sid p reads writes ∷ r) ≡ Some x → (let z : Prepared = record { home = home; sid = sid; proposal = p; reads = reads; writes = writes } in z ≡ x)
@@ -129,6 +128,6 @@ conflicts-ordered c n t u a b (record'.Prepared v home parts sid p reads writes 
         let both : Some z ≡ Some x = sym e' ∙ e in
         (cc)
 conflicts-ordered c n t u a b (y ∷ r) fit ne ea eb both = elim (conflicts-ordered c n t u a b r (rest-fits c n y r fit) ne ea eb both) [
-  | inl before ↦ inl (before-stays c n t a b y r fit before)
-  | inr before ↦ inr (before-stays c n u b a y r fit before)
-]
+    | inl before ↦ inl (before-stays c n t a b y r fit before)
+    | inr before ↦ inr (before-stays c n u b a y r fit before)
+    ]

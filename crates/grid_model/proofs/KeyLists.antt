@@ -53,24 +53,24 @@ pub record IsShared (k : Key) (xs ys : List Key) : Type 0 where
 pub shares-both : (k : Key) (xs ys : List Key) → IsShared k xs ys → shares xs ys ≡ true
 shares-both k [] ys h = let e = h.first in cc
 shares-both k (x ∷ xs) ys h = elim (cases_Bool (same_key k x)) [
-  | inl same ↦
-      let is : k ≡ x = same_key-is k x same in
-      let there : is_key_among x ys ≡ true = rw is at h.second in
-      rw there refl
-  | inr other ↦
-      let first = h.first in
-      let rest : shares xs ys ≡ true = shares-both k xs ys (record { first = grind (arith, first, other); second = h.second }) in
-      grind (arith, rest)
-]
+    | inl same ↦
+        let is : k ≡ x = same_key-is k x same in
+        let there : is_key_among x ys ≡ true = rw is at h.second in
+        rw there refl
+    | inr other ↦
+        let first = h.first in
+        let rest : shares xs ys ≡ true = shares-both k xs ys (record { first = grind (arith, first, other); second = h.second }) in
+        grind (arith, rest)
+    ]
 
 pub shares-key : (xs ys : List Key) → shares xs ys ≡ true → (k : Key) × IsShared k xs ys
 shares-key [] ys h = absurd (grind (arith, h))
 shares-key (x ∷ xs) ys h = elim (cases_Bool (is_key_among x ys)) [
-  | inl here ↦ (x, record { first = among-here x xs; second = here })
-  | inr other ↦
-      let more = shares-key xs ys (grind (arith, h, other)) in
-      (more.0, record { first = among-later more.0 x xs more.1.first; second = more.1.second })
-]
+    | inl here ↦ (x, record { first = among-here x xs; second = here })
+    | inr other ↦
+        let more = shares-key xs ys (grind (arith, h, other)) in
+        (more.0, record { first = among-later more.0 x xs more.1.first; second = more.1.second })
+    ]
 
 pub shares-turned : (xs ys : List Key) → shares xs ys ≡ shares ys xs
 shares-turned xs ys = go (shares xs ys) (shares ys xs) refl refl
@@ -79,7 +79,6 @@ shares-turned xs ys = go (shares xs ys) (shares ys xs) refl refl
     turn us vs h =
         let k = shares-key us vs h in
         shares-both k.0 vs us (record { first = k.1.second; second = k.1.first })
-
     go : (a b : Bool) → shares xs ys ≡ a → shares ys xs ≡ b → a ≡ b
     go true true e f = refl
     go false false e f = refl

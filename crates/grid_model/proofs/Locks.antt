@@ -44,12 +44,12 @@ holder-rest false v (Some w) h = h
 none-holds : (us : List TxId) (r : List Record) (t : TxId) (reads : List Key) (writes : List (Key × Value)) (u : TxId) → holder_among us r t reads writes ≡ None → is_listed u us ≡ true → u ≢ t → is_locking u r ≡ true → conflicts_with (prepared_of u r) reads writes ≡ false
 none-holds [] r t reads writes u h is ne l = absurd (grind (arith, is))
 none-holds (v ∷ us) r t reads writes u h is ne l = elim (cases_eq v u) [
-  | inl same ↦
-      let P : TxId → Type 0 = λ w. conflicts_with (prepared_of w r) reads writes ≡ false in
-      let L : TxId → Type 0 = λ w. is_locking w r ≡ true in
-      subst P same (holder-here (not (v == t)) (is_locking v r) (conflicts_with (prepared_of v r) reads writes) v (holder_among us r t reads writes) h (grind (arith, nat_tests)) (subst L (sym same) l))
-  | inr other ↦ none-holds us r t reads writes u (holder-rest (not (v == t) && (is_locking v r && conflicts_with (prepared_of v r) reads writes)) v (holder_among us r t reads writes) h) (grind (arith, nat_tests)) ne l
-]
+    | inl same ↦
+        let P : TxId → Type 0 = λ w. conflicts_with (prepared_of w r) reads writes ≡ false in
+        let L : TxId → Type 0 = λ w. is_locking w r ≡ true in
+        subst P same (holder-here (not (v == t)) (is_locking v r) (conflicts_with (prepared_of v r) reads writes) v (holder_among us r t reads writes) h (grind (arith, nat_tests)) (subst L (sym same) l))
+    | inr other ↦ none-holds us r t reads writes u (holder-rest (not (v == t) && (is_locking v r && conflicts_with (prepared_of v r) reads writes)) v (holder_among us r t reads writes) h) (grind (arith, nat_tests)) ne l
+    ]
 
 -- where there is no holder, nobody else who locks conflicts
 pub holder-free : (r : List Record) (t : TxId) (reads : List Key) (writes : List (Key × Value)) (u : TxId) → holder r t reads writes ≡ None → u ≢ t → is_locking u r ≡ true → conflicts_with (prepared_of u r) reads writes ≡ false
@@ -58,7 +58,6 @@ holder-free r t reads writes u h ne l = go (is_some (prepared_of u r)) refl
     none : (o : Option Prepared) → is_some o ≡ false → conflicts_with o reads writes ≡ false
     none None e = refl
     none (Some x) e = absurd (grind (arith, e))
-
     go : (b : Bool) → is_some (prepared_of u r) ≡ b → conflicts_with (prepared_of u r) reads writes ≡ false
     go true e = none-holds (prepared_all r) r t reads writes u h (prepared-listed u r e) ne l
     go false e = none (prepared_of u r) e
@@ -83,29 +82,29 @@ locking-before c n t (record'.Prepared u home parts sid p reads writes) r fit ot
     let above = (prepared-fits c n r u parts sid p reads writes (newest-fits c n y r fit)).above in
     let h' : (is_some (pending t r) || is_unapplied (ended t r) (y ∷ r)) ≡ true = rw other at h in
     elim (or_cases (is_some (pending t r)) (is_unapplied (ended t r) (y ∷ r)) h') [
-      | inl runs ↦ or_left (is_some (pending t r)) (is_unapplied (ended t r) r) runs
-      | inr waits ↦ or_right (is_some (pending t r)) (is_unapplied (ended t r) r) (unapplied-before (ended t r) y r (λ f e. over f (above-final p t f r above e)) waits)
+    | inl runs ↦ or_left (is_some (pending t r)) (is_unapplied (ended t r) r) runs
+    | inr waits ↦ or_right (is_some (pending t r)) (is_unapplied (ended t r) r) (unapplied-before (ended t r) y r (λ f e. over f (above-final p t f r above e)) waits)
     ]
   where
     over : (f : Ident) → f < p → nat_lt f p ≡ true
     over f lt = grind (arith, nat_tests)
 locking-before c n t (record'.Ended u o) r fit other h = elim (cases_eq u t) [
-  | inl same ↦
-      let q = outcome-fits c n r u o (newest-fits c n (record'.Ended u o) r fit) in
-      let P : TxId → Type 0 = λ v. pending v r ≡ Some q.0 in
-      pending-locks t q.0 r (subst P same q.1)
-  | inr ne ↦
-      let self : u == t ≡ false = grind (arith, nat_tests) in
-      let h' : (is_some (pending t r) || is_unapplied (ended t r) (record'.Ended u o ∷ r)) ≡ true = rw self at h in
-      elim (or_cases (is_some (pending t r)) (is_unapplied (ended t r) (record'.Ended u o ∷ r)) h') [
+    | inl same ↦
+        let q = outcome-fits c n r u o (newest-fits c n (record'.Ended u o) r fit) in
+        let P : TxId → Type 0 = λ v. pending v r ≡ Some q.0 in
+        pending-locks t q.0 r (subst P same q.1)
+    | inr ne ↦
+        let self : u == t ≡ false = grind (arith, nat_tests) in
+        let h' : (is_some (pending t r) || is_unapplied (ended t r) (record'.Ended u o ∷ r)) ≡ true = rw self at h in
+        elim (or_cases (is_some (pending t r)) (is_unapplied (ended t r) (record'.Ended u o ∷ r)) h') [
         | inl runs ↦ or_left (is_some (pending t r)) (is_unapplied (ended t r) r) runs
         | inr waits ↦ or_right (is_some (pending t r)) (is_unapplied (ended t r) r) (unapplied-before (ended t r) (record'.Ended u o) r (λ f e. refl) waits)
-      ]
-]
+        ]
+    ]
 locking-before c n t y r fit other h = elim (or_cases (is_some (pending t r)) (is_unapplied (ended t r) (y ∷ r)) h) [
-  | inl runs ↦ or_left (is_some (pending t r)) (is_unapplied (ended t r) r) runs
-  | inr waits ↦ or_right (is_some (pending t r)) (is_unapplied (ended t r) r) (unapplied-before (ended t r) y r (λ f e. refl) waits)
-]
+    | inl runs ↦ or_left (is_some (pending t r)) (is_unapplied (ended t r) r) runs
+    | inr waits ↦ or_right (is_some (pending t r)) (is_unapplied (ended t r) r) (unapplied-before (ended t r) y r (λ f e. refl) waits)
+    ]
 
 -- ---- two that lock do not conflict
 
@@ -120,23 +119,23 @@ pub locks-apart : (c : ClusterData) (n : NodeId) (t u : TxId) (r : List Record) 
 locks-apart c n t u [] fit ne lt lu = absurd (grind (arith, lt))
 locks-apart c n t u (record'.Prepared v home parts sid p reads writes ∷ r) fit ne lt lu =
     elim (cases_eq v t) [
-      | inl same ↦
-          let here = first t same in
-          let other : v == u ≡ false = grind (arith, nat_tests) in
-          let free : conflicts_with (prepared_of u r) reads writes ≡ false = rest u other lu in
-          rw (here, prepared-other u (record'.Prepared v home parts sid p reads writes) r other) (apart-first (record { home = home; sid = sid; proposal = p; reads = reads; writes = writes }) (prepared_of u r) free)
-      | inr ne' ↦
-          let other : v == t ≡ false = grind (arith, nat_tests) in
-          elim (cases_eq v u) [
-            | inl same ↦
-                let here = first u same in
-                let free : conflicts_with (prepared_of t r) reads writes ≡ false = rest t other lt in
-                rw (here, prepared-other t (record'.Prepared v home parts sid p reads writes) r other) (apart-second (record { home = home; sid = sid; proposal = p; reads = reads; writes = writes }) (prepared_of t r) free)
-            | inr ne'' ↦
-                let other' : v == u ≡ false = grind (arith, nat_tests) in
-                rw (prepared-other t (record'.Prepared v home parts sid p reads writes) r other, prepared-other u (record'.Prepared v home parts sid p reads writes) r other')
-                (locks-apart c n t u r (rest-fits c n (record'.Prepared v home parts sid p reads writes) r fit) ne (before t other lt) (before u other' lu))
-          ]
+    | inl same ↦
+        let here = first t same in
+        let other : v == u ≡ false = grind (arith, nat_tests) in
+        let free : conflicts_with (prepared_of u r) reads writes ≡ false = rest u other lu in
+        rw (here, prepared-other u (record'.Prepared v home parts sid p reads writes) r other) (apart-first (record { home = home; sid = sid; proposal = p; reads = reads; writes = writes }) (prepared_of u r) free)
+    | inr ne' ↦
+        let other : v == t ≡ false = grind (arith, nat_tests) in
+        elim (cases_eq v u) [
+        | inl same ↦
+            let here = first u same in
+            let free : conflicts_with (prepared_of t r) reads writes ≡ false = rest t other lt in
+            rw (here, prepared-other t (record'.Prepared v home parts sid p reads writes) r other) (apart-second (record { home = home; sid = sid; proposal = p; reads = reads; writes = writes }) (prepared_of t r) free)
+        | inr ne'' ↦
+            let other' : v == u ≡ false = grind (arith, nat_tests) in
+            rw (prepared-other t (record'.Prepared v home parts sid p reads writes) r other, prepared-other u (record'.Prepared v home parts sid p reads writes) r other')
+            (locks-apart c n t u r (rest-fits c n (record'.Prepared v home parts sid p reads writes) r fit) ne (before t other lt) (before u other' lu))
+        ]
     ]
   where
     first : (w : TxId) → v ≡ w → (let x : Prepared = record { home = home; sid = sid; proposal = p; reads = reads; writes = writes } in prepared_of w (record'.Prepared v home parts sid p reads writes ∷ r) ≡ Some x)
@@ -144,10 +143,8 @@ locks-apart c n t u (record'.Prepared v home parts sid p reads writes ∷ r) fit
         let x : Prepared = record { home = home; sid = sid; proposal = p; reads = reads; writes = writes } in
         let P : TxId → Type 0 = λ z. prepared_of z (record'.Prepared v home parts sid p reads writes ∷ r) ≡ Some x in
         subst P same (prepared-first c n r v home parts sid p reads writes (newest-fits c n (record'.Prepared v home parts sid p reads writes) r fit))
-
     before : (w : TxId) → v == w ≡ false → is_locking w (record'.Prepared v home parts sid p reads writes ∷ r) ≡ true → is_locking w r ≡ true
     before w other l = locking-before c n w (record'.Prepared v home parts sid p reads writes) r fit other l
-
     rest : (w : TxId) → v == w ≡ false → is_locking w (record'.Prepared v home parts sid p reads writes ∷ r) ≡ true → conflicts_with (prepared_of w r) reads writes ≡ false
     rest w other l =
         let free = (prepared-fits c n r v parts sid p reads writes (newest-fits c n (record'.Prepared v home parts sid p reads writes) r fit)).free in

@@ -68,14 +68,14 @@ some-stays t y r h =
 ended-some : (c : ClusterData) (n : NodeId) (t : TxId) (o : Outcome) (r : List Record) → all_fit c n r ≡ true → ended t r ≡ Some o → is_some (prepared_of t r) ≡ true
 ended-some c n t o [] fit h = absurd (grind (arith, h))
 ended-some c n t o (record'.Ended u o' ∷ r) fit h = elim (cases_eq u t) [
-  | inl same ↦
-      let q = outcome-fits c n r u o' (newest-fits c n (record'.Ended u o') r fit) in
-      let P : TxId → Type 0 = λ v. pending v r ≡ Some q.0 in
-      pending-some t q.0 r (subst P same q.1)
-  | inr other ↦
-      let h' : ended t r ≡ Some o = (let no' : u == t ≡ false = grind (arith, nat_tests) in rw no' at h) in
-      ended-some c n t o r (rest-fits c n (record'.Ended u o') r fit) h'
-]
+    | inl same ↦
+        let q = outcome-fits c n r u o' (newest-fits c n (record'.Ended u o') r fit) in
+        let P : TxId → Type 0 = λ v. pending v r ≡ Some q.0 in
+        pending-some t q.0 r (subst P same q.1)
+    | inr other ↦
+        let h' : ended t r ≡ Some o = (let no' : u == t ≡ false = grind (arith, nat_tests) in rw no' at h) in
+        ended-some c n t o r (rest-fits c n (record'.Ended u o') r fit) h'
+    ]
 ended-some c n t o (record'.Prepared u home parts sid p reads writes ∷ r) fit h = some-stays t (record'.Prepared u home parts sid p reads writes) r (ended-some c n t o r (rest-fits c n (record'.Prepared u home parts sid p reads writes) r fit) h)
 ended-some c n t o (y ∷ r) fit h = ended-some c n t o r (rest-fits c n y r fit) h
 
@@ -112,25 +112,25 @@ pending-ended (Some x) o = refl
 pub pending-is : (c : ClusterData) (n : NodeId) (t : TxId) (r : List Record) → all_fit c n r ≡ true → pending t r ≡ pending_by (prepared_of t r) (ended t r)
 pending-is c n t [] fit = refl
 pending-is c n t (record'.Prepared u home parts sid p reads writes ∷ r) fit = elim (cases_eq u t) [
-  | inl same ↦
-      let f = prepared-fits c n r u parts sid p reads writes (newest-fits c n (record'.Prepared u home parts sid p reads writes) r fit) in
-      let P : TxId → Type 0 = λ v. prepared_of v r ≡ None in
-      let new : prepared_of t r ≡ None = subst P same f.new in
-      let open' : ended t r ≡ None = unprepared-ended c n t r (rest-fits c n (record'.Prepared u home parts sid p reads writes) r fit) new in
-      let here : u == t ≡ true = grind (arith, nat_tests) in
-      rw (here, new, open') refl
-  | inr other ↦
-      let here : u == t ≡ false = grind (arith, nat_tests) in
-      rw here (pending-is c n t r (rest-fits c n (record'.Prepared u home parts sid p reads writes) r fit))
-]
+    | inl same ↦
+        let f = prepared-fits c n r u parts sid p reads writes (newest-fits c n (record'.Prepared u home parts sid p reads writes) r fit) in
+        let P : TxId → Type 0 = λ v. prepared_of v r ≡ None in
+        let new : prepared_of t r ≡ None = subst P same f.new in
+        let open' : ended t r ≡ None = unprepared-ended c n t r (rest-fits c n (record'.Prepared u home parts sid p reads writes) r fit) new in
+        let here : u == t ≡ true = grind (arith, nat_tests) in
+        rw (here, new, open') refl
+    | inr other ↦
+        let here : u == t ≡ false = grind (arith, nat_tests) in
+        rw here (pending-is c n t r (rest-fits c n (record'.Prepared u home parts sid p reads writes) r fit))
+    ]
 pending-is c n t (record'.Ended u o ∷ r) fit = elim (cases_eq u t) [
-  | inl same ↦
-      let here : u == t ≡ true = grind (arith, nat_tests) in
-      rw here (sym (pending-ended (prepared_of t r) o))
-  | inr other ↦
-      let here : u == t ≡ false = grind (arith, nat_tests) in
-      rw here (pending-is c n t r (rest-fits c n (record'.Ended u o) r fit))
-]
+    | inl same ↦
+        let here : u == t ≡ true = grind (arith, nat_tests) in
+        rw here (sym (pending-ended (prepared_of t r) o))
+    | inr other ↦
+        let here : u == t ≡ false = grind (arith, nat_tests) in
+        rw here (pending-is c n t r (rest-fits c n (record'.Ended u o) r fit))
+    ]
 pending-is c n t (y ∷ r) fit = pending-is c n t r (rest-fits c n y r fit)
 
 -- what a pending transaction is
@@ -163,12 +163,12 @@ ended-first c n t o r fit =
 
 pub ended-stays : (c : ClusterData) (n : NodeId) (t : TxId) (o : Outcome) (y : Record) (r : List Record) → all_fit c n (y ∷ r) ≡ true → ended t r ≡ Some o → ended t (y ∷ r) ≡ Some o
 ended-stays c n t o (record'.Ended u o') r fit h = elim (cases_eq u t) [
-  | inl same ↦ absurd (
-      let P : TxId → Type 0 = λ v. ended v r ≡ None in
-      let first : ended t r ≡ None = subst P same (ended-first c n u o' r fit) in
-      grind (arith, first, h))
-  | inr other ↦ (let here : u == t ≡ false = grind (arith, nat_tests) in rw here h)
-]
+    | inl same ↦ absurd (
+        let P : TxId → Type 0 = λ v. ended v r ≡ None in
+        let first : ended t r ≡ None = subst P same (ended-first c n u o' r fit) in
+        grind (arith, first, h))
+    | inr other ↦ (let here : u == t ≡ false = grind (arith, nat_tests) in rw here h)
+    ]
 ended-stays c n t o y r fit h = h
 
 pub ended-later : (c : ClusterData) (n : NodeId) (t : TxId) (o : Outcome) (s r : List Record) → all_fit c n (s ++ r) ≡ true → ended t r ≡ Some o → ended t (s ++ r) ≡ Some o

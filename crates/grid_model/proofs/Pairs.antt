@@ -24,19 +24,19 @@ pair-kept t v p (x ∷ xs) ne h = grind (arith, nat_tests, pair-kept t v p xs ne
 pub pair-taken : (t v : TxId) (p : Ident) (xs : List (TxId × Ident)) → has_pair t p (without v xs) ≡ true → (t ≢ v) × (has_pair t p xs ≡ true)
 pair-taken t v p [] h = absurd (grind (arith, h))
 pair-taken t v p (x ∷ xs) h = elim (cases_eq x.0 v) [
-  | inl same ↦
-      let gone : without v (x ∷ xs) ≡ without v xs = grind (arith, nat_tests) in
-      let h' : has_pair t p (without v xs) ≡ true = rw gone at h in
-      let more = pair-taken t v p xs h' in
-      (more.0, grind (arith, more.1))
-  | inr other ↦
-      let stays : without v (x ∷ xs) ≡ x ∷ without v xs = grind (arith, nat_tests) in
-      let h' : has_pair t p (x ∷ without v xs) ≡ true = rw stays at h in
-      elim (or_cases (x.0 == t && x.1 == p) (has_pair t p (without v xs)) h') [
+    | inl same ↦
+        let gone : without v (x ∷ xs) ≡ without v xs = grind (arith, nat_tests) in
+        let h' : has_pair t p (without v xs) ≡ true = rw gone at h in
+        let more = pair-taken t v p xs h' in
+        (more.0, grind (arith, more.1))
+    | inr other ↦
+        let stays : without v (x ∷ xs) ≡ x ∷ without v xs = grind (arith, nat_tests) in
+        let h' : has_pair t p (x ∷ without v xs) ≡ true = rw stays at h in
+        elim (or_cases (x.0 == t && x.1 == p) (has_pair t p (without v xs)) h') [
         | inl here ↦ (grind (arith, nat_tests, here, other), grind (arith, here))
         | inr later ↦ let more = pair-taken t v p xs later in (more.0, grind (arith, more.1))
-      ]
-]
+        ]
+    ]
 
 -- ---- above all of these
 
@@ -56,8 +56,8 @@ above-without s t (x ∷ xs) h = grind (arith, nat_tests, above-without s t xs)
 pub not-above : (s : Ident) (xs : List (TxId × Ident)) → all_above s xs ≡ false → (t : TxId) × (p : Ident) × (has_pair t p xs ≡ true) × (p ≤ s)
 not-above s [] h = absurd (grind (arith, h))
 not-above s (x ∷ xs) h = elim (cases_Bool (nat_lt s x.1)) [
-  | inl above ↦
-      let more = not-above s xs (grind (arith, h, above)) in
-      (more.0, more.1, grind (arith, more.2), more.3)
-  | inr not_above ↦ (x.0, x.1, grind (arith, nat_tests), grind (arith, nat_tests, not_above))
-]
+    | inl above ↦
+        let more = not-above s xs (grind (arith, h, above)) in
+        (more.0, more.1, grind (arith, more.2), more.3)
+    | inr not_above ↦ (x.0, x.1, grind (arith, nat_tests), grind (arith, nat_tests, not_above))
+    ]

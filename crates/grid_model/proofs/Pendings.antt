@@ -28,19 +28,19 @@ pub listed-pending : (c : ClusterData) (n : NodeId) (t : TxId) (p : Ident) (r : 
 listed-pending c n t p [] fit h = absurd (grind (arith, h))
 listed-pending c n t p (record'.Prepared u home parts sid q reads writes ∷ r) fit h =
     elim (or_cases (u == t && q == p) (has_pair t p (pendings r)) h) [
-      | inl here ↦ grind (arith, nat_tests, here)
-      | inr later ↦
-          let f = prepared-fits c n r u parts sid q reads writes (newest-fits c n (record'.Prepared u home parts sid q reads writes) r fit) in
-          let e : pending t r ≡ Some p = listed-pending c n t p r (rest-fits c n (record'.Prepared u home parts sid q reads writes) r fit) later in
-          let none : pending u r ≡ None = unprepared-pending u r f.new in
-          other u e none
+    | inl here ↦ grind (arith, nat_tests, here)
+    | inr later ↦
+        let f = prepared-fits c n r u parts sid q reads writes (newest-fits c n (record'.Prepared u home parts sid q reads writes) r fit) in
+        let e : pending t r ≡ Some p = listed-pending c n t p r (rest-fits c n (record'.Prepared u home parts sid q reads writes) r fit) later in
+        let none : pending u r ≡ None = unprepared-pending u r f.new in
+        other u e none
     ]
   where
     other : (u : TxId) → pending t r ≡ Some p → pending u r ≡ None → (if u == t then Some q else pending t r) ≡ Some p
     other u e none = elim (cases_eq u t) [
-      | inl same ↦ absurd (let P : TxId → Type 0 = λ v. pending v r ≡ None in let e' : pending t r ≡ None = subst P same none in grind (arith, e, e'))
-      | inr ne ↦ (let here : u == t ≡ false = grind (arith, nat_tests) in rw here e)
-    ]
+        | inl same ↦ absurd (let P : TxId → Type 0 = λ v. pending v r ≡ None in let e' : pending t r ≡ None = subst P same none in grind (arith, e, e'))
+        | inr ne ↦ (let here : u == t ≡ false = grind (arith, nat_tests) in rw here e)
+        ]
 listed-pending c n t p (record'.Ended u o ∷ r) fit h =
     let k = pair-taken t u p (pendings r) h in
     let ne = k.0 in
@@ -70,9 +70,9 @@ not-clear c n s r fit h =
 
 pub pending-clear : (c : ClusterData) (n : NodeId) (s : Ident) (r : List Record) → all_fit c n r ≡ true → ((t : TxId) (p : Ident) → pending t r ≡ Some p → s < p) → is_clear s r ≡ true
 pending-clear c n s r fit h = elim (cases_Bool (is_clear s r)) [
-  | inl clear ↦ clear
-  | inr held ↦ absurd (let x = not-clear c n s r fit held in let lt = h x.of x.proposal x.pending in let le = x.most in omega arith)
-]
+    | inl clear ↦ clear
+    | inr held ↦ absurd (let x = not-clear c n s r fit held in let lt = h x.of x.proposal x.pending in let le = x.most in omega arith)
+    ]
 
 -- ---- what the next record leaves clear
 
@@ -98,21 +98,21 @@ pub record IsNewlyPending (t : TxId) (p : Ident) (y : Record) (r : List Record) 
 
 pub pending-before : (t : TxId) (p : Ident) (y : Record) (r : List Record) → pending t (y ∷ r) ≡ Some p → IsNewlyPending t p y r ⊎ (pending t r ≡ Some p)
 pending-before t p (record'.Prepared u home parts sid q reads writes) r h = elim (cases_eq u t) [
-  | inl same ↦
-      let here : u == t ≡ true = grind (arith, nat_tests) in
-      let h' : Some q ≡ Some p = rw here at h in
-      let e : q ≡ p = (cc) in
-      inl (record { prepared = (home, parts, sid, reads, writes, rw (same, e) refl) })
-  | inr other ↦
-      let here : u == t ≡ false = grind (arith, nat_tests) in
-      inr (rw here at h)
-]
+    | inl same ↦
+        let here : u == t ≡ true = grind (arith, nat_tests) in
+        let h' : Some q ≡ Some p = rw here at h in
+        let e : q ≡ p = (cc) in
+        inl (record { prepared = (home, parts, sid, reads, writes, rw (same, e) refl) })
+    | inr other ↦
+        let here : u == t ≡ false = grind (arith, nat_tests) in
+        inr (rw here at h)
+    ]
 pending-before t p (record'.Ended u o) r h = elim (cases_eq u t) [
-  | inl same ↦
-      let here : u == t ≡ true = grind (arith, nat_tests) in
-      absurd (grind (arith, here, h))
-  | inr other ↦
-      let here : u == t ≡ false = grind (arith, nat_tests) in
-      inr (rw here at h)
-]
+    | inl same ↦
+        let here : u == t ≡ true = grind (arith, nat_tests) in
+        absurd (grind (arith, here, h))
+    | inr other ↦
+        let here : u == t ≡ false = grind (arith, nat_tests) in
+        inr (rw here at h)
+    ]
 pending-before t p y r h = inr h

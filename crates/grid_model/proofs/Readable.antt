@@ -37,7 +37,6 @@ up_to-pair s t f (x ∷ xs) = go (nat_le x.1 s) same (up_to-pair s t f xs)
   where
     same : (x.0 == t && x.1 == f) ≡ true → nat_le f s ≡ nat_le x.1 s
     same h = let e : f ≡ x.1 = grind (arith, nat_tests, h) in ap (λ g. nat_le g s) e
-
     go : (b : Bool) → ((x.0 == t && x.1 == f) ≡ true → nat_le f s ≡ b) → has_pair t f (up_to s xs) ≡ (has_pair t f xs && nat_le f s) → has_pair t f (if b then x ∷ up_to s xs else up_to s xs) ≡ (((x.0 == t && x.1 == f) || has_pair t f xs) && nat_le f s)
     go true e more = grind (arith, e, more)
     go false e more = grind (arith, e, more)

@@ -46,18 +46,18 @@ proposal_in (Some x) = Some x.proposal
 pub has_prepared-says : (c : ClusterData) (n : NodeId) (t : TxId) (p : Ident) (r : List Record) → all_fit c n r ≡ true → has_prepared t p r ≡ true → (x : Prepared) × (prepared_of t r ≡ Some x) × (x.proposal ≡ p)
 has_prepared-says c n t p [] fit h = absurd (grind (arith, h))
 has_prepared-says c n t p (record'.Prepared u home parts sid q reads writes ∷ r) fit h = elim (or_cases (u == t && q == p) (has_prepared t p r) h) [
-  | inl here ↦
-      let f = prepared-fits c n r u parts sid q reads writes (newest-fits c n (record'.Prepared u home parts sid q reads writes) r fit) in
-      let same : u ≡ t = grind (arith, nat_tests, here) in
-      let is : q ≡ p = grind (arith, nat_tests, here) in
-      let P : TxId → Type 0 = λ v. prepared_of v r ≡ None in
-      let new : prepared_of t r ≡ None = subst P same f.new in
-      let self : u == t ≡ true = grind (arith, nat_tests) in
-      (record { home = home; sid = sid; proposal = q; reads = reads; writes = writes }, rw (self, new) refl, is)
-  | inr more ↦
-      let x = has_prepared-says c n t p r (rest-fits c n (record'.Prepared u home parts sid q reads writes) r fit) more in
-      (x.0, prepared-stays t (record'.Prepared u home parts sid q reads writes) r x.0 x.1, x.2)
-]
+    | inl here ↦
+        let f = prepared-fits c n r u parts sid q reads writes (newest-fits c n (record'.Prepared u home parts sid q reads writes) r fit) in
+        let same : u ≡ t = grind (arith, nat_tests, here) in
+        let is : q ≡ p = grind (arith, nat_tests, here) in
+        let P : TxId → Type 0 = λ v. prepared_of v r ≡ None in
+        let new : prepared_of t r ≡ None = subst P same f.new in
+        let self : u == t ≡ true = grind (arith, nat_tests) in
+        (record { home = home; sid = sid; proposal = q; reads = reads; writes = writes }, rw (self, new) refl, is)
+    | inr more ↦
+        let x = has_prepared-says c n t p r (rest-fits c n (record'.Prepared u home parts sid q reads writes) r fit) more in
+        (x.0, prepared-stays t (record'.Prepared u home parts sid q reads writes) r x.0 x.1, x.2)
+    ]
 has_prepared-says c n t p (y ∷ r) fit h = has_prepared-says c n t p r (rest-fits c n y r fit) h
 
 pub prepared-has : (t : TxId) (x : Prepared) (r : List Record) → prepared_of t r ≡ Some x → has_prepared t x.proposal r ≡ true
@@ -106,16 +106,16 @@ final-here c n t f x r fit e =
 pub final-least : (c : ClusterData) (n : NodeId) (t : TxId) (f : Ident) (x : Prepared) (r : List Record) → all_fit c n r ≡ true → ended t r ≡ Some (outcome.Commit f) → prepared_of t r ≡ Some x → x.proposal ≤ f
 final-least c n t f x [] fit h e = absurd (grind (arith, h))
 final-least c n t f x (record'.Ended u (outcome.Commit g) ∷ r) fit h e = elim (cases_eq u t) [
-  | inl same ↦
-      let self : u == t ≡ true = grind (arith, nat_tests) in
-      let is : g ≡ f = grind (arith, h, self) in
-      let P : TxId → Type 0 = λ v. prepared_of v r ≡ Some x in
-      let Q : Ident → Type 0 = λ v. x.proposal ≤ v in
-      subst Q is (final-here c n u g x r fit (subst P (sym same) e))
-  | inr other ↦
-      let self : u == t ≡ false = grind (arith, nat_tests) in
-      final-least c n t f x r (rest-fits c n (record'.Ended u (outcome.Commit g)) r fit) (rw self at h) e
-]
+    | inl same ↦
+        let self : u == t ≡ true = grind (arith, nat_tests) in
+        let is : g ≡ f = grind (arith, h, self) in
+        let P : TxId → Type 0 = λ v. prepared_of v r ≡ Some x in
+        let Q : Ident → Type 0 = λ v. x.proposal ≤ v in
+        subst Q is (final-here c n u g x r fit (subst P (sym same) e))
+    | inr other ↦
+        let self : u == t ≡ false = grind (arith, nat_tests) in
+        final-least c n t f x r (rest-fits c n (record'.Ended u (outcome.Commit g)) r fit) (rw self at h) e
+    ]
 final-least c n t f x (record'.Ended u outcome.Abort ∷ r) fit h e =
     let rest : ended t r ≡ Some (outcome.Commit f) = grind (arith, h) in
     final-least c n t f x r (rest-fits c n (record'.Ended u outcome.Abort) r fit) rest e
@@ -136,9 +136,9 @@ final-positive c n t f r fit h =
 pub has_commit-is : (c : ClusterData) (n : NodeId) (t : TxId) (r : List Record) → all_fit c n r ≡ true → has_commit t r ≡ is_commit (ended t r)
 has_commit-is c n t [] fit = refl
 has_commit-is c n t (record'.Ended u (outcome.Commit f) ∷ r) fit = elim (cases_eq u t) [
-  | inl same ↦ (let self : u == t ≡ true = grind (arith, nat_tests) in rw self refl)
-  | inr other ↦ (let self : u == t ≡ false = grind (arith, nat_tests) in rw self (has_commit-is c n t r (rest-fits c n (record'.Ended u (outcome.Commit f)) r fit)))
-]
+    | inl same ↦ (let self : u == t ≡ true = grind (arith, nat_tests) in rw self refl)
+    | inr other ↦ (let self : u == t ≡ false = grind (arith, nat_tests) in rw self (has_commit-is c n t r (rest-fits c n (record'.Ended u (outcome.Commit f)) r fit)))
+    ]
 has_commit-is c n t (record'.Ended u outcome.Abort ∷ r) fit = has_commit-is c n t r (rest-fits c n (record'.Ended u outcome.Abort) r fit) ∙ go (ended t r) refl
   where
     go : (o : Option Outcome) → ended t r ≡ o → is_commit o ≡ is_commit (if u == t then Some outcome.Abort else o)
