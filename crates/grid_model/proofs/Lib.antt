@@ -13,6 +13,13 @@ pub mod Unarmed
 pub mod LawfulStops
 pub mod Fitting
 pub mod ViewsOnTheWay
+pub mod Undecided
+pub mod ViewSteps
+pub mod HeardViews
+pub mod PlainOuts
+pub mod NextSteps
+pub mod DecisionsKept
+pub mod RunsKeep
 pub mod KeyLists
 pub mod Fits
 pub mod Pairs
@@ -25,11 +32,6 @@ pub mod Stands
 pub mod Readable
 pub mod Locks
 pub mod Conflicts
-pub mod Undecided
-pub mod ViewSteps
-pub mod HeardViews
-pub mod PlainOuts
-pub mod NextSteps
 pub mod Walks
 pub mod AllReads
 pub mod SerialWalks

@@ -58,7 +58,7 @@ end-plain d n b c x None = go (is_update x.script.ops)
     go true = plain-sends d n b (λ m. message.Prepare (prepare_for c x m)) (parts_now c x)
     go false = refl
 
-advance-plain : (d : DocumentData) (n : NodeId) (b : Bool) (c : ClusterData) (x : Open) (i : ℕ) → IsTrue (are_plain d n b (advance c x i))
+pub advance-plain : (d : DocumentData) (n : NodeId) (b : Bool) (c : ClusterData) (x : Open) (i : ℕ) → IsTrue (are_plain d n b (advance c x i))
 advance-plain d n b c x i =
     plain-append d n b (owns x.script.number i (own_reads 1 [] unread x.values x.script.ops)) (advance_end c x (waiting x.script.ops x.values))
     (plain-owns d n b x.script.number (filter (λ y. nat_lt i y.0) (own_reads 1 [] unread x.values x.script.ops)))
@@ -87,7 +87,7 @@ ask-plain d n t x (Collects o) = refl
 ask-plain d n t x (Commits y acks) = refl
 ask-plain d n t x Apart = refl
 
-retry-plain : (d : DocumentData) (n : NodeId) (c : ClusterData) (t : TxId) (s : Stage) → IsTrue (are_plain d n false (retry_row c t s))
+pub retry-plain : (d : DocumentData) (n : NodeId) (c : ClusterData) (t : TxId) (s : Stage) → IsTrue (are_plain d n false (retry_row c t s))
 retry-plain d n c t (Reads x j) = request-plain d n false c x j x.turn (slice_get x.script.ops (j - 1))
 retry-plain d n c t (Collects x) = plain-sends d n false (λ m. message.Prepare (prepare_for c x m)) (not_voted (parts_now c x) x.votes)
 retry-plain d n c t (Commits y acks) = plain-sends d n false (λ m. message.Tell t (outcome.Commit y.final)) (not_among y.parts acks)
@@ -211,7 +211,7 @@ row-given d past n x (message.Tell t o) own = inl (tell-plain d n (view d past n
 row-given d past n x (message.Ack t) own = inl (ack-plain d n t x (stage (view d past n) t) (own-home d past n t own))
 row-given d past n x (message.Ask t) own = inl (ask-plain d n t x (stage (view d past n) t))
 
-answer-given : (d : DocumentData) (past : List Act) (n x : NodeId) (said : Message) → OwnDecisions d past n → Given d n (view d past n) (answer n (view d past n) x said)
+pub answer-given : (d : DocumentData) (past : List Act) (n x : NodeId) (said : Message) → OwnDecisions d past n → Given d n (view d past n) (answer n (view d past n) x said)
 answer-given d past n x said own = go (is_fit_at n (view d past n) (stage (view d past n) (tx_in said)) x said)
   where
     go : (fit : Bool) → Given d n (view d past n) (if fit then row_of n (view d past n) (stage (view d past n) (tx_in said)) x said else [])
@@ -257,7 +257,7 @@ begin-view d past n k s script home =
 pub retry-view : (d : DocumentData) (past : List Act) (n : NodeId) (k : ℕ) (t : TxId) → view d (after past (numbered k n (retry_row d.cluster t (stage (view d past n) t)))) n ≡ next_view n (view d past n) (event.Retry t) (retry_row d.cluster t (stage (view d past n) t))
 retry-view d past n k t = plain-view d past n false None None k (retry_row d.cluster t (stage (view d past n) t)) (retry-plain d n d.cluster t (stage (view d past n) t)) (λ is. never is)
 
-asks-plain : (d : DocumentData) (n : NodeId) (v : View) (t : TxId) → IsTrue (are_plain d n false (ask_outs v t))
+pub asks-plain : (d : DocumentData) (n : NodeId) (v : View) (t : TxId) → IsTrue (are_plain d n false (ask_outs v t))
 asks-plain d n v t = go (is_some (pending t v.journal))
   where
     go : (b : Bool) → IsTrue (are_plain d n false (if b then to_node (home_of t v.journal) (message.Ask t) else []))

@@ -42,7 +42,7 @@ are_plain d n b os = list_all (is_plain d n b) os
 
 -- ---- the view behind them
 
-both : (b c : Bool) → IsTrue (b && c) → IsTrue b × IsTrue c
+pub both : (b c : Bool) → IsTrue (b && c) → IsTrue b × IsTrue c
 both true true is = (refl, refl)
 both true false is = grind arith
 both false c is = grind arith

@@ -1,7 +1,7 @@
-ghost use Rattle.std.specs.Prelude.{◌≡◌, ℕ, List, ◌∷◌, Some};
+ghost use Rattle.std.specs.Prelude.{◌≡◌, ℕ, List, [], ◌∷◌, Some};
+ghost use Rattle.grid_model.specs.declared.acts.Act.{Act};
 ghost use Rattle.grid_model.specs.Documents.{DocumentData};
 ghost use Rattle.script_lang.specs.Scripts.{ScriptData};
-ghost use Rattle.grid_model.specs.declared.acts.Act.{Act};
 ghost use Rattle.grid_model.specs.declared.acts.Act.TheVariants as act;
 ghost use Rattle.grid_model.specs.declared.events.Event.TheVariants as event;
 ghost use Rattle.grid_model.specs.declared.messages.Message.{Message};
@@ -11,6 +11,8 @@ ghost use Rattle.grid_model.specs.Views.{view, stage};
 ghost use Rattle.grid_model.specs.Rows.{answer, begin_outs, retry_row, ask_outs};
 ghost use Rattle.grid_model.specs.Schedules.{numbered};
 ghost use Rattle.grid_model.specs.NextViews.{OwnDecisions, next_view};
+ghost use Rattle.grid_model.specs.Runs.{IsRun};
+ghost use Rattle.grid_model.specs.declared.items.Item.{Item};
 
 /// The view of a node behind an event is its next view: it follows from the view before, the event and
 /// the outs. The message is one that was sent to the node, or the script is one of the node's own; each
@@ -20,4 +22,10 @@ pub fn law_next_view()
     ensures deliver { (d : DocumentData) (past : List Act) (n x : ℕ) (m k : ℕ) (said : Message) → sent_at m (sent past) ≡ Some (record { from = x; to = n; message = said }) → OwnDecisions d past n → view d (after (act.Got m ∷ past) (numbered k n (answer n (view d past n) x said))) n ≡ next_view n (view d past n) (event.Deliver x said) (answer n (view d past n) x said) }
     ensures retry { (d : DocumentData) (past : List Act) (n : ℕ) (k : ℕ) (t : ℕ) → view d (after past (numbered k n (retry_row d.cluster t (stage (view d past n) t)))) n ≡ next_view n (view d past n) (event.Retry t) (retry_row d.cluster t (stage (view d past n) t)) }
     ensures ask { (d : DocumentData) (past : List Act) (n : ℕ) (k : ℕ) (t : ℕ) → view d (after past (numbered k n (ask_outs (view d past n) t))) n ≡ next_view n (view d past n) (event.Ask t) (ask_outs (view d past n) t) }
+{}
+
+/// Behind each run, whatever its items, the standing decisions in the journal of a node are of
+/// transactions of that node that began and were not lost.
+pub fn law_own_decisions()
+    ensures { (d : DocumentData) (items : List Item) (h : List Act) → IsRun d items h → (n : ℕ) → OwnDecisions d (after [] h) n }
 {}

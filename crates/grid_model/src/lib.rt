@@ -22,7 +22,7 @@ pub use acts::{Act, Flag, Head};
 pub use documents::{Document, ScriptList};
 pub use events::{Event, Out};
 pub use items::{Item, ItemList};
-pub use laws::law_next_view;
+pub use laws::{law_next_view, law_own_decisions};
 pub use messages::{Envelope, Message, Prepare, ReadRep, ReadReq};
 pub use stories::{HeldRead, Story, Voted};
 pub use versions::Version;

@@ -1,3 +1,5 @@
+ghost use Rattle.std.specs.Prelude.{◌≡◌, ◌∷◌, [], IfOk};
+
 use super::*;
 use crate::clusters::key_sum;
 use score_base::{Key, KeyList, Memory, NodeId, NodeList, TryCopy, Value, WriteList};
@@ -5,7 +7,9 @@ use std::alloc::Global;
 use std::test::Fail;
 
 // two partitions: the first on n2 and n1, the second on n3
-fn places(alloc: Global) -> Result<Places, Memory> {
+fn places(alloc: Global) -> Result<Places, Memory>
+    ensures { IfOk result (λ p. p ≡ (2 ∷ 1 ∷ []) ∷ (3 ∷ []) ∷ []) }
+{
     let mut first = NodeList::new(alloc);
     first.push(NodeId { number: 2 })?;
     first.push(NodeId { number: 1 })?;
@@ -41,26 +45,40 @@ fn placement(rt: HostRuntime) -> Result<(), Fail> {
     Ok(())
 }
 
+fn parts_of(alloc: Global, places: &Places) -> Result<usize, Fail> {
+    let mut keys = KeyList::new(alloc);
+    keys.push(key(b"ab")?)?;
+    keys.push(key(b"b")?)?;
+    Ok(places.parts(alloc, keys.as_slice())?.len())
+}
+
 #[test]
 fn parts_and_preferred_holders(rt: HostRuntime) -> Result<(), Fail> {
     let places = places(rt.alloc())?;
     let first = NodeId { number: 1 };
-    let mut keys = KeyList::new(rt.alloc());
-    keys.push(key(b"ab")?)?;
-    keys.push(key(b"b")?)?;
-    assert_eq!(rt; places.parts(rt.alloc(), keys.as_slice())?.len(), 3);
+    assert_eq!(rt; parts_of(rt.alloc(), &places)?, 3);
     let preferred = places.preferred(rt.alloc(), first, &key(b"b")?)?;
     assert_eq!(rt;
         preferred.as_slice(),
         [first, NodeId { number: 2 }].as_slice()
     );
-    let mut inits = WriteList::new(rt.alloc());
-    inits.push((key(b"b")?, Value(7)))?;
-    let cluster = Cluster {
+    Ok(())
+}
+
+// `b` begins with 7
+fn cluster(alloc: Global, named: Key) -> Result<Cluster, Memory> {
+    let mut inits = WriteList::new(alloc);
+    inits.push((named, Value(7)))?;
+    Ok(Cluster {
         nodes: 3,
-        places,
+        places: places(alloc)?,
         inits,
-    };
+    })
+}
+
+#[test]
+fn initial_values(rt: HostRuntime) -> Result<(), Fail> {
+    let cluster = cluster(rt.alloc(), key(b"b")?)?;
     assert_eq!(rt; cluster.init(&key(b"b")?), Value(7));
     assert_eq!(rt; cluster.init(&key(b"ab")?), Value(0));
     Ok(())
