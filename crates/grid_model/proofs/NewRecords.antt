@@ -34,6 +34,7 @@ prepared-before t x (record'.Prepared u home parts sid p reads writes) r h = go 
     this same e =
         let P : Prepared → Type 0 = λ z. record'.Prepared u home parts sid p reads writes ≡ record'.Prepared t z.home parts z.sid z.proposal z.reads z.writes in
         record { parts = parts; is = subst P e (ap (λ v. record'.Prepared v home parts sid p reads writes) same) }
+
     go : (u ≡ t) ⊎ (u ≡ t → ⊥) → (o : Option Prepared) → prepared_of t r ≡ o → (let z : Prepared = record { home = home; sid = sid; proposal = p; reads = reads; writes = writes } in (if u == t then older o z else o) ≡ Some x) → IsPreparedOf t x (record'.Prepared u home parts sid p reads writes) ⊎ (o ≡ Some x)
     go (inl same) (Some y) e h = inr (let self : u == t ≡ true = grind (arith, nat_tests) in rw self at h)
     go (inl same) None e h =
@@ -59,43 +60,43 @@ is-proposal t u p q home parts sid reads writes same e =
 
 pub pending-before : (t : TxId) (p : Ident) (y : Record) (r : List Record) → pending t (y ∷ r) ≡ Some p → IsProposal t p y ⊎ (pending t r ≡ Some p)
 pending-before t p (record'.Prepared u home parts sid q reads writes) r h = elim (cases_eq u t) [
-    | inl same ↦
-        let self : u == t ≡ true = grind (arith, nat_tests) in
-        let h' : Some q ≡ Some p = rw self at h in
-        inl (is-proposal t u p q home parts sid reads writes same (cc))
-    | inr other ↦ inr (let self : u == t ≡ false = grind (arith, nat_tests) in rw self at h)
-    ]
+  | inl same ↦
+      let self : u == t ≡ true = grind (arith, nat_tests) in
+      let h' : Some q ≡ Some p = rw self at h in
+      inl (is-proposal t u p q home parts sid reads writes same (cc))
+  | inr other ↦ inr (let self : u == t ≡ false = grind (arith, nat_tests) in rw self at h)
+]
 pending-before t p (record'.Ended u o) r h = elim (cases_eq u t) [
-    | inl same ↦ absurd (let self : u == t ≡ true = grind (arith, nat_tests) in grind (arith, self, h))
-    | inr other ↦ inr (let self : u == t ≡ false = grind (arith, nat_tests) in rw self at h)
-    ]
+  | inl same ↦ absurd (let self : u == t ≡ true = grind (arith, nat_tests) in grind (arith, self, h))
+  | inr other ↦ inr (let self : u == t ≡ false = grind (arith, nat_tests) in rw self at h)
+]
 pending-before t p y r h = inr h
 
 pub has_prepared-before : (t : TxId) (p : Ident) (y : Record) (r : List Record) → has_prepared t p (y ∷ r) ≡ true → IsProposal t p y ⊎ (has_prepared t p r ≡ true)
 has_prepared-before t p (record'.Prepared u home parts sid q reads writes) r h = elim (or_cases (u == t && q == p) (has_prepared t p r) h) [
-    | inl here ↦ inl (is-proposal t u p q home parts sid reads writes (grind (arith, nat_tests, here)) (grind (arith, nat_tests, here)))
-    | inr more ↦ inr more
-    ]
+  | inl here ↦ inl (is-proposal t u p q home parts sid reads writes (grind (arith, nat_tests, here)) (grind (arith, nat_tests, here)))
+  | inr more ↦ inr more
+]
 has_prepared-before t p y r h = inr h
 
 -- ---- an Ended
 
 pub ended-before : (t : TxId) (o : Outcome) (y : Record) (r : List Record) → ended t (y ∷ r) ≡ Some o → (y ≡ record'.Ended t o) ⊎ (ended t r ≡ Some o)
 ended-before t o (record'.Ended u o') r h = elim (cases_eq u t) [
-    | inl same ↦
-        let self : u == t ≡ true = grind (arith, nat_tests) in
-        let h' : Some o' ≡ Some o = rw self at h in
-        let e : o' ≡ o = (cc) in
-        inl (cc)
-    | inr other ↦ inr (let self : u == t ≡ false = grind (arith, nat_tests) in rw self at h)
-    ]
+  | inl same ↦
+      let self : u == t ≡ true = grind (arith, nat_tests) in
+      let h' : Some o' ≡ Some o = rw self at h in
+      let e : o' ≡ o = (cc) in
+      inl (cc)
+  | inr other ↦ inr (let self : u == t ≡ false = grind (arith, nat_tests) in rw self at h)
+]
 ended-before t o y r h = inr h
 
 pub has_commit-before : (t : TxId) (y : Record) (r : List Record) → has_commit t (y ∷ r) ≡ true → ((f : Ident) × (y ≡ record'.Ended t (outcome.Commit f))) ⊎ (has_commit t r ≡ true)
 has_commit-before t (record'.Ended u (outcome.Commit f)) r h = elim (or_cases (u == t) (has_commit t r) h) [
-    | inl here ↦ inl (f, (let same : u ≡ t = grind (arith, nat_tests, here) in (cc)))
-    | inr more ↦ inr more
-    ]
+  | inl here ↦ inl (f, (let same : u ≡ t = grind (arith, nat_tests, here) in (cc)))
+  | inr more ↦ inr more
+]
 has_commit-before t (record'.Ended u outcome.Abort) r h = inr h
 has_commit-before t y r h = inr h
 
@@ -103,28 +104,28 @@ has_commit-before t y r h = inr h
 
 pub decision-before : (t : TxId) (x : Decision) (y : Record) (r : List Record) → decision t (y ∷ r) ≡ Some x → (y ≡ record'.Decided t x.final x.parts) ⊎ (decision t r ≡ Some x)
 decision-before t x (record'.Decided u f parts) r h = elim (cases_eq u t) [
-    | inl same ↦
-        let self : u == t ≡ true = grind (arith, nat_tests) in
-        let h' : (let z : Decision = record { final = f; parts = parts } in Some z ≡ Some x) = rw self at h in
-        let e : (let z : Decision = record { final = f; parts = parts } in z ≡ x) = grind (arith, h') in
-        let P : Decision → Type 0 = λ z. record'.Decided u f parts ≡ record'.Decided t z.final z.parts in
-        inl (subst P e (ap (λ v. record'.Decided v f parts) same))
-    | inr other ↦ inr (let self : u == t ≡ false = grind (arith, nat_tests) in rw self at h)
-    ]
+  | inl same ↦
+      let self : u == t ≡ true = grind (arith, nat_tests) in
+      let h' : (let z : Decision = record { final = f; parts = parts } in Some z ≡ Some x) = rw self at h in
+      let e : (let z : Decision = record { final = f; parts = parts } in z ≡ x) = grind (arith, h') in
+      let P : Decision → Type 0 = λ z. record'.Decided u f parts ≡ record'.Decided t z.final z.parts in
+      inl (subst P e (ap (λ v. record'.Decided v f parts) same))
+  | inr other ↦ inr (let self : u == t ≡ false = grind (arith, nat_tests) in rw self at h)
+]
 decision-before t x y r h = inr h
 
 pub has_decided-before : (t : TxId) (f : Ident) (y : Record) (r : List Record) → has_decided t f (y ∷ r) ≡ true → ((parts : List NodeId) × (y ≡ record'.Decided t f parts)) ⊎ (has_decided t f r ≡ true)
 has_decided-before t f (record'.Decided u e parts) r h = elim (or_cases (u == t && e == f) (has_decided t f r) h) [
-    | inl here ↦ inl (parts, (let same : u ≡ t = grind (arith, nat_tests, here) in let is : e ≡ f = grind (arith, nat_tests, here) in (cc)))
-    | inr more ↦ inr more
-    ]
+  | inl here ↦ inl (parts, (let same : u ≡ t = grind (arith, nat_tests, here) in let is : e ≡ f = grind (arith, nat_tests, here) in (cc)))
+  | inr more ↦ inr more
+]
 has_decided-before t f y r h = inr h
 
 pub closed-before : (t : TxId) (y : Record) (r : List Record) → is_closed t (y ∷ r) ≡ true → (y ≡ record'.Closed t) ⊎ (is_closed t r ≡ true)
 closed-before t (record'.Closed u) r h = elim (or_cases (u == t) (is_closed t r) h) [
-    | inl here ↦ inl (let same : u ≡ t = grind (arith, nat_tests, here) in (cc))
-    | inr more ↦ inr more
-    ]
+  | inl here ↦ inl (let same : u ≡ t = grind (arith, nat_tests, here) in (cc))
+  | inr more ↦ inr more
+]
 closed-before t (record'.Decided u f parts) r h = go (u == t) h
   where
     go : (b : Bool) → (if b then false else is_closed t r) ≡ true → (record'.Decided u f parts ≡ record'.Closed t) ⊎ (is_closed t r ≡ true)

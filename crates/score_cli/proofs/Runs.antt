@@ -12,30 +12,30 @@ use Rattle.grid_model.specs.declared.items.Item.TheVariants as item
 use Rattle.cluster_file.specs.Spelling.{is_built_item}
 use Rattle.cluster_file.proofs.Bools.{and_parts}
 use Rattle.cluster_file.proofs.OneSpelling.{spelled}
-use Rattle.schedule_replay.specs.Replays.{is_played, AreStopless}
+use Rattle.schedule_replay.specs.Replays.{is_unfused, AreUnfused}
 use Rattle.score_cli.specs.Answers.{Ran, Done, Broken, IsRunText, IsTextOf}
 
--- an item that is read is played
-built_is_played : (i : Item) → is_built_item i ≡ true → is_played i ≡ true
-built_is_played (item.Begin t) e = refl
-built_is_played (item.Deliver m) e = refl
-built_is_played (item.Drop m) e = refl
-built_is_played (item.Next c) e = refl
-built_is_played (item.Retry t) e = refl
-built_is_played (item.Ask n t) e = refl
-built_is_played (item.Crash n how) e = cc
-built_is_played (item.Fuse n k how) e = cc
-built_is_played (item.Restart n) e = cc
+-- an item that is read sets no fuse
+built_is_unfused : (i : Item) → is_built_item i ≡ true → is_unfused i ≡ true
+built_is_unfused (item.Begin t) e = refl
+built_is_unfused (item.Deliver m) e = refl
+built_is_unfused (item.Drop m) e = refl
+built_is_unfused (item.Next c) e = refl
+built_is_unfused (item.Retry t) e = refl
+built_is_unfused (item.Ask n t) e = refl
+built_is_unfused (item.Crash n how) e = cc
+built_is_unfused (item.Fuse n k how) e = cc
+built_is_unfused (item.Restart n) e = cc
 
-built_are_played : (is : List Item) → list_all is_built_item is ≡ true → list_all is_played is ≡ true
-built_are_played [] e = refl
-built_are_played (i ∷ is) e =
+built_are_unfused : (is : List Item) → list_all is_built_item is ≡ true → list_all is_unfused is ≡ true
+built_are_unfused [] e = refl
+built_are_unfused (i ∷ is) e =
     let both = and_parts (is_built_item i) (list_all is_built_item is) e in
-    rw (built_is_played i both.0) (built_are_played is both.1)
+    rw (built_is_unfused i both.0) (built_are_unfused is both.1)
 
 -- the text of the run of a document that was read
-pub text_of_run : (bytes written : List ℕ) (d : DocumentData) → doc bytes ≡ Ok d → (AreStopless d.items → IsRunText d written) → IsTextOf bytes written
-text_of_run bytes written d read run = record { document = d; spelled = read; run = run (built_are_played d.items (spelled bytes d read).built.items) }
+pub text_of_run : (bytes written : List ℕ) (d : DocumentData) → doc bytes ≡ Ok d → (AreUnfused d.items → IsRunText d written) → IsTextOf bytes written
+text_of_run bytes written d read run = record { document = d; spelled = read; run = run (built_are_unfused d.items (spelled bytes d read).built.items) }
 
 ran : (lo ln : Option (List ℕ)) (bytes seen written : List ℕ) → ReadWhole lo ln bytes → length bytes ≤ 4194304 → seen ≡ bytes → IsTextOf seen written → Ran lo ln
 ran lo ln bytes seen written read short same t = record {

@@ -84,4 +84,3 @@ pub const LOCK_UNTIL_APPLIED: &str =
 
 pub const LOCK_UNTIL_APPLIED_TEXT: &str =
     "up n1 none\nup n2 none\nbegan 1 n1 0\nsent 1 n1 n2 prepare 1 0 parts 1 n2 reads 0 writes 1 a 1\nbegan 2 n1 0\nsent 2 n1 n2 prepare 2 0 parts 1 n2 reads 0 writes 1 c 2\ngot 1\nprepared n2 1 1\nsent 3 n2 n1 vote 1 yes 1\ngot 2\nprepared n2 2 2\nsent 4 n2 n1 vote 2 yes 2\ngot 4\ndecided 2 2\nfinished 2\nsent 5 n1 n2 tell 2 commit 2\ngot 5\nended n2 2 commit 2\nsent 6 n2 n1 ack 2\nbegan 3 n1 0\nsent 7 n1 n2 prepare 3 0 parts 1 n2 reads 0 writes 1 c 3\ngot 7\nrefused n2 3 holder 2\nsent 8 n2 n1 vote 3 no holder 2\nsummary\ntx 1 collecting\ntx 2 committed 2\ntx 3 collecting\nkey a n2 10 0\nkey b n1 0 0\nkey c n2 0 0\n";
-

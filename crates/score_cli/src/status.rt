@@ -2,7 +2,7 @@ ghost use Rattle.std.specs.Prelude.{◌≡◌, ◌⊎◌, ◌↔◌, ℕ, List, 
 ghost use Rattle.std.specs.Io.KnownBytes.{Keeps};
 ghost use Rattle.score_base.specs.Faults.{Rose};
 ghost use Rattle.cluster_file.specs.Doc.{doc, FailsDoc};
-ghost use Rattle.schedule_replay.specs.Replays.{AreStopless};
+ghost use Rattle.schedule_replay.specs.Replays.{AreUnfused};
 ghost use Rattle.history_print.specs.Text.{text};
 ghost use Rattle.score_cli.specs.Answers.{is_command, Wrote, Done, Broken, NoDocument, TooLong, IsCode, code_asked, IsRunText, IsTextOf};
 
@@ -46,14 +46,13 @@ fn text_of(alloc: Global, doc: &Document, acts: &[Act]) -> Result<Vec<u8>, Memor
 
 /// The text of a document's run.
 fn run_text(alloc: Global, doc: &Document) -> Result<Vec<u8>, Memory>
-    ensures { IfOk result (λ v. AreStopless doc.now.items → IsRunText doc.now v.items) }
+    ensures { IfOk result (λ v. AreUnfused doc.now.items → IsRunText doc.now v.items) }
 {
     let acts = replay(alloc, doc)?;
     text_of(alloc, doc, acts.as_slice())
 }
 
-/// The text of the run of the document that the bytes spell. No form that stops a node is read, so its
-/// schedule is stopless.
+/// The text of the run of the document that the bytes spell. No form that sets a fuse is read.
 #[tactic(auto, using(crate::proofs::Runs::text_of_run))]
 fn play(alloc: Global, bytes: &[u8]) -> Result<Vec<u8>, DocEnd>
     ensures text { IfOk result (λ v. IsTextOf bytes.now v.items) }

@@ -1,5 +1,4 @@
-use crate::rows;
-use crate::score;
+use crate::{rows, score};
 use score_base::Memory;
 use score_io::{MemSink, MemSource};
 use std::alloc::Global;
@@ -81,34 +80,85 @@ fn refuses(rt: &impl Abort, alloc: Global, rest: &str, text: &str) {
 #[test]
 fn reads(rt: HostRuntime) {
     let alloc = rt.alloc();
-    assert!(rt; called(alloc, "run", HEAD, EMPTY_SCHEDULE, 0, 0, 0, EMPTY_SCHEDULE_TEXT));
+    assert!(rt;
+        called(
+            alloc,
+            "run",
+            HEAD,
+            EMPTY_SCHEDULE,
+            0,
+            0,
+            0,
+            EMPTY_SCHEDULE_TEXT
+        )
+    );
     assert!(rt; called(alloc, "run", HEAD, FIRST_READ, 0, 0, 0, FIRST_READ_TEXT));
 }
 
 #[test]
 fn updates(rt: HostRuntime) {
     let alloc = rt.alloc();
-    runs(&rt, alloc, rows::READ_THEN_WRITE, rows::READ_THEN_WRITE_TEXT);
+    runs(
+        &rt,
+        alloc,
+        rows::READ_THEN_WRITE,
+        rows::READ_THEN_WRITE_TEXT,
+    );
     runs(&rt, alloc, rows::NEXT_UPDATE, rows::NEXT_UPDATE_TEXT);
     runs(&rt, alloc, rows::WRITE_CONFLICT, rows::WRITE_CONFLICT_TEXT);
-    runs(&rt, alloc, rows::STALE_READ_REFUSED, rows::STALE_READ_REFUSED_TEXT);
+    runs(
+        &rt,
+        alloc,
+        rows::STALE_READ_REFUSED,
+        rows::STALE_READ_REFUSED_TEXT,
+    );
     runs(&rt, alloc, rows::HELD_READ, rows::HELD_READ_TEXT);
-    runs(&rt, alloc, rows::REPEATS_AFTER_THE_END, rows::REPEATS_AFTER_THE_END_TEXT);
+    runs(
+        &rt,
+        alloc,
+        rows::REPEATS_AFTER_THE_END,
+        rows::REPEATS_AFTER_THE_END_TEXT,
+    );
     runs(&rt, alloc, rows::REPEATED_VOTES, rows::REPEATED_VOTES_TEXT);
     runs(&rt, alloc, rows::EQUAL_FINALS, rows::EQUAL_FINALS_TEXT);
     runs(&rt, alloc, rows::OWN_READ, rows::OWN_READ_TEXT);
-    runs(&rt, alloc, rows::BYSTANDER_GETS_NOTHING, rows::BYSTANDER_GETS_NOTHING_TEXT);
-    runs(&rt, alloc, rows::REPLICATED_TRANSFER, rows::REPLICATED_TRANSFER_TEXT);
-    runs(&rt, alloc, rows::LOCK_UNTIL_APPLIED, rows::LOCK_UNTIL_APPLIED_TEXT);
+    runs(
+        &rt,
+        alloc,
+        rows::BYSTANDER_GETS_NOTHING,
+        rows::BYSTANDER_GETS_NOTHING_TEXT,
+    );
+    runs(
+        &rt,
+        alloc,
+        rows::REPLICATED_TRANSFER,
+        rows::REPLICATED_TRANSFER_TEXT,
+    );
+    runs(
+        &rt,
+        alloc,
+        rows::LOCK_UNTIL_APPLIED,
+        rows::LOCK_UNTIL_APPLIED_TEXT,
+    );
 }
 
 #[test]
 fn refusals(rt: HostRuntime) {
     let alloc = rt.alloc();
-    refuses(&rt, alloc, "tx 1 n1\nread A\nend\nschedule\n", "refused 7 5\n");
+    refuses(
+        &rt,
+        alloc,
+        "tx 1 n1\nread A\nend\nschedule\n",
+        "refused 7 5\n",
+    );
     refuses(&rt, alloc, "tx 1 n1\nread a\n", "refused 8 10\n");
     refuses(&rt, alloc, "tx 1 n1\nread a", "refused 7 10\n");
-    refuses(&rt, alloc, "tx 1 n1\nwrite b a\nend\nschedule\n", "refused 7 7\n");
+    refuses(
+        &rt,
+        alloc,
+        "tx 1 n1\nwrite b a\nend\nschedule\n",
+        "refused 7 7\n",
+    );
     refuses(&rt, alloc, "schedule\nretry 1\n", "refused 7 12\n");
     assert!(rt; called(alloc, "run", "", "", 0, 0, 3, "refused 1 10\n"));
     assert!(rt; called(alloc, "run run", HEAD, EMPTY_SCHEDULE, 0, 0, 2, "usage\n"));
