@@ -2,12 +2,12 @@ ghost use Rattle.std.specs.Prelude.{◌≡◌, ◌≤◌, ◌∷◌, [], codes, 
 
 use crate::{write_act, write_history, write_summary};
 use grid_model::{
-    Act, Document, Flag, Head, ItemList, Message, Prepare, ReadRep, ReadReq, ScriptList,
+    Act, Document, Flag, Head, ItemList, Message, Out, Prepare, ReadRep, ReadReq, ScriptList,
 };
 use placement::{Cluster, Places};
 use score_base::{
-    Ballot, Cause, Date, Ident, Key, KeyList, Memory, NodeId, NodeList, Outcome, TxId, Value,
-    WriteList,
+    Ballot, Cause, Date, Ident, Key, KeyList, Memory, NodeId, NodeList, Outcome, TryCopy, TxId,
+    Value, WriteList,
 };
 use script_lang::{Op, Script, ScriptDraft};
 use std::alloc::Global;
@@ -44,8 +44,12 @@ fn shows(rt: &impl Abort, alloc: Global, act: Act, line: &str) {
     assert_eq!(rt; out.as_slice(), line.as_bytes());
 }
 
+/// A message that was copied has this line where it is sent.
 fn says(rt: &impl Abort, alloc: Global, message: Message, line: &str) {
-    shows(rt, alloc, Act::Sent(3, node(2), node(1), message), line);
+    match Out::Send(node(1), message).copy() {
+        Ok(Out::Send(to, message)) => shows(rt, alloc, Act::Sent(3, node(2), to, message), line),
+        _ => assert!(rt; false),
+    }
 }
 
 #[test]
@@ -412,7 +416,7 @@ fn push_reply(acts: &mut Vec<Act>) -> Result<(), Memory> {
 #[test]
 fn text_of_a_first_read(rt: HostRuntime) -> Result<(), Fail> {
     let alloc = rt.alloc();
-    let doc = one_reader(alloc)?;
+    let doc = one_reader(alloc)?.copy()?;
     let acts = first_read(alloc)?;
     let mut out = Vec::new(alloc);
     write_history(&doc, acts.as_slice(), &mut out)?;

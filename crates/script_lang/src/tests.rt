@@ -16,7 +16,7 @@ fn value(alloc: Global, text: &[u8]) -> Result<Option<Value>, Memory> {
     key(&mut reads, b"a", 10)?;
     key(&mut reads, b"b", 3)?;
     match read_script(alloc, text, 1) {
-        Ok(script) => match script.ops() {
+        Ok(script) => match script.copy()?.ops() {
             [.., Op::Write(_, expr)] if has_each_key(expr, &reads) => Ok(Some(eval(expr, &reads))),
             _ => Ok(None),
         },

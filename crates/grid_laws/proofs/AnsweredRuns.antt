@@ -1,0 +1,202 @@
+-- Each event leaves the read-only transactions whose reads all have their values answered.
+use Rattle.std.proofs.Common.{◌≡◌, ◌≢◌, ℕ, ◌+◌, ◌≤◌, ◌<◌, Bool, true, false, List, [], ◌∷◌, ◌++◌, Option, Some, None, refl, sym, ap, subst, ◌∙◌, arith}
+use Rattle.std.proofs.lemmas.Bool.Decides.{nat_tests}
+use Rattle.std.specs.Prelude.{is_some, is_none, ◌==◌, ◌&&◌, ◌||◌, not, if◌then◌else◌, map}
+use Rattle.std.specs.List.{flat_map, list_all, range_with_len}
+use Rattle.score_base.specs.declared.ids.TxId.{TxId}
+use Rattle.score_base.specs.declared.ids.NodeId.{NodeId}
+use Rattle.score_base.specs.declared.ids.Ident.{Ident}
+use Rattle.score_base.specs.declared.causes.Ballot.{Ballot}
+use Rattle.score_base.specs.declared.causes.Ballot.TheVariants as ballot
+use Rattle.score_base.specs.declared.causes.Outcome.{Outcome}
+use Rattle.score_base.specs.declared.causes.Outcome.TheVariants as outcome
+use Rattle.score_base.specs.declared.records.Record.{Record}
+use Rattle.score_base.specs.declared.records.Record.TheVariants as record'
+use Rattle.score_base.specs.declared.keys.Key.{Key}
+use Rattle.script_lang.specs.declared.scripts.Op.{Op}
+use Rattle.script_lang.specs.Scripts.{ScriptData}
+use Rattle.script_lang.specs.Reads.{is_update}
+use Rattle.placement.specs.Places.{others}
+use Rattle.placement.specs.Clusters.{ClusterData}
+use Rattle.grid_model.specs.declared.acts.Act.{Act}
+use Rattle.grid_model.specs.declared.acts.Act.TheVariants as act
+use Rattle.grid_model.specs.declared.acts.Flag.{Flag}
+use Rattle.grid_model.specs.declared.events.Out.{Out}
+use Rattle.grid_model.specs.declared.events.Out.TheVariants as out
+use Rattle.grid_model.specs.declared.items.Item.{Item}
+use Rattle.grid_model.specs.declared.items.Item.TheVariants as item
+use Rattle.grid_model.specs.declared.messages.Envelope.{Envelope}
+use Rattle.grid_model.specs.declared.messages.Message.{Message}
+use Rattle.grid_model.specs.declared.messages.Message.TheVariants as message
+use Rattle.grid_model.specs.declared.messages.ReadRep.{ReadRep}
+use Rattle.grid_model.specs.declared.messages.ReadReq.{ReadReq}
+use Rattle.grid_model.specs.declared.messages.Prepare.{Prepare}
+use Rattle.grid_model.specs.declared.stories.HeldRead.{HeldRead}
+use Rattle.grid_model.specs.declared.stories.Story.{Story}
+use Rattle.grid_model.specs.Documents.{DocumentData, number_order, script_numbers}
+use Rattle.grid_model.specs.Histories.{after, sent, sent_at}
+use Rattle.grid_model.specs.Journals.{commit_id, ended, is_commit, pending, home_of}
+use Rattle.grid_model.specs.Nodes.{node, journal, script_of}
+use Rattle.grid_model.specs.Stories.{has_voted, begun, story, waiting, is_open, phase, with_value}
+use Rattle.grid_model.specs.Views.{view, stage, stage_at, Stage, View, Open, Reads, Collects, Commits, Apart, open_of}
+use Rattle.grid_model.specs.Advances.{advance, parts_now, prepares, request, request_of, to_node, op_at}
+use Rattle.grid_model.specs.Fitness.{is_fit_at, tx_in}
+use Rattle.grid_model.specs.Rows.{answer, greatest_vote, have_voted, not_voted, not_among, answer_at, ack_row, ask_outs, ask_row, begin_outs, begun_at, ballot_row, commit_row, abort_row, decides, freed_by, full_row, judged, prepare_outs, prepare_row, read_row, release, reply_row, retry_row, row_of, tell_outs, tells, vote_row}
+use Rattle.grid_model.specs.Schedules.{Choice, acts_of, ask_row as asks, begin_row, crash_row, deliver_row, drop_row, flag_of, kept, broken, stopped, head_at, lost_at, losses, next_left, next_number, next_row, numbered, opened_row, or_void, restart_row, retry_at, row, start_act, start_row}
+use Rattle.grid_laws.proofs.Stages.{Opens, opens-reads, script-number, is_counted}
+use Rattle.grid_laws.proofs.DueHomes.{at-number, story-began, ReadersAnswered}
+use Rattle.grid_laws.proofs.DueAnswers.{story-taken, with_reply, stage-quiet}
+use Rattle.grid_laws.proofs.Causes.{AtHome}
+use Rattle.grid_laws.proofs.Answered.{is_told, is_calm, all_calm, calm-all, calm-told, other-told, other-taken, AllTold, OthersTold}
+use Rattle.grid_laws.proofs.AnsweredRows.{told-advance}
+use Rattle.grid_laws.proofs.CalmOuts.{is_reply, calm-acts, calm-answer, calm-retry, calm-asks, calm_outs}
+
+-- ---- a reply
+
+others-taken : (d : DocumentData) (past : List Act) (q : ReadRep) → AllTold d past → OthersTold d (act.Taken q.t q.op q.sid q.value ∷ past) q.t
+others-taken d past q all t s other e = other-taken s d past q.t t q.op q.sid q.value other (all t s e)
+
+numbered-taken : (m : ℕ) (n : NodeId) (b : Bool) (t : TxId) (op : ℕ) (sid : Ident) (v : ℕ) (os : List Out) → numbered m n (kept b n (out.Act (act.Taken t op sid v) ∷ os)) ≡ act.Taken t op sid v ∷ numbered m n (kept b n os)
+numbered-taken m n true t op sid v os = refl
+numbered-taken m n false t op sid v os = refl
+
+told-taken : (d : DocumentData) (past : List Act) (m : ℕ) (n : NodeId) (b : Bool) (q : ReadRep) (x : Open) (w : Option ℕ) → Opens d past n q.t x w → AllTold d past → AllTold d (after past (numbered m n (kept b n (out.Act (act.Taken q.t q.op q.sid q.value) ∷ advance d.cluster (with_reply q x) q.op))))
+told-taken d past m n b q x w o all =
+    let now : List Act = act.Taken q.t q.op q.sid q.value ∷ past in
+    let number : o.script.number ≡ q.t = script-number q.t d.scripts o.script o.at.script in
+    let at : story d now q.t ≡ Some (with_value q.op q.sid q.value o.story) = story-taken d past q o.story o.at.story in
+    let P : TxId → Type 0 = λ u. script_of u d.scripts ≡ Some o.script in
+    let Q : TxId → Type 0 = λ u. story d now u ≡ Some (with_value q.op q.sid q.value o.story) in
+    let R : TxId → Type 0 = λ u. OthersTold d now u in
+    let S : Open → Type 0 = λ z. AllTold d (after now (numbered m n (kept b n (advance d.cluster (with_reply q z) q.op)))) in
+    let T : List Act → Type 0 = λ acts. AllTold d (after past acts) in
+    subst T (sym (numbered-taken m n b q.t q.op q.sid q.value (advance d.cluster (with_reply q x) q.op)))
+    (subst S (sym o.is) (told-advance d now m n b o.script (with_value q.op q.sid q.value o.story) q.op (subst P (sym number) o.at.script) (subst Q (sym number) at) (subst R (sym number) (others-taken d past q all))))
+
+told-if : (d : DocumentData) (past : List Act) (m : ℕ) (n : NodeId) (b c : Bool) (os : List Out) → AllTold d past → AllTold d (after past (numbered m n (kept b n os))) → AllTold d (after past (numbered m n (kept b n (if c then os else []))))
+told-if d past m n b true os all go = go
+told-if d past m n true false os all go = all
+told-if d past m n false false os all go = all
+
+told-none : (d : DocumentData) (past : List Act) (m : ℕ) (n : NodeId) (b : Bool) → AllTold d past → AllTold d (after past (numbered m n (kept b n [])))
+told-none d past m n true all = all
+told-none d past m n false all = all
+
+told-reply : (d : DocumentData) (past : List Act) (m : ℕ) (n : NodeId) (b : Bool) (q : ReadRep) (g : Stage) → stage (view d past n) q.t ≡ g → AllTold d past → AllTold d (after past (numbered m n (kept b n (reply_row d.cluster q g))))
+told-reply d past m n b q (Reads x j) e all = told-if d past m n b (j == q.op) (out.Act (act.Taken q.t q.op q.sid q.value) ∷ advance d.cluster (with_reply q x) q.op) all (told-taken d past m n b q x (Some j) (opens-reads d past n q.t x j e) all)
+told-reply d past m n b q (Collects x) e all = told-none d past m n b all
+told-reply d past m n b q (Commits y acks) e all = told-none d past m n b all
+told-reply d past m n b q Apart e all = told-none d past m n b all
+
+told-answer : (d : DocumentData) (past : List Act) (k m : ℕ) (n x : NodeId) (b : Bool) (said : Message) (c : Bool) → is_reply said ≡ c → sent_at k (sent past) ≡ Some (record { from = x; to = n; message = said }) → AllTold d (act.Got k ∷ past) → AllTold d (after (act.Got k ∷ past) (numbered m n (kept b n (answer n (view d past n) x said))))
+told-answer d past k m n x b (message.ReadRep q) c quiet is all =
+    let now : List Act = act.Got k ∷ past in
+    let same : stage (view d now n) q.t ≡ stage (view d past n) q.t = stage-quiet d past k x n (message.ReadRep q) q.t is refl in
+    told-if d now m n b (is_fit_at n (view d past n) (stage (view d past n) q.t) x (message.ReadRep q)) (reply_row d.cluster q (stage (view d past n) q.t)) all (told-reply d now m n b q (stage (view d past n) q.t) same all)
+told-answer d past k m n x b said true quiet is all = cc
+told-answer d past k m n x b said false quiet is all = calm-all d (act.Got k ∷ past) (numbered m n (kept b n (answer n (view d past n) x said))) (calm-acts m n b (answer n (view d past n) x said) (calm-answer n (view d past n) x said quiet)) all
+
+-- ---- a begin
+
+numbered-began : (m : ℕ) (n : NodeId) (b : Bool) (t : TxId) (sid0 : Ident) (os : List Out) → numbered m n (kept b n (out.Act (act.Began t n sid0) ∷ os)) ≡ act.Began t n sid0 ∷ numbered m n (kept b n os)
+numbered-began m n true t sid0 os = refl
+numbered-began m n false t sid0 os = refl
+
+told-begin : (d : DocumentData) (past : List Act) (m : ℕ) (b : Bool) (s : ScriptData) → script_of s.number d.scripts ≡ Some s → AllTold d past → AllTold d (after past (numbered m s.home (kept b s.home (begin_outs s.home (view d past s.home) s))))
+told-begin d past m b s is all =
+    let sid0 : Ident = commit_id (journal d past s.home) in
+    let now : List Act = act.Began s.number s.home sid0 ∷ past in
+    let T : List Act → Type 0 = λ acts. AllTold d (after past acts) in
+    subst T (sym (numbered-began m s.home b s.number sid0 (advance d.cluster (open_of s (begun sid0)) 0)))
+    (told-advance d now m s.home b s (begun sid0) 0 is (story-began d past s.number s.home sid0) (λ t w other e. other-told w d past (act.Void 0) s.number t s.home sid0 other (all t w e)))
+
+told-begin_at : (d : DocumentData) (past : List Act) (c : Choice) (s : ScriptData) (b : Bool) → script_of s.number d.scripts ≡ Some s → AllTold d past → AllTold d (after past (if b then acts_of past c s.home (begin_outs s.home (view d past s.home) s) else act.Void 2 ∷ []))
+told-begin_at d past c s true is all = told-begin d past (next_number past) c.keeps s is all
+told-begin_at d past c s false is all = all
+
+told-begin_row : (d : DocumentData) (past : List Act) (c : Choice) (t : TxId) (x : Option Story) (s : Option ScriptData) → script_of t d.scripts ≡ s → AllTold d past → AllTold d (after past (begin_row d past c x s))
+told-begin_row d past c t (Some x) s is all = all
+told-begin_row d past c t None None is all = all
+told-begin_row d past c t None (Some s) is all =
+    let P : TxId → Type 0 = λ u. script_of u d.scripts ≡ Some s in
+    told-begin_at d past c s (node d past s.home).up (subst P (sym (script-number t d.scripts s is)) is) all
+
+-- ---- the other rows
+
+told-delivered : (d : DocumentData) (past : List Act) (c : Choice) (m : ℕ) (e : Envelope) (b : Bool) → sent_at m (sent past) ≡ Some e → AllTold d past → AllTold d (after past (if b then act.Got m ∷ acts_of past c e.to (answer e.to (view d past e.to) e.from e.message) else act.Missed m ∷ []))
+told-delivered d past c m e true is all = told-answer d past m (next_number past) e.to e.from c.keeps e.message (is_reply e.message) refl is (λ t s f. calm-told s d past (act.Got m) t refl (all t s f))
+told-delivered d past c m e false is all = all
+
+told-deliver_row : (d : DocumentData) (past : List Act) (c : Choice) (m : ℕ) (o : Option Envelope) → sent_at m (sent past) ≡ o → AllTold d past → AllTold d (after past (deliver_row d past c m o))
+told-deliver_row d past c m None is all = all
+told-deliver_row d past c m (Some e) is all = told-delivered d past c m e (node d past e.to).up is all
+
+calm-void : (past : List Act) (code : ℕ) (c : Choice) (n : NodeId) (os : List Out) → calm_outs os ≡ true → all_calm (or_void code os (acts_of past c n os)) ≡ true
+calm-void past code c n [] h = refl
+calm-void past code c n (o ∷ os) h = calm-acts (next_number past) n c.keeps (o ∷ os) h
+
+told-retry_at : (d : DocumentData) (past : List Act) (c : Choice) (t : TxId) (o : Option ScriptData) → AllTold d past → AllTold d (after past (retry_at d past c t o))
+told-retry_at d past c t None all = all
+told-retry_at d past c t (Some s) all = go (node d past s.home).up
+  where
+    os : List Out
+    os = retry_row d.cluster t (stage (view d past s.home) t)
+
+    go : (b : Bool) → AllTold d (after past (if b then or_void 5 os (acts_of past c s.home os) else act.Void 2 ∷ []))
+    go true = calm-all d past (or_void 5 os (acts_of past c s.home os)) (calm-void past 5 c s.home os (calm-retry d.cluster t (stage (view d past s.home) t))) all
+    go false = all
+
+told-ask_row : (d : DocumentData) (past : List Act) (c : Choice) (n : NodeId) (t : TxId) (b : Bool) → AllTold d past → AllTold d (after past (if b then or_void 6 (ask_outs (view d past n) t) (acts_of past c n (ask_outs (view d past n) t)) else act.Void 6 ∷ []))
+told-ask_row d past c n t true all = calm-all d past (or_void 6 (ask_outs (view d past n) t) (acts_of past c n (ask_outs (view d past n) t))) (calm-void past 6 c n (ask_outs (view d past n) t) (calm-asks (view d past n) t)) all
+told-ask_row d past c n t false all = all
+
+told-crash_row : (d : DocumentData) (past : List Act) (n : NodeId) (b : Bool) → AllTold d past → AllTold d (after past (if b then act.Down n None ∷ [] else act.Void 7 ∷ []))
+told-crash_row d past n true all = λ t s e. calm-told s d past (act.Down n None) t refl (all t s e)
+told-crash_row d past n false all = all
+
+calm-many : (xs ys : List Act) → all_calm xs ≡ true → all_calm ys ≡ true → all_calm (xs ++ ys) ≡ true
+calm-many [] ys h k = k
+calm-many (x ∷ xs) ys h k = grind (arith, h, calm-many xs ys)
+
+calm-lost_at : (d : DocumentData) (past : List Act) (n : NodeId) (s : Option ScriptData) → all_calm (lost_at d past n s) ≡ true
+calm-lost_at d past n None = refl
+calm-lost_at d past n (Some s) = go ((s.home == n) && is_open (phase d past s))
+  where
+    go : (b : Bool) → all_calm (if b then act.Lost s.number ∷ [] else []) ≡ true
+    go true = refl
+    go false = refl
+
+calm-losses : (d : DocumentData) (past : List Act) (n : NodeId) (ts : List TxId) → all_calm (flat_map (λ t. lost_at d past n (script_of t d.scripts)) ts) ≡ true
+calm-losses d past n [] = refl
+calm-losses d past n (t ∷ ts) = calm-many (lost_at d past n (script_of t d.scripts)) (flat_map (λ t. lost_at d past n (script_of t d.scripts)) ts) (calm-lost_at d past n (script_of t d.scripts)) (calm-losses d past n ts)
+
+told-restart_row : (d : DocumentData) (past : List Act) (n : NodeId) (f : Flag) (b o : Bool) → AllTold d past → AllTold d (after past (if b then act.Void 8 ∷ [] else (if o then opened_row d past n f else act.StillDown n ∷ [])))
+told-restart_row d past n f true o all = all
+told-restart_row d past n f false true all = calm-all d past (opened_row d past n f) (calm-losses d (act.Up n f ∷ past) n (number_order (script_numbers d.scripts))) all
+told-restart_row d past n f false false all = all
+
+told-drop_row : (d : DocumentData) (past : List Act) (m : ℕ) (o : Option Envelope) → AllTold d past → AllTold d (after past (drop_row m o))
+told-drop_row d past m None all = all
+told-drop_row d past m (Some e) all = all
+
+told-next_row : (d : DocumentData) (past : List Act) (c : Choice) (o : Option ℕ) → AllTold d past → AllTold d (after past (next_row d past c o))
+told-next_row d past c None all = all
+told-next_row d past c (Some m) all = told-deliver_row d past c m (sent_at m (sent past)) refl all
+
+-- an event leaves all told
+pub told-row : (d : DocumentData) (past : List Act) (e : Item) (c : Choice) → AllTold d past → AllTold d (after past (row d past e c))
+told-row d past (item.Begin t) c all = told-begin_row d past c t (story d past t) (script_of t d.scripts) refl all
+told-row d past (item.Deliver m) c all = told-deliver_row d past c m (sent_at m (sent past)) refl all
+told-row d past (item.Drop m) c all = told-drop_row d past m (sent_at m (sent past)) all
+told-row d past (item.Next k) c all = told-next_row d past c (next_left past) all
+told-row d past (item.Retry t) c all = told-retry_at d past c t (script_of t d.scripts) all
+told-row d past (item.Ask n t) c all = told-ask_row d past c n t (node d past n).up all
+told-row d past (item.Crash n how) c all = told-crash_row d past n (node d past n).up all
+told-row d past (item.Fuse n k how) c all = all
+told-row d past (item.Restart n) c all = told-restart_row d past n (flag_of (node d past n).doubt c.finds) (node d past n).up c.opens all
+
+pub answered-told : (d : DocumentData) (past : List Act) → AllTold d past → ReadersAnswered d past
+answered-told d past all t s x is at full reads = told (all t s is)
+  where
+    told : is_told s (story d past t) ≡ true → x.finished ≡ true
+    told h = grind (arith, at, full, reads, h)

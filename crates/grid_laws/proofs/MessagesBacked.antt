@@ -1,0 +1,130 @@
+-- Each message that was sent is backed by a record or an act.
+use Rattle.std.proofs.Common.{◌≡◌, ℕ, ◌+◌, ◌≤◌, ◌<◌, Bool, true, false, List, [], ◌∷◌, ◌++◌, Option, Some, None, refl, sym, ap, subst, ◌∙◌, arith}
+use Rattle.std.proofs.lemmas.Bool.Decides.{nat_tests}
+use Rattle.std.specs.Prelude.{IsTrue, is_some, ◌==◌, ◌&&◌, ◌||◌, if◌then◌else◌}
+use Rattle.score_base.specs.declared.ids.TxId.{TxId}
+use Rattle.score_base.specs.declared.ids.NodeId.{NodeId}
+use Rattle.score_base.specs.declared.ids.Ident.{Ident}
+use Rattle.score_base.specs.declared.ids.Value.{Value}
+use Rattle.score_base.specs.declared.keys.Key.{Key}
+use Rattle.score_base.specs.declared.causes.Ballot.TheVariants as ballot
+use Rattle.score_base.specs.declared.causes.Cause.{Cause}
+use Rattle.score_base.specs.declared.causes.Cause.TheVariants as cause
+use Rattle.score_base.specs.declared.causes.Outcome.TheVariants as outcome
+use Rattle.score_base.specs.declared.records.Record.{Record}
+use Rattle.score_base.specs.declared.records.Record.TheVariants as record'
+use Rattle.grid_model.specs.declared.acts.Act.{Act}
+use Rattle.grid_model.specs.declared.acts.Act.TheVariants as act
+use Rattle.grid_model.specs.declared.messages.Message.{Message}
+use Rattle.grid_model.specs.declared.messages.Message.TheVariants as message
+use Rattle.grid_model.specs.declared.messages.ReadRep.{ReadRep}
+use Rattle.grid_model.specs.Documents.{DocumentData}
+use Rattle.grid_model.specs.Journals.{Decision, decision, all_fit, ended, is_commit, pending, undone}
+use Rattle.grid_model.specs.Nodes.{node, journal, is_home}
+use Rattle.grid_model.specs.Acts.{EachSent, has_refused, is_same_cause}
+use Rattle.grid_model.specs.Facts.{has_prepared, has_decided, has_commit, has_served, IsDecided, Says, MessagesBacked}
+use Rattle.grid_laws.proofs.Causes.{SendDue, ReplyDue, AllDue, IsDue}
+use Rattle.grid_laws.proofs.Frames.{same-number, journal-more}
+use Rattle.grid_model.proofs.KeyLists.{same_key-self}
+use Rattle.grid_model.proofs.Stands.{has_prepared-grows, has_commit-grows, has_commit-is}
+use Rattle.grid_laws.proofs.NodesFit.{IsFitNode}
+use Rattle.grid_laws.proofs.NodesFitActs.{decision-home, undone-decision, nodes-fit}
+
+or-later : (a b : Bool) → b ≡ true → (a || b) ≡ true
+or-later true b h = refl
+or-later false b h = h
+
+-- ---- what was backed stays backed
+
+pub has_decided-grows : (t : TxId) (f : Ident) (y : Record) (r : List Record) → has_decided t f r ≡ true → has_decided t f (y ∷ r) ≡ true
+has_decided-grows t f (record'.Decided u e parts) r h = or-later (u == t && e == f) (has_decided t f r) h
+has_decided-grows t f (record'.Prepared u home parts sid p reads writes) r h = h
+has_decided-grows t f (record'.Ended u o) r h = h
+has_decided-grows t f (record'.Ceiling c) r h = h
+has_decided-grows t f (record'.Closed u) r h = h
+
+pub has_refused-more : (n : NodeId) (t : TxId) (why : Cause) (a : Act) (past : List Act) → has_refused n t why past ≡ true → has_refused n t why (a ∷ past) ≡ true
+has_refused-more n t why (act.Refused m u other) past h = or-later (m == n && (u == t && is_same_cause why other)) (has_refused n t why past) h
+has_refused-more n t why a past h = h
+
+pub has_served-more : (n : NodeId) (t : TxId) (j : ℕ) (sid : Ident) (v : Value) (a : Act) (past : List Act) → has_served n t j sid v past ≡ true → has_served n t j sid v (a ∷ past) ≡ true
+has_served-more n t j sid v (act.Served m u i k s vn w) past h = or-later (m == n && (u == t && (i == j && (s == sid && w == v)))) (has_served n t j sid v past) h
+has_served-more n t j sid v a past h = h
+
+pub prepared-more : (d : DocumentData) (past : List Act) (a : Act) (n : NodeId) (t : TxId) (p : Ident) → has_prepared t p (journal d past n) ≡ true → has_prepared t p (journal d (a ∷ past) n) ≡ true
+prepared-more d past a n t p h = journal-more (λ r. has_prepared t p r ≡ true) (λ y r i. has_prepared-grows t p y r i) d past a n h
+
+pub commit-more : (d : DocumentData) (past : List Act) (a : Act) (n : NodeId) (t : TxId) → has_commit t (journal d past n) ≡ true → has_commit t (journal d (a ∷ past) n) ≡ true
+commit-more d past a n t h = journal-more (λ r. has_commit t r ≡ true) (λ y r i. has_commit-grows t y r i) d past a n h
+
+pub decided-more : (d : DocumentData) (past : List Act) (a : Act) (n : NodeId) (t : TxId) (f : Ident) → has_decided t f (journal d past n) ≡ true → has_decided t f (journal d (a ∷ past) n) ≡ true
+decided-more d past a n t f h = journal-more (λ r. has_decided t f r ≡ true) (λ y r i. has_decided-grows t f y r i) d past a n h
+
+pub says-more : (d : DocumentData) (past : List Act) (a : Act) (n : NodeId) (said : Message) → Says d past n said → Says d (a ∷ past) n said
+says-more d past a n (message.Vote t (ballot.Yes p)) h = prepared-more d past a n t p h
+says-more d past a n (message.Vote t (ballot.No why)) h = has_refused-more n t why a past h
+says-more d past a n (message.Tell t (outcome.Commit f)) h = (h.0, h.1, decided-more d past a h.0 t f h.2)
+says-more d past a n (message.Tell t outcome.Abort) h = tt
+says-more d past a n (message.Ack t) h = commit-more d past a n t h
+says-more d past a n (message.ReadRep q) h = has_served-more n q.t q.op q.sid q.value a past h
+says-more d past a n (message.ReadReq q) h = tt
+says-more d past a n (message.Prepare q) h = tt
+says-more d past a n (message.Ask t) h = tt
+
+-- ---- what is sent is backed
+
+pub pending-has : (t : TxId) (p : Ident) (r : List Record) → pending t r ≡ Some p → has_prepared t p r ≡ true
+pending-has t p [] h = cc
+pending-has t p (record'.Prepared u home parts sid q reads writes ∷ r) h = grind (arith, nat_tests, h, pending-has t p r)
+pending-has t p (record'.Ended u o ∷ r) h = grind (arith, nat_tests, h, pending-has t p r)
+pending-has t p (record'.Ceiling c ∷ r) h = pending-has t p r h
+pending-has t p (record'.Decided u f parts ∷ r) h = pending-has t p r h
+pending-has t p (record'.Closed u ∷ r) h = pending-has t p r h
+
+pub decision-has : (t : TxId) (y : Decision) (r : List Record) → decision t r ≡ Some y → has_decided t y.final r ≡ true
+decision-has t y [] h = cc
+decision-has t y (record'.Decided u f parts ∷ r) h = grind (arith, nat_tests, h, decision-has t y r)
+decision-has t y (record'.Prepared u home parts sid q reads writes ∷ r) h = decision-has t y r h
+decision-has t y (record'.Ended u o ∷ r) h = decision-has t y r h
+decision-has t y (record'.Ceiling c ∷ r) h = decision-has t y r h
+decision-has t y (record'.Closed u ∷ r) h = decision-has t y r h
+
+same-cause : (why : Cause) → is_same_cause why why ≡ true
+same-cause (cause.Holder u) = same-number u
+same-cause (cause.Newer k f) = rw (same_key-self k, same-number f) refl
+
+refused-now : (n : NodeId) (t : TxId) (why : Cause) (past : List Act) → has_refused n t why (act.Refused n t why ∷ past) ≡ true
+refused-now n t why past = rw (same-number n, same-number t, same-cause why) refl
+
+served-now : (n : NodeId) (t : TxId) (j : ℕ) (k : Key) (sid vn : Ident) (v : Value) (past : List Act) → has_served n t j sid v (act.Served n t j k sid vn v ∷ past) ≡ true
+served-now n t j k sid vn v past = rw (same-number n, same-number t, same-number j, same-number sid, same-number v) refl
+
+says-due : (d : DocumentData) (past : List Act) (n y : NodeId) (said : Message) → IsFitNode d n (node d past n) → SendDue d past n y said → Says d past n said
+says-due d past n y (message.Vote t (ballot.Yes p)) s due = pending-has t p (journal d past n) due.1
+says-due d past n y (message.Vote t (ballot.No why)) s due = (let P : List Act → Type 0 = λ p. has_refused n t why p ≡ true in subst P (sym due.2) (refused-now n t why due.1))
+says-due d past n y (message.Tell t (outcome.Commit f)) s due =
+    let is : decision t (journal d past n) ≡ Some due.0 = undone-decision t due.0 (journal d past n) due.1 in
+    let P : Ident → Type 0 = λ g. has_decided t g (journal d past n) ≡ true in
+    (n, (decision-home d n t due.0 (journal d past n) s.homes is).home, subst P due.2 (decision-has t due.0 (journal d past n) is))
+says-due d past n y (message.Tell t outcome.Abort) s due = tt
+says-due d past n y (message.Ack t) s due = has_commit-is d.cluster n t (journal d past n) s.fits ∙ due.0
+says-due d past n y (message.ReadRep q) s due = (let P : List Act → Type 0 = λ p. has_served n q.t q.op q.sid q.value p ≡ true in subst P (sym due.is) (served-now n q.t q.op due.key q.sid due.vn q.value due.before))
+says-due d past n y (message.ReadReq q) s due = tt
+says-due d past n y (message.Prepare q) s due = tt
+says-due d past n y (message.Ask t) s due = tt
+
+-- ---- each message
+
+pub each-more : (P Q : NodeId → Message → Type 0) (past : List Act) → ((n : NodeId) (said : Message) → P n said → Q n said) → EachSent P past → EachSent Q past
+each-more P Q [] go h = tt
+each-more P Q (act.Sent m x y said ∷ past) go h = (go x said h.0, each-more P Q past go h.1)
+each-more P Q (a ∷ past) go h = each-more P Q past go h
+
+-- a claim on the sender and its message that stays true, and holds of each message that is sent
+pub each-sent : (C : List Act → NodeId → Message → Type 0) (d : DocumentData) (past : List Act) → ((now : List Act) (a : Act) (n : NodeId) (said : Message) → AllDue d (a ∷ now) → C now n said → C (a ∷ now) n said) → ((now : List Act) (n y : NodeId) (said : Message) → AllDue d now → SendDue d now n y said → C now n said) → AllDue d past → EachSent (C past) past
+each-sent C d [] more new due = tt
+each-sent C d (act.Sent m x y said ∷ past) more new due = (more past (act.Sent m x y said) x said due (new past x y said due.1 due.0), each-more (C past) (C (act.Sent m x y said ∷ past)) past (λ n s h. more past (act.Sent m x y said) n s due h) (each-sent C d past more new due.1))
+each-sent C d (a ∷ past) more new due = each-more (C past) (C (a ∷ past)) past (λ n s h. more past a n s due h) (each-sent C d past more new due.1)
+
+pub messages-backed : (d : DocumentData) (past : List Act) → AllDue d past → MessagesBacked d past
+messages-backed d past due = each-sent (λ now n said. Says d now n said) d past (λ now a n said all h. says-more d now a n said h) (λ now n y said all h. says-due d now n y said (nodes-fit d now all n) h) due

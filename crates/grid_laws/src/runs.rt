@@ -1,0 +1,36 @@
+//! Laws of every run: of all rows and all free choices of the disks, stops and restarts included.
+ghost use Rattle.std.specs.Prelude.{◌≡◌, ◌≢◌, IsTrue, List, []};
+ghost use Rattle.score_base.specs.declared.ids.NodeId.{NodeId};
+ghost use Rattle.grid_model.specs.declared.acts.Act.{Act};
+ghost use Rattle.grid_model.specs.Documents.{DocumentData};
+ghost use Rattle.grid_model.specs.Histories.{after};
+ghost use Rattle.grid_model.specs.Journals.{all_fit};
+ghost use Rattle.grid_model.specs.Nodes.{journal};
+ghost use Rattle.grid_model.specs.Runs.{IsRun};
+ghost use Rattle.grid_model.specs.Facts.{LocksExclude, MessagesBacked, NeverHeldBelow, ServedPromised};
+
+/// Each record of each journal fits those before it.
+pub fn law_records_fit()
+    ensures { (d : DocumentData) (h : List Act) → IsRun d d.items h → (n : NodeId) → IsTrue (all_fit d.cluster n (journal d (after [] h) n)) }
+{}
+
+/// Transactions that lock a key at one node do not conflict there.
+pub fn law_locks_exclude()
+    ensures { (d : DocumentData) (h : List Act) → IsRun d d.items h → LocksExclude d (after [] h) }
+{}
+
+/// Each message that was sent is backed by a record or an act.
+pub fn law_messages_backed()
+    ensures { (d : DocumentData) (h : List Act) → IsRun d d.items h → MessagesBacked d (after [] h) }
+{}
+
+/// Each read that was served is promised: its node's floor covers it, nothing pending there is at most
+/// its identifier, and each later proposal of the node is above it.
+pub fn law_served_promised()
+    ensures { (d : DocumentData) (h : List Act) → IsRun d d.items h → ServedPromised d (after [] h) }
+{}
+
+/// A read at or below the commit identifier of its node is never held.
+pub fn law_never_held()
+    ensures { (d : DocumentData) (h : List Act) → IsRun d d.items h → NeverHeldBelow d (after [] h) }
+{}
