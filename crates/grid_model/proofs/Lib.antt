@@ -32,3 +32,4 @@ pub mod RemoteReads
 pub mod Decisions
 pub mod NewRecords
 pub mod Written
+pub mod Orders
