@@ -33,3 +33,4 @@ pub mod Decisions
 pub mod NewRecords
 pub mod Written
 pub mod Orders
+pub mod LastWrites
