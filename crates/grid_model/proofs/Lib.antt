@@ -34,3 +34,4 @@ pub mod NewRecords
 pub mod Written
 pub mod Orders
 pub mod LastWrites
+pub mod SerialCopies
