@@ -1,8 +1,8 @@
 -- Is what a node reads at an identifier what the last of the decided transactions wrote?
-use Rattle.std.proofs.Common.{ℕ, ◌+◌, ◌≤◌, ◌<◌, ◌≡◌, ◌≢◌, ◌⊎◌, inl, inr, Bool, true, false, ◌&&◌, ◌||◌, map, List, [], ◌∷◌, ◌++◌, Option, Some, None, refl, sym, ap, subst, ◌∙◌, arith, if◌then◌else◌}
-use Rattle.std.proofs.lemmas.Bool.{cases_Bool, or_cases, or_left, or_right}
+use Rattle.std.proofs.Common.{◌≤◌, ◌≡◌, inl, inr, true, false, ◌&&◌, List, [], ◌∷◌, Option, Some, None, refl, sym, ap, subst, ◌∙◌, arith, if◌then◌else◌}
+use Rattle.std.proofs.lemmas.Bool.{or_cases, or_right}
 use Rattle.std.proofs.lemmas.Bool.Decides.{nat_tests}
-use Rattle.std.specs.Prelude.{◌==◌, nat_lt, nat_le}
+use Rattle.std.specs.Prelude.{◌==◌}
 use Rattle.score_base.specs.declared.ids.TxId.{TxId}
 use Rattle.score_base.specs.declared.ids.NodeId.{NodeId}
 use Rattle.score_base.specs.declared.ids.Ident.{Ident}
@@ -43,14 +43,14 @@ turned-member f t (x ∷ xs) = grind (arith, turned-member f t xs)
 all-up_to : (x : Ident × TxId) (f : Ident) (t : TxId) (xs : List (Ident × TxId)) → AllUpTo x xs → has_member f t xs ≡ true → is_before x (f, t) ≡ false
 all-up_to x f t [] all h = absurd (grind (arith, h))
 all-up_to x f t (y ∷ ys) all h = elim (or_cases (y.0 == f && y.1 == t) (has_member f t ys) h) [
-    | inl here ↦
-        let f' : y.0 ≡ f = grind (arith, nat_tests, here) in
-        let t' : y.1 ≡ t = grind (arith, nat_tests, here) in
-        let first = all.0 in
-        let P : Ident → TxId → Type 0 = λ g u. is_before x (g, u) ≡ false in
-        subst (P f) t' (subst (λ g. P g y.1) f' first)
-    | inr more ↦ all-up_to x f t ys all.1 more
-    ]
+  | inl here ↦
+      let f' : y.0 ≡ f = grind (arith, nat_tests, here) in
+      let t' : y.1 ≡ t = grind (arith, nat_tests, here) in
+      let first = all.0 in
+      let P : Ident → TxId → Type 0 = λ g u. is_before x (g, u) ≡ false in
+      subst (P f) t' (subst (λ g. P g y.1) f' first)
+  | inr more ↦ all-up_to x f t ys all.1 more
+]
 
 -- the best of a falling list is its last write
 pub falling-best : (w : TxId → Option Value) (start : Value) (xs : List (Ident × TxId)) → AreFalling xs → ((f : Ident) (t : TxId) (v : Value) → has_member f t xs ≡ true → w t ≡ Some v → 1 ≤ f) → (best_of w start (turned xs)).value ≡ last_written w start xs
@@ -66,6 +66,7 @@ falling-best w start (x ∷ xs) fall each = go (w x.1) refl (falling-best w star
       where
         same : (u : TxId) (f : Ident) (v' : Value) → is_before x (f, u) ≡ false → w u ≡ Some v' → (let z : Version = record { ident = f; of = u; value = v' } in (if is_behind x.0 x.1 z then record { ident = x.0; of = x.1; value = v } else z).value ≡ v)
         same u f v' up e' = grind (arith, nat_tests, up, e', is)
+
     go : (o : Option Value) → w x.1 ≡ o → (best_of w start (turned xs)).value ≡ last_written w start xs → IsOneOf w start (turned xs) (best_of w start (turned xs)) → (later x.0 x.1 o (best_of w start (turned xs))).value ≡ value_or o (last_written w start xs)
     go None e rest one = rest
     go (Some v) e rest one = choose v (best_of w start (turned xs)) (each x.0 x.1 v (grind (arith, nat_tests)) e) e one
@@ -81,11 +82,13 @@ version-last c n r k start s w ds fit fall to from =
   where
     positive : (t : TxId) (f : Ident) → has_pair t f (applied r) ≡ true → 1 ≤ f
     positive t f h = final-positive c n t f r fit (applied-says c n t f r fit h).committed
+
     there : IsWithin (writer r k) w (up_to s (applied r)) (turned ds)
     there t f v h e =
         let a = up_to-says s t f r h in
         let b = to t f v (record { applied = a.applied; wrote = e }) a.most in
         (turned-member f t ds ∙ b.0, b.1, positive t f a.applied)
+
     back : IsWithin w (writer r k) (turned ds) (up_to s (applied r))
     back t f v h e =
         let b = from t f v (sym (turned-member f t ds) ∙ h) e in

@@ -1,8 +1,8 @@
 -- In which order do the decisions stand, and which are among them?
-use Rattle.std.proofs.Common.{ℕ, ◌+◌, ◌≤◌, ◌<◌, ◌≡◌, ◌≢◌, ◌⊎◌, inl, inr, Bool, true, false, ◌&&◌, ◌||◌, List, [], ◌∷◌, ◌++◌, Option, Some, None, refl, sym, ap, subst, ◌∙◌, arith, if◌then◌else◌}
-use Rattle.std.proofs.lemmas.Bool.{cases_Bool, or_cases, or_left, or_right}
+use Rattle.std.proofs.Common.{◌≡◌, inl, inr, Bool, true, false, ◌&&◌, ◌||◌, List, [], ◌∷◌, ◌++◌, refl, sym, ap, ◌∙◌, arith, if◌then◌else◌}
+use Rattle.std.proofs.lemmas.Bool.{or_cases}
 use Rattle.std.proofs.lemmas.Bool.Decides.{nat_tests}
-use Rattle.std.specs.Prelude.{◌==◌, nat_lt, nat_le, fold, filter}
+use Rattle.std.specs.Prelude.{◌==◌, nat_le, fold}
 use Rattle.std.specs.List.{flat_map}
 use Rattle.score_base.specs.declared.ids.TxId.{TxId}
 use Rattle.score_base.specs.declared.ids.NodeId.{NodeId}
@@ -87,9 +87,9 @@ decisions-member f t (y ∷ r) = decisions-member f t r
 pub nodes-member : (f : Ident) (t : TxId) (of : NodeId → List (Ident × TxId)) (ns : List NodeId) → has_member f t (flat_map of ns) ≡ true → (n : NodeId) × (has_member f t (of n) ≡ true)
 nodes-member f t of [] h = absurd (grind (arith, h))
 nodes-member f t of (n ∷ ns) h = elim (or_cases (has_member f t (of n)) (has_member f t (flat_map of ns)) (sym (member-append f t (of n) (flat_map of ns)) ∙ h)) [
-    | inl here ↦ (n, here)
-    | inr more ↦ nodes-member f t of ns more
-    ]
+  | inl here ↦ (n, here)
+  | inr more ↦ nodes-member f t of ns more
+]
 
 -- those up to an identifier
 pub members_to-member : (s f : Ident) (t : TxId) (xs : List (Ident × TxId)) → has_member f t (members_to s xs) ≡ (has_member f t xs && nat_le f s)
@@ -98,6 +98,7 @@ members_to-member s f t (x ∷ xs) = go (nat_le x.0 s) same (members_to-member s
   where
     same : (x.0 == f && x.1 == t) ≡ true → nat_le f s ≡ nat_le x.0 s
     same h = (let e : f ≡ x.0 = grind (arith, nat_tests, h) in ap (λ g. nat_le g s) e)
+
     go : (b : Bool) → ((x.0 == f && x.1 == t) ≡ true → nat_le f s ≡ b) → has_member f t (members_to s xs) ≡ (has_member f t xs && nat_le f s) → has_member f t (if b then x ∷ members_to s xs else members_to s xs) ≡ (((x.0 == f && x.1 == t) || has_member f t xs) && nat_le f s)
     go true e rest = grind (arith, e, rest)
     go false e rest = grind (arith, e, rest)

@@ -1,8 +1,8 @@
 -- Is the serial copy what the transactions wrote last, each by what it took?
-use Rattle.std.proofs.Common.{ℕ, ◌+◌, ◌≤◌, ◌<◌, ◌≡◌, Bool, true, false, ◌&&◌, ◌||◌, List, [], ◌∷◌, ◌++◌, Option, Some, None, refl, sym, ap, subst, ◌∙◌, arith, if◌then◌else◌}
-use Rattle.std.proofs.lemmas.Bool.{or_left, or_right}
+use Rattle.std.proofs.Common.{ℕ, ◌≤◌, ◌<◌, ◌≡◌, Bool, true, false, ◌&&◌, List, [], ◌∷◌, ◌++◌, Option, Some, None, refl, sym, ap, subst, ◌∙◌, arith, if◌then◌else◌}
+use Rattle.std.proofs.lemmas.Bool.{or_right}
 use Rattle.std.proofs.lemmas.Bool.Decides.{nat_tests}
-use Rattle.std.specs.Prelude.{◌==◌, nat_lt, nat_le, filter}
+use Rattle.std.specs.Prelude.{◌==◌, nat_le}
 use Rattle.score_base.specs.declared.ids.TxId.{TxId}
 use Rattle.score_base.specs.declared.ids.Ident.{Ident}
 use Rattle.score_base.specs.declared.ids.Value.{Value}
@@ -11,11 +11,11 @@ use Rattle.script_lang.specs.Scripts.{ScriptData}
 use Rattle.script_lang.specs.Reads.{is_key_among, written_keys}
 use Rattle.placement.specs.Clusters.{init}
 use Rattle.grid_model.specs.Documents.{DocumentData}
-use Rattle.grid_model.specs.Serials.{Map, reads_on, map_behind}
+use Rattle.grid_model.specs.Serials.{Map, reads_on}
 use Rattle.grid_model.specs.Stories.{waiting}
 use Rattle.grid_model.specs.Nodes.{script_of}
 use Rattle.grid_model.specs.Advances.{own_map}
-use Rattle.grid_model.specs.Copies.{is_before, members_to, script_map, copy_of}
+use Rattle.grid_model.specs.Copies.{members_to, script_map, copy_of}
 use Rattle.grid_model.proofs.SerialWalks.{AreOf, reads-serial, map-serial}
 use Rattle.grid_model.proofs.AllReads.{reads_by}
 use Rattle.grid_model.proofs.Orders.{AllUpTo, AreFalling, has_member}
