@@ -1,4 +1,4 @@
--- Which version does a node read at an identifier, and when does the next record leave it as it is?
+-- Which version is the best of those that a list of commits wrote, and when do two lists have the same?
 use Rattle.std.proofs.Common.{◌≤◌, ◌<◌, ◌≡◌, ◌⊎◌, inl, inr, Bool, true, false, ◌&&◌, List, [], ◌∷◌, Option, Some, None, refl, sym, ◌∙◌, arith, if◌then◌else◌}
 use Rattle.std.proofs.lemmas.Bool.{or_cases, or_right}
 use Rattle.std.proofs.lemmas.Bool.Decides.{nat_tests}

@@ -39,3 +39,6 @@ pub mod RemoteReads
 pub mod Decisions
 pub mod NewRecords
 pub mod Written
+pub mod Orders
+pub mod LastWrites
+pub mod SerialCopies

@@ -1,8 +1,8 @@
 -- What stands, is pending or is decided behind the next record that was not before it?
-use Rattle.std.proofs.Common.{ℕ, ◌+◌, ◌-◌, ◌≤◌, ◌<◌, ◌≡◌, ◌≢◌, ◌⊎◌, inl, inr, Bool, true, false, ◌&&◌, ◌||◌, not, max, map, List, [], ◌∷◌, ◌++◌, Option, Some, None, is_some, refl, sym, ap, subst, ◌∙◌, arith, if◌then◌else◌}
-use Rattle.std.proofs.lemmas.Bool.{cases_Bool, cases_eq, and_parts, and_from, or_parts, or_from, or_cases, or_left, or_right}
+use Rattle.std.proofs.Common.{◌≡◌, ◌⊎◌, inl, inr, Bool, true, false, ◌&&◌, List, ◌∷◌, Option, Some, None, refl, ap, subst, arith, if◌then◌else◌}
+use Rattle.std.proofs.lemmas.Bool.{cases_eq, or_cases}
 use Rattle.std.proofs.lemmas.Bool.Decides.{nat_tests}
-use Rattle.std.specs.Prelude.{◌==◌, nat_lt, nat_le, is_none}
+use Rattle.std.specs.Prelude.{◌==◌}
 use Rattle.score_base.specs.declared.ids.TxId.{TxId}
 use Rattle.score_base.specs.declared.ids.NodeId.{NodeId}
 use Rattle.score_base.specs.declared.ids.Ident.{Ident}
@@ -12,12 +12,7 @@ use Rattle.score_base.specs.declared.causes.Outcome.{Outcome}
 use Rattle.score_base.specs.declared.causes.Outcome.TheVariants as outcome
 use Rattle.score_base.specs.declared.records.Record.{Record}
 use Rattle.score_base.specs.declared.records.Record.TheVariants as record'
-use Rattle.score_base.specs.Keys.{same_key}
-use Rattle.script_lang.specs.Reads.{is_key_among}
-use Rattle.placement.specs.Places.{is_among, holds}
-use Rattle.placement.specs.Clusters.{ClusterData}
-use Rattle.grid_model.specs.declared.versions.Version.{Version}
-use Rattle.grid_model.specs.Journals.{Prepared, older, prepared_of, home_in, home_of, prepared_all, pending, without, pendings, all_above, is_clear, ended, is_commit, commits, applied_of, applied, greatest, commit_id, floor, written_value, wrote_in, is_behind, later, best, up_to, version_at, newest, keys_in, shares, conflict, conflicts_with, is_unapplied, is_locking, lesser, holds_out, holder_among, holder, newer, Decision, decision, is_closed, undone, is_above, are_distinct_keys, are_own_keys, are_lists, fits_prepared, fits_outcome, fits, all_fit}
+use Rattle.grid_model.specs.Journals.{Prepared, older, prepared_of, pending, ended, Decision, decision, is_closed}
 use Rattle.grid_model.specs.Facts.{has_prepared, has_decided, has_commit}
 
 -- ---- a Prepared

@@ -37,11 +37,6 @@ prepared-sound c n t x (record'.Prepared u home parts sid p reads writes ∷ r) 
     go f more false o e h = more (e ∙ h)
 prepared-sound c n t x (y ∷ r) fit h = prepared-sound c n t x r (rest-fits c n y r fit) h
 
--- the proposal of a Prepared
-abbrev pub proposal_in : Option Prepared → Option Ident
-proposal_in None = None
-proposal_in (Some x) = Some x.proposal
-
 -- a Prepared with this proposal stands: it is the first
 pub has_prepared-says : (c : ClusterData) (n : NodeId) (t : TxId) (p : Ident) (r : List Record) → all_fit c n r ≡ true → has_prepared t p r ≡ true → (x : Prepared) × (prepared_of t r ≡ Some x) × (x.proposal ≡ p)
 has_prepared-says c n t p [] fit h = absurd (grind (arith, h))
