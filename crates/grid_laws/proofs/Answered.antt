@@ -1,34 +1,25 @@
 -- Between events each read-only transaction whose reads all have their values was answered.
-use Rattle.std.proofs.Common.{◌≡◌, ◌≢◌, ℕ, ◌+◌, ◌≤◌, ◌<◌, ◌⊎◌, inl, inr, Bool, true, false, List, [], ◌∷◌, ◌++◌, Option, Some, None, refl, sym, ap, subst, ◌∙◌, arith}
+use Rattle.std.proofs.Common.{◌≡◌, ◌≢◌, ℕ, inl, inr, Bool, true, false, List, [], ◌∷◌, Option, Some, None, refl, subst, arith}
 use Rattle.std.proofs.lemmas.Bool.Decides.{nat_tests}
 use Rattle.std.proofs.lemmas.Bool.{cases_eq}
-use Rattle.std.specs.Prelude.{IsTrue, max, is_some, is_none, ◌==◌, ◌&&◌, ◌||◌, not, if◌then◌else◌, filter, map, slice_get, nat_lt, nat_le}
-use Rattle.std.specs.List.{list_all}
+use Rattle.std.specs.Prelude.{is_some, ◌==◌, ◌&&◌, ◌||◌, if◌then◌else◌}
 use Rattle.score_base.specs.declared.ids.TxId.{TxId}
 use Rattle.score_base.specs.declared.ids.NodeId.{NodeId}
 use Rattle.score_base.specs.declared.ids.Ident.{Ident}
 use Rattle.score_base.specs.declared.ids.Value.{Value}
 use Rattle.score_base.specs.declared.causes.Ballot.TheVariants as ballot
-use Rattle.script_lang.specs.declared.scripts.Op.{Op}
 use Rattle.script_lang.specs.Scripts.{ScriptData}
-use Rattle.script_lang.specs.Reads.{key_of, is_update}
-use Rattle.placement.specs.Places.{preferred}
+use Rattle.script_lang.specs.Reads.{is_update}
 use Rattle.grid_model.specs.declared.acts.Act.{Act}
 use Rattle.grid_model.specs.declared.acts.Act.TheVariants as act
-use Rattle.grid_model.specs.declared.events.Out.{Out}
-use Rattle.grid_model.specs.declared.events.Out.TheVariants as out
 use Rattle.grid_model.specs.declared.messages.Envelope.{Envelope}
 use Rattle.grid_model.specs.declared.messages.Message.{Message}
 use Rattle.grid_model.specs.declared.messages.Message.TheVariants as message
 use Rattle.grid_model.specs.declared.stories.Story.{Story}
-use Rattle.grid_model.specs.declared.stories.Voted.{Voted}
 use Rattle.grid_model.specs.Documents.{DocumentData}
 use Rattle.grid_model.specs.Histories.{after, sent, sent_at}
 use Rattle.grid_model.specs.Nodes.{Node, node, script_of, parts_of, is_home}
-use Rattle.grid_model.specs.Stories.{Phase, story, told, asked, heard, heard_at, if_told, waiting, with_vote, with_ack, with_request, without_answers, has_voted}
-use Rattle.grid_model.specs.Views.{Open, open_of}
-use Rattle.grid_model.specs.Advances.{advance, advance_end, op_at, own_reads, parts_now, prepares, prepare_for, request, request_of, to_node, unread}
-use Rattle.grid_model.specs.Schedules.{numbered, kept, broken, head_at}
+use Rattle.grid_model.specs.Stories.{Phase, story, told, asked, heard, heard_at, if_told, waiting, with_vote, with_ack}
 
 -- reads are left, it writes, or it was answered
 abbrev pub is_told : ScriptData → Option Story → Bool

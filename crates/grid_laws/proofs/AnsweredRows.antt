@@ -1,11 +1,9 @@
 -- Advance ends with the answer of a read-only transaction whose reads all have their values.
-use Rattle.std.proofs.Common.{◌≡◌, ◌≢◌, ℕ, ◌+◌, ◌≤◌, ◌<◌, ◌⊎◌, inl, inr, Bool, true, false, List, [], ◌∷◌, ◌++◌, Option, Some, None, refl, sym, ap, subst, ◌∙◌, arith}
-use Rattle.std.proofs.lemmas.Bool.Decides.{nat_tests}
-use Rattle.std.specs.Prelude.{is_some, is_none, ◌==◌, ◌&&◌, ◌||◌, not, if◌then◌else◌, filter, map, slice_get, nat_lt}
+use Rattle.std.proofs.Common.{◌≡◌, ℕ, ◌+◌, Bool, true, false, List, [], ◌∷◌, ◌++◌, Option, Some, None, refl, sym, subst, arith}
+use Rattle.std.specs.Prelude.{is_some, is_none, filter, map, slice_get, nat_lt}
 use Rattle.std.specs.List.{list_all}
 use Rattle.score_base.specs.declared.ids.TxId.{TxId}
 use Rattle.score_base.specs.declared.ids.NodeId.{NodeId}
-use Rattle.score_base.specs.declared.ids.Ident.{Ident}
 use Rattle.score_base.specs.declared.ids.Value.{Value}
 use Rattle.script_lang.specs.declared.scripts.Op.{Op}
 use Rattle.script_lang.specs.Scripts.{ScriptData}
@@ -16,17 +14,16 @@ use Rattle.grid_model.specs.declared.acts.Act.TheVariants as act
 use Rattle.grid_model.specs.declared.events.Out.{Out}
 use Rattle.grid_model.specs.declared.events.Out.TheVariants as out
 use Rattle.grid_model.specs.declared.messages.Message.{Message}
-use Rattle.grid_model.specs.declared.messages.Message.TheVariants as message
 use Rattle.grid_model.specs.declared.stories.Story.{Story}
 use Rattle.grid_model.specs.Documents.{DocumentData}
 use Rattle.grid_model.specs.Histories.{after}
 use Rattle.grid_model.specs.Nodes.{script_of, parts_of}
 use Rattle.grid_model.specs.Stories.{story, waiting}
 use Rattle.grid_model.specs.Views.{open_of, Open}
-use Rattle.grid_model.specs.Advances.{advance, advance_end, op_at, own_reads, prepares, prepare_for, request, request_of, to_node, unread}
-use Rattle.grid_model.specs.Schedules.{numbered, kept, broken, head_at, stopped}
+use Rattle.grid_model.specs.Advances.{advance, advance_end, op_at, own_reads, prepares, request_of, to_node, unread}
+use Rattle.grid_model.specs.Schedules.{numbered, kept, broken, head_at}
 use Rattle.grid_laws.proofs.Frames.{same-number}
-use Rattle.grid_laws.proofs.Answered.{is_told, is_calm, all_calm, calm-all, calm-told, or-true, AllTold, OthersTold, calm-others, all-from}
+use Rattle.grid_laws.proofs.Answered.{is_told, all_calm, calm-all, or-true, AllTold, OthersTold, calm-others, all-from}
 
 -- ---- outs that write no record
 

@@ -1,23 +1,11 @@
 -- Each event leaves the read-only transactions whose reads all have their values answered.
-use Rattle.std.proofs.Common.{◌≡◌, ◌≢◌, ℕ, ◌+◌, ◌≤◌, ◌<◌, Bool, true, false, List, [], ◌∷◌, ◌++◌, Option, Some, None, refl, sym, ap, subst, ◌∙◌, arith}
-use Rattle.std.proofs.lemmas.Bool.Decides.{nat_tests}
-use Rattle.std.specs.Prelude.{is_some, is_none, ◌==◌, ◌&&◌, ◌||◌, not, if◌then◌else◌, map}
-use Rattle.std.specs.List.{flat_map, list_all, range_with_len}
+use Rattle.std.proofs.Common.{◌≡◌, ℕ, Bool, true, false, List, [], ◌∷◌, ◌++◌, Option, Some, None, refl, sym, subst, arith}
+use Rattle.std.specs.Prelude.{◌==◌, ◌&&◌, if◌then◌else◌}
+use Rattle.std.specs.List.{flat_map}
 use Rattle.score_base.specs.declared.ids.TxId.{TxId}
 use Rattle.score_base.specs.declared.ids.NodeId.{NodeId}
 use Rattle.score_base.specs.declared.ids.Ident.{Ident}
-use Rattle.score_base.specs.declared.causes.Ballot.{Ballot}
-use Rattle.score_base.specs.declared.causes.Ballot.TheVariants as ballot
-use Rattle.score_base.specs.declared.causes.Outcome.{Outcome}
-use Rattle.score_base.specs.declared.causes.Outcome.TheVariants as outcome
-use Rattle.score_base.specs.declared.records.Record.{Record}
-use Rattle.score_base.specs.declared.records.Record.TheVariants as record'
-use Rattle.score_base.specs.declared.keys.Key.{Key}
-use Rattle.script_lang.specs.declared.scripts.Op.{Op}
 use Rattle.script_lang.specs.Scripts.{ScriptData}
-use Rattle.script_lang.specs.Reads.{is_update}
-use Rattle.placement.specs.Places.{others}
-use Rattle.placement.specs.Clusters.{ClusterData}
 use Rattle.grid_model.specs.declared.acts.Act.{Act}
 use Rattle.grid_model.specs.declared.acts.Act.TheVariants as act
 use Rattle.grid_model.specs.declared.acts.Flag.{Flag}
@@ -29,25 +17,21 @@ use Rattle.grid_model.specs.declared.messages.Envelope.{Envelope}
 use Rattle.grid_model.specs.declared.messages.Message.{Message}
 use Rattle.grid_model.specs.declared.messages.Message.TheVariants as message
 use Rattle.grid_model.specs.declared.messages.ReadRep.{ReadRep}
-use Rattle.grid_model.specs.declared.messages.ReadReq.{ReadReq}
-use Rattle.grid_model.specs.declared.messages.Prepare.{Prepare}
-use Rattle.grid_model.specs.declared.stories.HeldRead.{HeldRead}
 use Rattle.grid_model.specs.declared.stories.Story.{Story}
 use Rattle.grid_model.specs.Documents.{DocumentData, number_order, script_numbers}
 use Rattle.grid_model.specs.Histories.{after, sent, sent_at}
-use Rattle.grid_model.specs.Journals.{commit_id, ended, is_commit, pending, home_of}
+use Rattle.grid_model.specs.Journals.{commit_id}
 use Rattle.grid_model.specs.Nodes.{node, journal, script_of}
-use Rattle.grid_model.specs.Stories.{has_voted, begun, story, waiting, is_open, phase, with_value}
-use Rattle.grid_model.specs.Views.{view, stage, stage_at, Stage, View, Open, Reads, Collects, Commits, Apart, open_of}
-use Rattle.grid_model.specs.Advances.{advance, parts_now, prepares, request, request_of, to_node, op_at}
-use Rattle.grid_model.specs.Fitness.{is_fit_at, tx_in}
-use Rattle.grid_model.specs.Rows.{answer, greatest_vote, have_voted, not_voted, not_among, answer_at, ack_row, ask_outs, ask_row, begin_outs, begun_at, ballot_row, commit_row, abort_row, decides, freed_by, full_row, judged, prepare_outs, prepare_row, read_row, release, reply_row, retry_row, row_of, tell_outs, tells, vote_row}
-use Rattle.grid_model.specs.Schedules.{Choice, acts_of, ask_row as asks, begin_row, crash_row, deliver_row, drop_row, flag_of, kept, broken, stopped, head_at, lost_at, losses, next_left, next_number, next_row, numbered, opened_row, or_void, restart_row, retry_at, row, start_act, start_row}
-use Rattle.grid_laws.proofs.Stages.{Opens, opens-reads, script-number, is_counted}
-use Rattle.grid_laws.proofs.DueHomes.{at-number, story-began, ReadersAnswered}
+use Rattle.grid_model.specs.Stories.{begun, story, is_open, phase, with_value}
+use Rattle.grid_model.specs.Views.{view, stage, Stage, Open, Reads, Collects, Commits, Apart, open_of}
+use Rattle.grid_model.specs.Advances.{advance}
+use Rattle.grid_model.specs.Fitness.{is_fit_at}
+use Rattle.grid_model.specs.Rows.{answer, ask_outs, begin_outs, reply_row, retry_row}
+use Rattle.grid_model.specs.Schedules.{Choice, acts_of, begin_row, deliver_row, drop_row, flag_of, kept, lost_at, next_left, next_number, next_row, numbered, opened_row, or_void, retry_at, row}
+use Rattle.grid_laws.proofs.Stages.{Opens, opens-reads, script-number}
+use Rattle.grid_laws.proofs.DueHomes.{story-began, ReadersAnswered}
 use Rattle.grid_laws.proofs.DueAnswers.{story-taken, with_reply, stage-quiet}
-use Rattle.grid_laws.proofs.Causes.{AtHome}
-use Rattle.grid_laws.proofs.Answered.{is_told, is_calm, all_calm, calm-all, calm-told, other-told, other-taken, AllTold, OthersTold}
+use Rattle.grid_laws.proofs.Answered.{is_told, all_calm, calm-all, calm-told, other-told, other-taken, AllTold, OthersTold}
 use Rattle.grid_laws.proofs.AnsweredRows.{told-advance}
 use Rattle.grid_laws.proofs.CalmOuts.{is_reply, calm-acts, calm-answer, calm-retry, calm-asks, calm_outs}
 

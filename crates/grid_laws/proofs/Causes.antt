@@ -1,5 +1,5 @@
 -- What stands behind each act: the words of the past right before it that let it come.
-use Rattle.std.proofs.Common.{◌≡◌, ℕ, ◌≤◌, ◌<◌, ◌⊎◌, Bool, true, false, List, [], ◌∷◌, ◌++◌, Option, Some, None}
+use Rattle.std.proofs.Common.{◌≡◌, ℕ, ◌≤◌, ◌<◌, ◌⊎◌, true, false, List, [], ◌∷◌, ◌++◌, Option, Some, None}
 use Rattle.std.specs.Prelude.{IsTrue, max, is_some, ◌+◌, if◌then◌else◌, ◌==◌}
 use Rattle.score_base.specs.declared.ids.TxId.{TxId}
 use Rattle.score_base.specs.declared.ids.NodeId.{NodeId}
@@ -30,9 +30,9 @@ use Rattle.grid_model.specs.declared.stories.Story.{Story}
 use Rattle.grid_model.specs.Documents.{DocumentData}
 use Rattle.grid_model.specs.Histories.{sent, sent_at}
 use Rattle.grid_model.specs.Journals.{Decision, commit_id, ended, floor, holder, home_of, is_clear, is_commit, newer, pending, undone, fits_outcome}
-use Rattle.grid_model.specs.Nodes.{got, held_by, with_held, node, journal, script_of, parts_of, is_home}
+use Rattle.grid_model.specs.Nodes.{got, held_by, with_held, node, journal, script_of, parts_of}
 use Rattle.grid_model.specs.Stories.{phase, is_open, story, waiting}
-use Rattle.grid_model.specs.Views.{View, Stage, Apart, Commits, view, stage, open_of}
+use Rattle.grid_model.specs.Views.{Apart, Commits, view, stage, open_of}
 use Rattle.grid_model.specs.Advances.{op_at, date_by, prepare_for}
 use Rattle.grid_model.specs.Fitness.{is_fit_request, is_fit_prepare, is_same_ident}
 use Rattle.grid_model.specs.Rows.{are_all_among, ceiling_of, dated, greatest_vote, have_voted, version_for}

@@ -1,15 +1,14 @@
 -- The acts of an event are due where its outs are, whether or not the disk keeps their record.
-use Rattle.std.proofs.Common.{◌≡◌, ℕ, ◌+◌, Bool, true, false, List, [], ◌∷◌, ◌++◌, Option, Some, None, refl, sym, ap, subst, ◌∙◌}
+use Rattle.std.proofs.Common.{◌≡◌, ℕ, ◌+◌, Bool, true, false, List, [], ◌∷◌, ◌++◌, refl, sym, subst}
 use Rattle.score_base.specs.declared.ids.NodeId.{NodeId}
 use Rattle.grid_model.specs.declared.acts.Act.{Act}
 use Rattle.grid_model.specs.declared.acts.Act.TheVariants as act
-use Rattle.grid_model.specs.declared.acts.Head.{Head}
 use Rattle.grid_model.specs.declared.acts.Head.TheVariants as head
 use Rattle.grid_model.specs.declared.events.Out.{Out}
 use Rattle.grid_model.specs.declared.events.Out.TheVariants as out
 use Rattle.grid_model.specs.Documents.{DocumentData}
 use Rattle.grid_model.specs.Histories.{after}
-use Rattle.grid_model.specs.Schedules.{numbered, kept, broken, stopped, head_of}
+use Rattle.grid_model.specs.Schedules.{numbered, kept, broken}
 use Rattle.grid_laws.proofs.Causes.{SendDue, RecordDue, IsDue, AreDue, AllDue}
 
 -- what stands behind an act that n gives

@@ -1,14 +1,12 @@
 -- What a node gives where a message comes is due.
-use Rattle.std.proofs.Common.{◌≡◌, ℕ, ◌+◌, ◌≤◌, ◌<◌, Bool, true, false, List, [], ◌∷◌, ◌++◌, Option, Some, None, refl, sym, ap, subst, ◌∙◌, arith}
+use Rattle.std.proofs.Common.{◌≡◌, ℕ, ◌+◌, ◌≤◌, Bool, true, false, List, [], ◌∷◌, ◌++◌, Some, None, refl, sym, ap, subst, ◌∙◌, arith}
 use Rattle.std.proofs.lemmas.Bool.Decides.{nat_tests}
-use Rattle.std.specs.Prelude.{IsTrue, max, ◌==◌, ◌&&◌, ◌||◌, not, if◌then◌else◌, nat_lt, nat_le}
+use Rattle.std.specs.Prelude.{IsTrue, ◌==◌, ◌&&◌, if◌then◌else◌}
 use Rattle.score_base.specs.declared.ids.TxId.{TxId}
 use Rattle.score_base.specs.declared.ids.NodeId.{NodeId}
 use Rattle.score_base.specs.declared.ids.Ident.{Ident}
 use Rattle.score_base.specs.declared.causes.Ballot.{Ballot}
 use Rattle.score_base.specs.declared.causes.Ballot.TheVariants as ballot
-use Rattle.score_base.specs.declared.causes.Cause.{Cause}
-use Rattle.score_base.specs.declared.causes.Outcome.{Outcome}
 use Rattle.score_base.specs.declared.causes.Outcome.TheVariants as outcome
 use Rattle.score_base.specs.declared.records.Record.{Record}
 use Rattle.score_base.specs.declared.records.Record.TheVariants as record'
@@ -27,12 +25,12 @@ use Rattle.grid_model.specs.Documents.{DocumentData}
 use Rattle.grid_model.specs.Histories.{sent, sent_at}
 use Rattle.grid_model.specs.Journals.{Decision, commit_id, undone}
 use Rattle.grid_model.specs.Nodes.{node, journal, script_of, parts_of, parts_in, is_home}
-use Rattle.grid_model.specs.Stories.{Phase, Collecting, phase_at, phase, is_open, is_collecting, is_counted_vote, is_fit_ballot, is_small_node, story, waiting, first_sid, has_voted, heard, heard_at, with_value}
-use Rattle.grid_model.specs.Views.{Open, Stage, Apart, Reads, Collects, Commits, open_of, stage, stage_at, view, View}
+use Rattle.grid_model.specs.Stories.{Collecting, phase_at, is_open, is_fit_ballot, is_small_node, story, waiting, first_sid, has_voted, heard_at, with_value}
+use Rattle.grid_model.specs.Views.{Open, Stage, Apart, Reads, Collects, Commits, stage, stage_at, view, View}
 use Rattle.grid_model.specs.Advances.{advance, parts_now}
-use Rattle.grid_model.specs.Fitness.{is_fit_at, is_fit_content, is_same_ident, tx_in}
-use Rattle.grid_model.specs.Rows.{answer, answer_at, row_of, reply_row, vote_row, ballot_row, full_row, decides, tells, ack_row, ask_row, closed_row, greatest_vote, have_voted, are_all_among, dated}
-use Rattle.grid_laws.proofs.Causes.{IsUp, IsGot, AtHome, RecordDue, DecidedDue, ClosedDue, AbortDue, given_up, apart}
+use Rattle.grid_model.specs.Fitness.{is_fit_at, is_same_ident, tx_in}
+use Rattle.grid_model.specs.Rows.{answer, row_of, reply_row, vote_row, ballot_row, decides, tells, ack_row, ask_row, greatest_vote, have_voted, are_all_among, dated}
+use Rattle.grid_laws.proofs.Causes.{IsUp, IsGot, AtHome, DecidedDue, given_up, apart}
 use Rattle.grid_model.specs.Facts.{is_given_up}
 use Rattle.grid_laws.proofs.Frames.{same-number}
 use Rattle.grid_laws.proofs.Stages.{Opens, script-number, opens-reads, opens-collects, stage-commits, is_counted, story-quiet}

@@ -1,43 +1,32 @@
 -- The rows of a home: what it gives for its transactions is due.
-use Rattle.std.proofs.Common.{◌≡◌, ℕ, ◌+◌, ◌≤◌, ◌<◌, Bool, true, false, List, [], ◌∷◌, ◌++◌, Option, Some, None, refl, sym, ap, subst, ◌∙◌, arith}
+use Rattle.std.proofs.Common.{◌≡◌, ℕ, ◌+◌, Bool, true, false, List, [], ◌∷◌, ◌++◌, Option, Some, None, refl, sym, subst, arith}
 use Rattle.std.proofs.lemmas.Bool.Decides.{nat_tests}
-use Rattle.std.specs.Prelude.{IsTrue, max, ◌==◌, ◌&&◌, ◌||◌, not, if◌then◌else◌, filter, map, slice_get, nat_lt, nat_le}
+use Rattle.std.specs.Prelude.{filter, map, slice_get, nat_lt}
 use Rattle.score_base.specs.declared.ids.TxId.{TxId}
 use Rattle.score_base.specs.declared.ids.NodeId.{NodeId}
 use Rattle.score_base.specs.declared.ids.Ident.{Ident}
 use Rattle.score_base.specs.declared.ids.Value.{Value}
-use Rattle.score_base.specs.declared.causes.Ballot.{Ballot}
-use Rattle.score_base.specs.declared.causes.Ballot.TheVariants as ballot
-use Rattle.score_base.specs.declared.causes.Cause.{Cause}
-use Rattle.score_base.specs.declared.causes.Outcome.{Outcome}
 use Rattle.score_base.specs.declared.causes.Outcome.TheVariants as outcome
-use Rattle.score_base.specs.declared.records.Record.{Record}
-use Rattle.score_base.specs.declared.records.Record.TheVariants as record'
 use Rattle.script_lang.specs.declared.scripts.Op.{Op}
 use Rattle.script_lang.specs.Scripts.{ScriptData}
 use Rattle.script_lang.specs.Reads.{key_of, is_update}
-use Rattle.placement.specs.Places.{is_among, holds, preferred}
+use Rattle.placement.specs.Places.{is_among, preferred}
 use Rattle.grid_model.specs.declared.acts.Act.{Act}
 use Rattle.grid_model.specs.declared.acts.Act.TheVariants as act
 use Rattle.grid_model.specs.declared.events.Out.{Out}
 use Rattle.grid_model.specs.declared.events.Out.TheVariants as out
 use Rattle.grid_model.specs.declared.messages.Message.{Message}
 use Rattle.grid_model.specs.declared.messages.Message.TheVariants as message
-use Rattle.grid_model.specs.declared.messages.Prepare.{Prepare}
-use Rattle.grid_model.specs.declared.messages.ReadReq.{ReadReq}
-use Rattle.grid_model.specs.declared.messages.ReadRep.{ReadRep}
 use Rattle.grid_model.specs.declared.stories.Story.{Story}
-use Rattle.grid_model.specs.declared.stories.Voted.{Voted}
 use Rattle.grid_model.specs.Documents.{DocumentData}
-use Rattle.grid_model.specs.Histories.{sent, sent_at}
 use Rattle.grid_model.specs.Journals.{Decision, commit_id, undone}
-use Rattle.grid_model.specs.Nodes.{node, journal, script_of, parts_of, parts_in, is_home, where_at}
-use Rattle.grid_model.specs.Stories.{Phase, phase_at, is_open, story, waiting, first_sid, has_voted, begun}
-use Rattle.grid_model.specs.Views.{Open, Stage, Apart, Reads, Collects, Commits, open_of, stage, view}
-use Rattle.grid_model.specs.Advances.{advance, advance_end, date_by, op_at, own_reads, owns, parts_now, prepare_for, prepares, request, request_of, to_node, unread}
-use Rattle.grid_model.specs.Rows.{begin_outs, begun_at, not_voted, not_among, retry_row, tells}
-use Rattle.grid_laws.proofs.Causes.{IsUp, IsGot, AtHome, SendDue, RequestDue, PrepareDue, BeganDue, TakenDue}
-use Rattle.grid_laws.proofs.Frames.{up-stays, journal-stays, same-number}
+use Rattle.grid_model.specs.Nodes.{node, journal, script_of, parts_of}
+use Rattle.grid_model.specs.Stories.{phase_at, is_open, story, waiting, begun}
+use Rattle.grid_model.specs.Views.{Stage, Apart, Reads, Collects, Commits, open_of, stage, view}
+use Rattle.grid_model.specs.Advances.{advance, advance_end, op_at, own_reads, prepare_for, prepares, request, request_of, to_node, unread}
+use Rattle.grid_model.specs.Rows.{begin_outs, not_voted, not_among, retry_row, tells}
+use Rattle.grid_laws.proofs.Causes.{IsUp, AtHome, SendDue}
+use Rattle.grid_laws.proofs.Frames.{same-number}
 use Rattle.grid_laws.proofs.Stages.{Opens, among-get, among-filter, holds-preferred, script-number, opens-reads, opens-collects, stage-commits}
 use Rattle.grid_laws.proofs.DueActs.{OutsDue}
 

@@ -1,34 +1,26 @@
 -- The rows of a part, where a Prepare or an end is told: what they give is due.
-use Rattle.std.proofs.Common.{◌≡◌, ℕ, ◌+◌, ◌≤◌, ◌<◌, ◌⊎◌, inl, inr, Bool, true, false, List, [], ◌∷◌, ◌++◌, Option, Some, None, refl, sym, ap, subst, ◌∙◌, arith}
-use Rattle.std.proofs.lemmas.Bool.Decides.{nat_tests}
-use Rattle.std.specs.Prelude.{max, nat_lt, is_some, ◌==◌, if◌then◌else◌}
+use Rattle.std.proofs.Common.{◌≡◌, ℕ, ◌+◌, Bool, true, false, List, [], ◌∷◌, ◌++◌, Option, Some, None, refl, sym, ap, ◌∙◌, arith}
+use Rattle.std.specs.Prelude.{max, is_some, if◌then◌else◌}
 use Rattle.score_base.specs.declared.ids.TxId.{TxId}
 use Rattle.score_base.specs.declared.ids.NodeId.{NodeId}
 use Rattle.score_base.specs.declared.ids.Ident.{Ident}
 use Rattle.score_base.specs.declared.keys.Key.{Key}
-use Rattle.score_base.specs.declared.causes.Ballot.TheVariants as ballot
-use Rattle.score_base.specs.declared.causes.Cause.{Cause}
-use Rattle.score_base.specs.declared.causes.Cause.TheVariants as cause
 use Rattle.score_base.specs.declared.causes.Outcome.{Outcome}
 use Rattle.score_base.specs.declared.causes.Outcome.TheVariants as outcome
-use Rattle.score_base.specs.declared.records.Record.{Record}
 use Rattle.score_base.specs.declared.records.Record.TheVariants as record'
 use Rattle.grid_model.specs.declared.acts.Act.{Act}
 use Rattle.grid_model.specs.declared.acts.Act.TheVariants as act
-use Rattle.grid_model.specs.declared.events.Out.{Out}
-use Rattle.grid_model.specs.declared.events.Out.TheVariants as out
 use Rattle.grid_model.specs.declared.messages.Message.TheVariants as message
 use Rattle.grid_model.specs.declared.messages.Prepare.{Prepare}
-use Rattle.grid_model.specs.declared.stories.HeldRead.{HeldRead}
 use Rattle.grid_model.specs.Documents.{DocumentData}
-use Rattle.grid_model.specs.Journals.{ended, fits_outcome, holder, home_of, is_commit, newer, pending}
+use Rattle.grid_model.specs.Journals.{ended, holder, home_of, is_commit, newer, pending}
 use Rattle.grid_model.specs.Nodes.{node, journal}
 use Rattle.grid_model.specs.Views.{View}
 use Rattle.grid_model.specs.Advances.{to_node}
 use Rattle.grid_model.specs.Fitness.{is_fit_outcome, is_at_least, is_fit_prepare}
-use Rattle.grid_model.specs.Rows.{release, prepare_row, prepare_outs, judged, commit_row, abort_row, tell_outs, ask_outs, freed_by}
-use Rattle.grid_laws.proofs.Causes.{IsUp, IsGot, IsIn, held_ever, Asked, PreparedDue, EndedDue, RefusedFor}
-use Rattle.grid_laws.proofs.Frames.{up-stays, journal-stays, same-number, in-held}
+use Rattle.grid_model.specs.Rows.{prepare_row, prepare_outs, judged, commit_row, abort_row, tell_outs, ask_outs, freed_by}
+use Rattle.grid_laws.proofs.Causes.{IsUp, IsGot, Asked}
+use Rattle.grid_laws.proofs.Frames.{up-stays, same-number, in-held}
 use Rattle.grid_laws.proofs.DueActs.{OutsDue}
 use Rattle.grid_laws.proofs.DueReads.{due-release}
 

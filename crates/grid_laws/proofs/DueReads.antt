@@ -1,7 +1,7 @@
 -- The rows that serve and hold reads: what they give is due.
-use Rattle.std.proofs.Common.{◌≡◌, ℕ, ◌+◌, ◌*◌, ◌/◌, ◌≤◌, ◌<◌, ◌⊎◌, inl, inr, Bool, true, false, List, [], ◌∷◌, ◌++◌, Option, Some, None, refl, sym, ap, subst, ◌∙◌, arith}
+use Rattle.std.proofs.Common.{◌≡◌, ℕ, ◌+◌, ◌≤◌, ◌<◌, inl, inr, Bool, true, false, List, [], ◌∷◌, ◌++◌, refl, sym, ap, subst, ◌∙◌, arith}
 use Rattle.std.proofs.lemmas.Bool.Decides.{nat_tests}
-use Rattle.std.specs.Prelude.{max, nat_lt, ◌==◌, if◌then◌else◌}
+use Rattle.std.specs.Prelude.{max, nat_lt, if◌then◌else◌}
 use Rattle.score_base.specs.declared.ids.TxId.{TxId}
 use Rattle.score_base.specs.declared.ids.NodeId.{NodeId}
 use Rattle.score_base.specs.declared.ids.Ident.{Ident}
@@ -19,12 +19,11 @@ use Rattle.grid_model.specs.declared.stories.HeldRead.{HeldRead}
 use Rattle.grid_model.specs.declared.versions.Version.{Version}
 use Rattle.grid_model.specs.Documents.{DocumentData}
 use Rattle.grid_model.specs.Journals.{applied, applied_of, best, commits, commit_id, floor, greatest, is_clear, up_to, version_at}
-use Rattle.grid_model.specs.Nodes.{node, journal, changed, Writes, Raises, Change}
+use Rattle.grid_model.specs.Nodes.{node, journal}
 use Rattle.grid_model.specs.Views.{View}
-use Rattle.grid_model.specs.Fitness.{is_fit_request}
-use Rattle.grid_model.specs.Rows.{served, release, dated, ceiling_of, ceilings, raises, answered, read_row, version_for}
-use Rattle.grid_laws.proofs.Causes.{IsUp, IsGot, IsIn, held_ever, Requested, Covered, MayServe, at_once, held, ServeDue, ReplyDue, CeilingDue, HeldDue}
-use Rattle.grid_laws.proofs.Frames.{up-stays, journal-stays, at-self, same-number}
+use Rattle.grid_model.specs.Rows.{served, release, ceiling_of, raises, answered, read_row, version_for}
+use Rattle.grid_laws.proofs.Causes.{IsUp, IsGot, IsIn, held_ever, Requested, Covered, MayServe, at_once, held}
+use Rattle.grid_laws.proofs.Frames.{up-stays, journal-stays, same-number}
 use Rattle.grid_laws.proofs.DueActs.{OutsDue}
 
 -- ---- a ceiling changes no version

@@ -1,13 +1,10 @@
 -- Each act of a run was due where it came.
-use Rattle.std.proofs.Common.{◌≡◌, ◌≢◌, ℕ, ◌+◌, ◌≤◌, ◌<◌, Bool, true, false, List, [], ◌∷◌, ◌++◌, Option, Some, None, refl, sym, ap, subst, ◌∙◌, arith}
-use Rattle.std.proofs.lemmas.Bool.Decides.{nat_tests}
-use Rattle.std.specs.Prelude.{is_some, is_none, ◌==◌, ◌&&◌, ◌||◌, not, if◌then◌else◌, map}
+use Rattle.std.proofs.Common.{◌≡◌, ℕ, Bool, true, false, List, [], ◌∷◌, ◌++◌, Option, Some, None, refl, sym, subst}
+use Rattle.std.specs.Prelude.{◌==◌, ◌&&◌, if◌then◌else◌, map}
 use Rattle.std.specs.List.{flat_map, range_with_len}
 use Rattle.score_base.specs.declared.ids.TxId.{TxId}
 use Rattle.score_base.specs.declared.ids.NodeId.{NodeId}
-use Rattle.score_base.specs.declared.ids.Ident.{Ident}
 use Rattle.script_lang.specs.Scripts.{ScriptData}
-use Rattle.script_lang.specs.Reads.{is_update}
 use Rattle.grid_model.specs.declared.acts.Act.{Act}
 use Rattle.grid_model.specs.declared.acts.Act.TheVariants as act
 use Rattle.grid_model.specs.declared.acts.Flag.{Flag}
@@ -20,14 +17,13 @@ use Rattle.grid_model.specs.declared.stories.Story.{Story}
 use Rattle.grid_model.specs.Documents.{DocumentData}
 use Rattle.grid_model.specs.Histories.{after, sent, sent_at}
 use Rattle.grid_model.specs.Nodes.{node, script_of}
-use Rattle.grid_model.specs.Stories.{story, waiting, is_open, phase}
-use Rattle.grid_model.specs.Views.{view, stage, Stage}
+use Rattle.grid_model.specs.Stories.{story, is_open, phase}
+use Rattle.grid_model.specs.Views.{view, stage}
 use Rattle.grid_model.specs.Rows.{answer, begin_outs, retry_row, ask_outs}
-use Rattle.grid_model.specs.Schedules.{Choice, acts_of, ask_row, begin_at, begin_row, crash_row, deliver_row, drop_row, events_in, lost_at, losses, next_left, next_number, next_row, opened_row, or_void, restart_row, retry_at, row, start_act, start_row}
-use Rattle.grid_model.specs.Runs.{Rows, IsRun}
-use Rattle.grid_laws.proofs.Causes.{IsUp, IsDue, AreDue, AllDue}
+use Rattle.grid_model.specs.Schedules.{Choice, acts_of, begin_row, deliver_row, drop_row, lost_at, next_left, next_number, next_row, opened_row, or_void, retry_at, row, start_act, start_row}
+use Rattle.grid_laws.proofs.Causes.{IsDue, AreDue}
 use Rattle.grid_laws.proofs.Stages.{script-number}
-use Rattle.grid_laws.proofs.DueActs.{OutsDue, acts-due, after-append, all-after}
+use Rattle.grid_laws.proofs.DueActs.{OutsDue, acts-due}
 use Rattle.grid_laws.proofs.DueParts.{due-ask}
 use Rattle.grid_laws.proofs.DueHomes.{ReadersAnswered, due-begin, due-retry}
 use Rattle.grid_laws.proofs.DueAnswers.{due-answer}

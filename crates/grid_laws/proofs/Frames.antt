@@ -1,19 +1,18 @@
 -- What an act leaves as it was.
-use Rattle.std.proofs.Common.{◌≡◌, ℕ, ◌≤◌, ◌<◌, ◌⊎◌, inl, inr, Bool, true, false, List, [], ◌∷◌, ◌++◌, Option, Some, None, refl, sym, ap, subst, ◌∙◌, arith}
+use Rattle.std.proofs.Common.{◌≡◌, ℕ, ◌⊎◌, inl, inr, Bool, true, false, List, [], ◌∷◌, ◌++◌, Option, Some, None, refl, subst, arith}
 use Rattle.std.proofs.lemmas.Bool.Decides.{nat_tests}
-use Rattle.std.specs.Prelude.{IsTrue, max, is_some, is_none, ◌+◌, if◌then◌else◌, ◌==◌, ◌&&◌, ◌||◌}
+use Rattle.std.specs.Prelude.{if◌then◌else◌, ◌==◌}
 use Rattle.score_base.specs.declared.ids.TxId.{TxId}
 use Rattle.score_base.specs.declared.ids.NodeId.{NodeId}
 use Rattle.score_base.specs.declared.ids.Ident.{Ident}
 use Rattle.score_base.specs.declared.keys.Key.{Key}
 use Rattle.score_base.specs.declared.records.Record.{Record}
-use Rattle.score_base.specs.declared.records.Record.TheVariants as record'
 use Rattle.grid_model.specs.declared.acts.Act.{Act}
 use Rattle.grid_model.specs.declared.acts.Act.TheVariants as act
 use Rattle.grid_model.specs.declared.messages.Envelope.{Envelope}
 use Rattle.grid_model.specs.declared.stories.HeldRead.{HeldRead}
 use Rattle.grid_model.specs.Documents.{DocumentData}
-use Rattle.grid_model.specs.Nodes.{got, held_by, with_held, node, journal, Node, is_request, said_by, freed, Change, Nothing, Writes, Raises, Holds, Frees, Stops, Starts, Stays, where_at, change, changed, written, found, without_read, is_read}
+use Rattle.grid_model.specs.Nodes.{got, held_by, with_held, node, journal, Node, is_request, said_by, freed, Change, Nothing, Writes, Raises, Holds, Frees, Stops, Starts, Stays, where_at, change, changed, found, without_read, is_read}
 use Rattle.grid_laws.proofs.Causes.{held_ever, IsIn}
 
 pub same-number : (n : ℕ) → (n == n) ≡ true

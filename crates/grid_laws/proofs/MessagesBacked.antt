@@ -1,7 +1,7 @@
 -- Each message that was sent is backed by a record or an act.
-use Rattle.std.proofs.Common.{◌≡◌, ℕ, ◌+◌, ◌≤◌, ◌<◌, Bool, true, false, List, [], ◌∷◌, ◌++◌, Option, Some, None, refl, sym, ap, subst, ◌∙◌, arith}
+use Rattle.std.proofs.Common.{◌≡◌, ℕ, Bool, true, false, List, [], ◌∷◌, Some, refl, sym, subst, ◌∙◌, arith}
 use Rattle.std.proofs.lemmas.Bool.Decides.{nat_tests}
-use Rattle.std.specs.Prelude.{IsTrue, is_some, ◌==◌, ◌&&◌, ◌||◌, if◌then◌else◌}
+use Rattle.std.specs.Prelude.{◌==◌, ◌&&◌, ◌||◌}
 use Rattle.score_base.specs.declared.ids.TxId.{TxId}
 use Rattle.score_base.specs.declared.ids.NodeId.{NodeId}
 use Rattle.score_base.specs.declared.ids.Ident.{Ident}
@@ -17,13 +17,12 @@ use Rattle.grid_model.specs.declared.acts.Act.{Act}
 use Rattle.grid_model.specs.declared.acts.Act.TheVariants as act
 use Rattle.grid_model.specs.declared.messages.Message.{Message}
 use Rattle.grid_model.specs.declared.messages.Message.TheVariants as message
-use Rattle.grid_model.specs.declared.messages.ReadRep.{ReadRep}
 use Rattle.grid_model.specs.Documents.{DocumentData}
-use Rattle.grid_model.specs.Journals.{Decision, decision, all_fit, ended, is_commit, pending, undone}
-use Rattle.grid_model.specs.Nodes.{node, journal, is_home}
+use Rattle.grid_model.specs.Journals.{Decision, decision, pending}
+use Rattle.grid_model.specs.Nodes.{node, journal}
 use Rattle.grid_model.specs.Acts.{EachSent, has_refused, is_same_cause}
-use Rattle.grid_model.specs.Facts.{has_prepared, has_decided, has_commit, has_served, IsDecided, Says, MessagesBacked}
-use Rattle.grid_laws.proofs.Causes.{SendDue, ReplyDue, AllDue, IsDue}
+use Rattle.grid_model.specs.Facts.{has_prepared, has_decided, has_commit, has_served, Says, MessagesBacked}
+use Rattle.grid_laws.proofs.Causes.{SendDue, AllDue}
 use Rattle.grid_laws.proofs.Frames.{same-number, journal-more}
 use Rattle.grid_model.proofs.KeyLists.{same_key-self}
 use Rattle.grid_model.proofs.Stands.{has_prepared-grows, has_commit-grows, has_commit-is}

@@ -1,38 +1,21 @@
 -- Each record of a journal, and the record in doubt, fits those before it.
-use Rattle.std.proofs.Common.{◌≡◌, ◌≢◌, ℕ, ◌+◌, ◌*◌, ◌/◌, ◌%◌, ◌≤◌, ◌<◌, Bool, true, false, List, [], ◌∷◌, ◌++◌, Option, Some, None, inl, inr, refl, sym, ap, subst, ◌∙◌, arith, length}
+use Rattle.std.proofs.Common.{◌≡◌, ◌+◌, ◌≤◌, Bool, true, false, List, [], ◌∷◌, Option, Some, None, inl, inr, refl, sym, subst, ◌∙◌, arith}
 use Rattle.std.proofs.lemmas.Bool.Decides.{nat_tests}
 use Rattle.std.proofs.lemmas.Bool.{cases_eq}
-use Rattle.std.specs.Prelude.{IsTrue, max, is_some, is_none, ◌==◌, ◌&&◌, ◌||◌, not, if◌then◌else◌, nat_lt, nat_le}
+use Rattle.std.specs.Prelude.{max, ◌==◌}
 use Rattle.score_base.specs.declared.ids.TxId.{TxId}
 use Rattle.score_base.specs.declared.ids.NodeId.{NodeId}
 use Rattle.score_base.specs.declared.ids.Ident.{Ident}
-use Rattle.score_base.specs.declared.keys.Key.{Key}
-use Rattle.score_base.specs.declared.causes.Outcome.{Outcome}
 use Rattle.score_base.specs.declared.causes.Outcome.TheVariants as outcome
 use Rattle.score_base.specs.declared.records.Record.{Record}
 use Rattle.score_base.specs.declared.records.Record.TheVariants as record'
 use Rattle.script_lang.specs.Scripts.{ScriptData}
-use Rattle.placement.specs.Places.{is_among}
-use Rattle.grid_model.specs.declared.acts.Act.{Act}
-use Rattle.grid_model.specs.declared.acts.Act.TheVariants as act
-use Rattle.grid_model.specs.declared.acts.Head.{Head}
-use Rattle.grid_model.specs.declared.acts.Head.TheVariants as head
-use Rattle.grid_model.specs.declared.messages.Envelope.{Envelope}
-use Rattle.grid_model.specs.declared.messages.Message.TheVariants as message
-use Rattle.grid_model.specs.declared.messages.Prepare.{Prepare}
 use Rattle.grid_model.specs.Documents.{DocumentData}
-use Rattle.grid_model.specs.Journals.{Prepared, Decision, decision, is_closed, are_lists, are_own_keys, keys_in, ended, fits, all_fit, floor, is_above, pending, prepared_of, undone}
-use Rattle.grid_model.specs.Nodes.{got, node, journal, script_of, parts_in, is_home, is_home_in, Node, Change, Nothing, Writes, Raises, Holds, Frees, Stops, Starts, Stays, where_at, change, changed, written, learnt, found, prepared_by, doubt_of, record_of, freed, is_request, said_by, held_by, is_kept}
-use Rattle.grid_model.specs.Stories.{is_small}
+use Rattle.grid_model.specs.Journals.{fits, all_fit, floor, is_above}
+use Rattle.grid_model.specs.Nodes.{script_of, is_home, is_home_in, Node, Change, Nothing, Writes, Raises, Holds, Frees, Stops, Starts, Stays, where_at, changed, learnt, found}
 use Rattle.grid_model.specs.Facts.{parts_at}
-use Rattle.grid_model.specs.Fitness.{is_fit_prepare, is_rising}
-use Rattle.grid_model.specs.Rows.{ceiling_of}
-use Rattle.grid_laws.proofs.Causes.{IsUp, Asked, PreparedDue, EndedDue, CeilingDue, DecidedDue, ClosedDue, RecordDue, HeadDue, IsDue, AllDue}
-use Rattle.grid_laws.proofs.Frames.{at-self, same-number}
-use Rattle.grid_laws.proofs.Stages.{stage-commits}
-use Rattle.grid_model.proofs.Fits.{FitsPrepared, fits-prepared}
+use Rattle.grid_laws.proofs.Frames.{at-self}
 use Rattle.grid_model.proofs.Floors.{floor-above, above-higher}
-use Rattle.grid_model.proofs.Once.{running-pending}
 use Rattle.grid_model.proofs.Pendings.{is_over}
 
 -- ---- an act at a node

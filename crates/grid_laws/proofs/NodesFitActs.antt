@@ -1,40 +1,34 @@
 -- Each act that is due leaves the records of every node fitting.
-use Rattle.std.proofs.Common.{◌≡◌, ◌≢◌, ℕ, ◌+◌, ◌*◌, ◌/◌, ◌%◌, ◌≤◌, ◌<◌, Bool, true, false, List, [], ◌∷◌, ◌++◌, Option, Some, None, inl, inr, refl, sym, ap, subst, ◌∙◌, arith, length}
+use Rattle.std.proofs.Common.{◌≡◌, ℕ, ◌+◌, ◌%◌, ◌≤◌, ◌<◌, Bool, true, false, List, [], ◌∷◌, Option, Some, None, inl, inr, refl, sym, ap, subst, ◌∙◌, arith}
 use Rattle.std.proofs.lemmas.Bool.Decides.{nat_tests}
 use Rattle.std.proofs.lemmas.Bool.{cases_eq}
-use Rattle.std.specs.Prelude.{IsTrue, max, is_some, is_none, ◌==◌, ◌&&◌, ◌||◌, not, if◌then◌else◌, nat_lt, nat_le}
+use Rattle.std.specs.Prelude.{max, is_some, ◌==◌, if◌then◌else◌, nat_lt}
 use Rattle.score_base.specs.declared.ids.TxId.{TxId}
 use Rattle.score_base.specs.declared.ids.NodeId.{NodeId}
 use Rattle.score_base.specs.declared.ids.Ident.{Ident}
 use Rattle.score_base.specs.declared.keys.Key.{Key}
-use Rattle.score_base.specs.declared.causes.Outcome.{Outcome}
-use Rattle.score_base.specs.declared.causes.Outcome.TheVariants as outcome
 use Rattle.score_base.specs.declared.records.Record.{Record}
 use Rattle.score_base.specs.declared.records.Record.TheVariants as record'
-use Rattle.script_lang.specs.Scripts.{ScriptData}
 use Rattle.placement.specs.Places.{is_among}
 use Rattle.grid_model.specs.declared.acts.Act.{Act}
 use Rattle.grid_model.specs.declared.acts.Act.TheVariants as act
 use Rattle.grid_model.specs.declared.acts.Head.{Head}
 use Rattle.grid_model.specs.declared.acts.Head.TheVariants as head
-use Rattle.grid_model.specs.declared.messages.Envelope.{Envelope}
-use Rattle.grid_model.specs.declared.messages.Message.TheVariants as message
 use Rattle.grid_model.specs.declared.messages.Prepare.{Prepare}
 use Rattle.grid_model.specs.Documents.{DocumentData}
-use Rattle.grid_model.specs.Journals.{Prepared, Decision, decision, is_closed, are_lists, are_own_keys, keys_in, ended, fits, all_fit, floor, is_above, pending, prepared_of, undone}
-use Rattle.grid_model.specs.Nodes.{got, node, journal, script_of, parts_in, is_home, is_home_in, Node, Change, Nothing, Writes, Raises, Holds, Frees, Stops, Starts, Stays, where_at, change, changed, prepared_by, doubt_of, record_of, freed, is_request, said_by, held_by, is_kept}
+use Rattle.grid_model.specs.Journals.{Prepared, Decision, decision, is_closed, are_lists, ended, fits, all_fit, floor, pending, prepared_of, undone}
+use Rattle.grid_model.specs.Nodes.{got, node, journal, script_of, parts_in, is_home, Node, Change, Writes, Raises, Holds, Stops, Starts, Stays, change, prepared_by, doubt_of, record_of, freed, is_request, said_by, held_by, is_kept}
 use Rattle.grid_model.specs.Facts.{parts_at}
 use Rattle.grid_model.specs.Fitness.{is_fit_prepare}
 use Rattle.grid_model.specs.Rows.{ceiling_of}
-use Rattle.grid_laws.proofs.Causes.{IsUp, Asked, PreparedDue, EndedDue, CeilingDue, DecidedDue, ClosedDue, RecordDue, HeadDue, StopDue, IsDue, AllDue}
+use Rattle.grid_laws.proofs.Causes.{IsUp, PreparedDue, ClosedDue, RecordDue, StopDue, IsDue, AllDue}
 use Rattle.grid_laws.proofs.Stages.{stage-commits}
 use Rattle.grid_laws.proofs.DueReads.{ceiling-above}
 use Rattle.grid_laws.proofs.DueAnswers.{home-is}
-use Rattle.grid_model.proofs.Fits.{FitsPrepared, fits-prepared}
+use Rattle.grid_model.proofs.Fits.{fits-prepared}
 use Rattle.grid_model.proofs.Floors.{above-higher}
 use Rattle.grid_model.proofs.Once.{running-pending}
-use Rattle.grid_model.proofs.Pendings.{is_over}
-use Rattle.grid_laws.proofs.NodesFit.{at-node, at-home, FitsDoubt, AtItsHome, AllAtHome, DoubtAtHome, OverDoubt, IsFitNode, FitChange, fit-changed}
+use Rattle.grid_laws.proofs.NodesFit.{at-node, at-home, FitsDoubt, AllAtHome, DoubtAtHome, OverDoubt, IsFitNode, FitChange, fit-changed}
 
 -- ---- what a Decided that stands says
 

@@ -1,12 +1,11 @@
 -- What a node promised of a read stays in its floor, its clock and its proposals.
-use Rattle.std.proofs.Common.{◌≡◌, ℕ, ◌+◌, ◌≤◌, ◌<◌, ◌⊎◌, inl, inr, Bool, true, false, List, [], ◌∷◌, ◌++◌, Option, Some, None, refl, sym, ap, subst, ◌∙◌, arith}
+use Rattle.std.proofs.Common.{◌≡◌, ℕ, ◌+◌, ◌≤◌, ◌<◌, inl, inr, Bool, true, false, List, [], ◌∷◌, ◌++◌, Option, Some, None, refl, sym, ap, subst, ◌∙◌, arith}
 use Rattle.std.proofs.lemmas.Bool.Decides.{nat_tests}
-use Rattle.std.specs.Prelude.{IsTrue, max, ◌==◌, ◌&&◌, if◌then◌else◌, nat_lt}
+use Rattle.std.specs.Prelude.{max, ◌==◌, if◌then◌else◌, nat_lt}
 use Rattle.score_base.specs.declared.ids.TxId.{TxId}
 use Rattle.score_base.specs.declared.ids.NodeId.{NodeId}
 use Rattle.score_base.specs.declared.ids.Ident.{Ident}
 use Rattle.score_base.specs.declared.ids.Value.{Value}
-use Rattle.score_base.specs.declared.keys.Key.{Key}
 use Rattle.score_base.specs.declared.causes.Outcome.TheVariants as outcome
 use Rattle.score_base.specs.declared.records.Record.{Record}
 use Rattle.score_base.specs.declared.records.Record.TheVariants as record'
@@ -20,14 +19,13 @@ use Rattle.grid_model.specs.declared.stories.HeldRead.{HeldRead}
 use Rattle.grid_model.specs.Documents.{DocumentData}
 use Rattle.grid_model.specs.Journals.{all_fit, commit_id, floor, is_clear}
 use Rattle.grid_model.specs.Nodes.{got, held_by, held_from, with_held, node, journal, Node, Change, Nothing, Writes, Raises, Holds, Frees, Stops, Starts, Stays, change, changed, learnt, found}
-use Rattle.grid_model.specs.Acts.{EachBehind}
 use Rattle.grid_model.specs.Facts.{are_above, IsPromised, ServedPromised, HeldIsAbove, NeverHeldBelow}
 use Rattle.grid_laws.proofs.Causes.{AllDue, IsDue, IsIn, held_ever, ServeDue, MayServe, at_once, held, Covered, RecordDue}
 use Rattle.grid_laws.proofs.Frames.{in-append}
 use Rattle.grid_model.proofs.Floors.{floor-grows}
 use Rattle.grid_model.proofs.Pendings.{is_over, clear-more, clear-below}
 use Rattle.grid_model.proofs.Applied.{commit_id-clear}
-use Rattle.grid_laws.proofs.NodesFit.{IsFitNode, FitChange, OverDoubt}
+use Rattle.grid_laws.proofs.NodesFit.{FitChange, OverDoubt}
 use Rattle.grid_laws.proofs.NodesFitActs.{nodes-fit, fit-change}
 
 -- ---- the floor and the clock

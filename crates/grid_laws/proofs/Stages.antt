@@ -1,18 +1,15 @@
 -- What stands behind the stage of a transaction: its script, its story and its home.
-use Rattle.std.proofs.Common.{◌≡◌, ℕ, ◌+◌, ◌≤◌, ◌<◌, Bool, true, false, List, [], ◌∷◌, ◌++◌, Option, Some, None, refl, sym, ap, subst, ◌∙◌, arith, zero, suc}
+use Rattle.std.proofs.Common.{◌≡◌, ℕ, Bool, true, false, List, [], ◌∷◌, Option, Some, None, refl, sym, ap, ◌∙◌, arith, zero, suc}
 use Rattle.std.proofs.lemmas.Bool.Decides.{nat_tests}
-use Rattle.std.specs.Prelude.{◌==◌, ◌&&◌, not, if◌then◌else◌, filter, slice_get}
-use Rattle.std.specs.List.{list_any, list_all}
+use Rattle.std.specs.Prelude.{◌==◌, if◌then◌else◌, filter, slice_get}
 use Rattle.score_base.specs.declared.ids.TxId.{TxId}
 use Rattle.score_base.specs.declared.ids.NodeId.{NodeId}
 use Rattle.score_base.specs.declared.keys.Key.{Key}
 use Rattle.score_base.specs.declared.causes.Ballot.TheVariants as ballot
 use Rattle.script_lang.specs.Scripts.{ScriptData}
-use Rattle.script_lang.specs.Reads.{is_update}
-use Rattle.placement.specs.Places.{is_among, holds, holders, preferred, others}
+use Rattle.placement.specs.Places.{is_among, holds, preferred}
 use Rattle.grid_model.specs.declared.acts.Act.{Act}
 use Rattle.grid_model.specs.declared.acts.Act.TheVariants as act
-use Rattle.grid_model.specs.declared.messages.Envelope.{Envelope}
 use Rattle.grid_model.specs.declared.messages.Message.{Message}
 use Rattle.grid_model.specs.declared.messages.Message.TheVariants as message
 use Rattle.grid_model.specs.declared.stories.Story.{Story}
@@ -20,8 +17,8 @@ use Rattle.grid_model.specs.Documents.{DocumentData}
 use Rattle.grid_model.specs.Histories.{sent, sent_at}
 use Rattle.grid_model.specs.Journals.{Decision, undone}
 use Rattle.grid_model.specs.Nodes.{Node, node, script_of}
-use Rattle.grid_model.specs.Stories.{Phase, phase_at, is_open, open_phase, story, told, waiting, heard, heard_at}
-use Rattle.grid_model.specs.Views.{Open, Stage, Apart, Reads, Collects, Commits, open_of, open_by, open_at, open_stage, stage_by, stage, view}
+use Rattle.grid_model.specs.Stories.{phase_at, is_open, story, waiting, heard_at}
+use Rattle.grid_model.specs.Views.{Open, Reads, Collects, Commits, open_of, open_by, open_at, open_stage, stage_by, stage, view}
 use Rattle.grid_laws.proofs.Causes.{AtHome}
 
 -- ---- members

@@ -1,14 +1,14 @@
 -- What is kept act by act tells what the acts tell.
-use Rattle.std.proofs.Common.{◌≡◌, ◌≤◌, ℕ, ◌==◌, ◌||◌, ◌++◌, Bool, true, false, List, [], ◌∷◌, length, Option, Some, None, refl, sym, ap, ◌∙◌, replicate}
+use Rattle.std.proofs.Common.{◌≡◌, ◌≤◌, ℕ, ◌||◌, ◌++◌, Bool, List, [], ◌∷◌, length, Option, None, refl, ap, ◌∙◌}
 use Rattle.grid_model.specs.declared.acts.Act.{Act}
 use Rattle.grid_model.specs.declared.acts.Act.TheVariants as act
 use Rattle.grid_model.specs.declared.messages.Envelope.{Envelope}
 use Rattle.grid_model.specs.declared.stories.Story.{Story}
 use Rattle.grid_model.specs.Documents.{DocumentData}
 use Rattle.grid_model.specs.Histories.{after, sent, sent_at}
-use Rattle.grid_model.specs.Nodes.{Node, blank, node, got, change, changed}
+use Rattle.grid_model.specs.Nodes.{Node, blank, got, change, changed}
 use Rattle.grid_model.specs.Schedules.{is_gone}
-use Rattle.run_state.specs.Kept.{Keeps, KeepsNodes, posted, got_by, going, is_number, is_marked, node_in, telling, retold_by}
+use Rattle.run_state.specs.Kept.{Keeps, posted, got_by, going, is_number, is_marked, node_in, telling, retold_by}
 use Rattle.run_state.proofs.Told.{stories-more}
 
 pub after-more : (past acts : List Act) (a : Act) → after past (acts ++ a ∷ []) ≡ a ∷ after past acts

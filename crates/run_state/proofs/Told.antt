@@ -1,11 +1,9 @@
 -- The stories that are kept act by act tell what the acts tell.
-use Rattle.std.proofs.Common.{◌≡◌, ◌≢◌, ℕ, ◌==◌, ◌&&◌, Bool, true, false, List, [], ◌∷◌, Option, Some, None, is_some, refl, sym, ap, subst, ◌∙◌, inl, inr, arith, if◌then◌else◌, map}
+use Rattle.std.proofs.Common.{◌≡◌, ◌≢◌, ℕ, ◌==◌, ◌&&◌, Bool, true, false, List, [], ◌∷◌, Option, Some, None, is_some, refl, sym, ap, subst, ◌∙◌, inl, inr, arith, if◌then◌else◌}
 use Rattle.std.proofs.lemmas.Bool.{cases_eq}
 use Rattle.std.proofs.lemmas.Bool.Decides.{nat_tests}
-use Rattle.score_base.specs.declared.causes.Ballot.{Ballot}
 use Rattle.score_base.specs.declared.causes.Ballot.TheVariants as ballot
 use Rattle.script_lang.specs.Scripts.{ScriptData}
-use Rattle.placement.specs.Places.{holders}
 use Rattle.grid_model.specs.declared.acts.Act.{Act}
 use Rattle.grid_model.specs.declared.acts.Act.TheVariants as act
 use Rattle.grid_model.specs.declared.messages.Envelope.{Envelope}
@@ -18,7 +16,7 @@ use Rattle.grid_model.specs.Keyed.{at_key, put_key}
 use Rattle.grid_model.specs.Nodes.{Node, node, script_of, parts_of, is_home}
 use Rattle.grid_model.specs.Stories.{story, begun, told, if_told, heard, heard_at, asked, phase_at, Phase, with_request, with_value, with_vote, with_ack, without_answers, is_counted_vote, is_counted_ack}
 use Rattle.grid_model.proofs.Places.{at-put, put-other}
-use Rattle.run_state.specs.Kept.{retold, paired, voter, hearing_at, hearing_of, hearing, asking, telling, put_telling, forgotten, forgotten_one, retold_by}
+use Rattle.run_state.specs.Kept.{retold, paired, voter, hearing_at, hearing_of, hearing, asking, telling, put_telling, forgotten, retold_by}
 
 -- what a list that has one story more says of t, by what it said of t
 abbrev behind : Option (ℕ × Story) → ℕ → Option Story → Option Story

@@ -1,4 +1,4 @@
-use Rattle.std.proofs.Common.{◌≡◌, ◌≤◌, ℕ, length}
+use Rattle.std.proofs.Common.{◌≡◌, ℕ, length}
 use Rattle.run_state.specs.Kept.{is_marked}
 use Rattle.run_state.proofs.marks.reach.Given as goal
 

@@ -1,4 +1,4 @@
-use Rattle.std.proofs.Common.{◌≡◌, arith}
+use Rattle.std.proofs.Common.{arith}
 use Rattle.std.proofs.lemmas.Grind.{common_steps}
 use Rattle.run_state.proofs.Keeping.{keeps-act}
 use Rattle.run_state.proofs.states.RunState.keep.Goals as goal
