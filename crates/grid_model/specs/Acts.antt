@@ -25,6 +25,7 @@ EachSent P [] = Unit {0}
 EachSent P (act.Sent m x y said ∷ past) = P x said × EachSent P past
 EachSent P (a ∷ past) = EachSent P past
 
+-- two causes are the same
 abbrev pub is_same_cause : Cause → Cause → Bool
 is_same_cause (cause.Holder u) (cause.Holder w) = u == w
 is_same_cause (cause.Newer k f) (cause.Newer l g) = same_key k l && f == g

@@ -47,6 +47,7 @@ taken_step k v w = record { mine = put w.mine k v; latest = put w.latest k v }
 abbrev pub write_step : Key → Expr → Walk → Walk
 write_step k e w = record w { mine = put w.mine k (expr_value w.latest e) }
 
+-- what comes where a value was taken, or what stops where none was
 abbrev pub if_taken : {A : Type 0} → Option Value → A → (Value → A) → A
 if_taken None stop go = stop
 if_taken (Some v) stop go = go v
@@ -80,10 +81,12 @@ abbrev pub date_by : Ident → Option Ident → Date
 date_by sid0 None = date.First sid0
 date_by sid0 (Some sid) = date.At sid
 
+-- a message to a node, where there is one
 abbrev pub to_node : Option NodeId → Message → List Out
 to_node None said = []
 to_node (Some n) said = out.Send n said ∷ []
 
+-- the request of an operation, where there is one
 abbrev pub request_of : ClusterData → Open → ℕ → ℕ → Option Op → List Out
 request_of c x j q None = []
 request_of c x j q (Some o) = to_node (slice_get (preferred c.places x.script.home (key_of o)) q) (message.ReadReq (record { t = x.script.number; op = j; key = key_of o; date = date_by x.sid0 x.sid }))

@@ -47,6 +47,7 @@ Genuine d h = EachAct (IsGenuineAct d) h
 
 -- ---- causes
 
+-- the cause by a holder, else by a newer version, else none
 abbrev pub cause_by : Option TxId → Option (Key × Ident) → Option Cause
 cause_by (Some u) newer = Some (cause.Holder u)
 cause_by None (Some x) = Some (cause.Newer x.0 x.1)
@@ -56,18 +57,22 @@ cause_by None None = None
 abbrev pub cause_of : List Record → Prepare → Option Cause
 cause_of r q = cause_by (holder r q.t q.reads q.writes) (newer r q.reads q.sid)
 
+-- why these records refuse t, where the message is its Prepare
 abbrev pub refusal_of : List Record → TxId → Option Message → Option Cause
 refusal_of r t (Some (message.Prepare q)) = if q.t == t then cause_of r q else None
 refusal_of r t o = None
 
+-- what an envelope says
 abbrev pub said_in : Option Envelope → Option Message
 said_in None = None
 said_in (Some e) = Some e.message
 
+-- there is a script, and it has a write
 abbrev pub is_update_in : Option ScriptData → Bool
 is_update_in None = false
 is_update_in (Some s) = is_update s.ops
 
+-- there is a script, and its transaction is reading or collecting
 abbrev pub is_open_in : DocumentData → List Act → Option ScriptData → Bool
 is_open_in d past None = false
 is_open_in d past (Some s) = is_open (phase d past s)
@@ -91,18 +96,22 @@ Caused d h = EachBehind (IsCausedAct d) (after [] h)
 
 -- ---- what an unfinished transaction waits for
 
+-- a read request of operation j of t
 abbrev pub is_request_of : TxId → ℕ → Message → Bool
 is_request_of t j (message.ReadReq q) = q.t == t && q.op == j
 is_request_of t j said = false
 
+-- a read reply for operation j of t
 abbrev pub is_reply_of : TxId → ℕ → Message → Bool
 is_reply_of t j (message.ReadRep q) = q.t == t && q.op == j
 is_reply_of t j said = false
 
+-- a Prepare of t
 abbrev pub is_prepare_of : TxId → Message → Bool
 is_prepare_of t (message.Prepare q) = q.t == t
 is_prepare_of t said = false
 
+-- a vote on t
 abbrev pub is_vote_of : TxId → Message → Bool
 is_vote_of t (message.Vote u b) = u == t
 is_vote_of t said = false
@@ -113,6 +122,7 @@ has_sent p [] = false
 has_sent p (act.Sent m x y said ∷ past) = p x y said || has_sent p past
 has_sent p (a ∷ past) = has_sent p past
 
+-- there is an envelope, and it passes the test
 abbrev pub passes : (NodeId → NodeId → Message → Bool) → Option Envelope → Bool
 passes p None = false
 passes p (Some e) = p e.from e.to e.message
@@ -185,6 +195,7 @@ pub data IsLog (x : Node) (log : List Record) : Type 0 where
 pub record AreLogs (d : DocumentData) (past : List Act) (logs : NodeId → List Record) : Type 0 where
   pub each : (n : NodeId) → IsLog (node d past n) (logs n)
 
+-- the writes of a Prepared, where there is one
 abbrev pub writes_at : Option Prepared → Option (List (Key × Value))
 writes_at None = None
 writes_at (Some q) = Some q.writes

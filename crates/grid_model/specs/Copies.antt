@@ -53,6 +53,7 @@ order d past = fold insert_last [] (all_decisions d past)
 
 -- ---- the copy
 
+-- the map behind a script, where there is one
 abbrev pub script_map : Option ScriptData → Map → Map
 script_map None m = m
 script_map (Some s) m = map_behind m s.ops
@@ -79,6 +80,7 @@ shown (act.Taken u j sid v ∷ past) t = if u == t then shown past t ++ (j, v) �
 shown (act.Own u j v ∷ past) t = if u == t then shown past t ++ (j, v) ∷ [] else shown past t
 shown (a ∷ past) t = shown past t
 
+-- the reads of a script on a map, where there is one
 abbrev pub script_reads : Option ScriptData → Map → List (ℕ × Value)
 script_reads None m = []
 script_reads (Some s) m = reads_on m s.ops
@@ -93,6 +95,7 @@ is_finished [] t = false
 is_finished (act.Finished u ∷ past) t = (u == t) || is_finished past t
 is_finished (a ∷ past) t = is_finished past t
 
+-- the snapshot identifier by a story
 abbrev pub snapshot_in : Option Story → Ident
 snapshot_in None = 0
 snapshot_in (Some x) = first_sid x.sid x.sid0
@@ -102,6 +105,7 @@ snapshot_in (Some x) = first_sid x.sid x.sid0
 abbrev pub snapshot : DocumentData → List Act → TxId → Ident
 snapshot d past t = snapshot_in (story d past t)
 
+-- the key of an operation, where there is one
 abbrev pub op_key : Option Op → Option Key
 op_key None = None
 op_key (Some o) = Some (key_of o)
@@ -113,6 +117,7 @@ key_at (Some s) j = op_key (op_at s.ops j)
 
 -- ---- one copy
 
+-- the value is that of the key in the copy; an operation without a key has none
 abbrev pub ReadsCopy : DocumentData → List Act → Ident → Value → Option Key → Type 0
 ReadsCopy d past sid v None = ⊥
 ReadsCopy d past sid v (Some k) = v ≡ copy d past sid k

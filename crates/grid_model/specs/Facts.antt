@@ -67,6 +67,7 @@ is_given_up t (act.Aborted u n why ∷ past) = (u == t) || is_given_up t past
 is_given_up t (act.Lost u ∷ past) = (u == t) || is_given_up t past
 is_given_up t (a ∷ past) = is_given_up t past
 
+-- the parts of t by the document
 abbrev pub parts_at : DocumentData → TxId → List NodeId
 parts_at d t = parts_in d (script_of t d.scripts)
 
@@ -91,6 +92,7 @@ MessagesBacked d past = EachSent (Says d past) past
 
 -- ---- an abort message means that the transaction can never commit
 
+-- a message that n sent which tells an abort: its transaction is given up or over
 abbrev pub MeansNever : DocumentData → List Act → NodeId → Message → Type 0
 MeansNever d past n (message.Tell t outcome.Abort) = IsTrue (is_given_up t past || is_over d past t)
 MeansNever d past n said = Unit {0}
@@ -120,6 +122,7 @@ ServedPromised d past = (n : NodeId) (t : TxId) (j : ℕ) (k : Key) (sid vn : Id
 
 -- ---- locks exclude conflicts
 
+-- two Prepared share no key that one of them writes
 abbrev pub are_apart : Option Prepared → Option Prepared → Bool
 are_apart None y = true
 are_apart (Some x) y = not (conflicts_with y x.reads x.writes)
@@ -144,10 +147,12 @@ DecisionsRest d past = (n : NodeId) (t : TxId) (f : Ident) → IsTrue (has_decid
 
 -- ---- every delivered message is fit
 
+-- there is a message, and it is fit at its receiver behind this past
 abbrev pub IsFitAt : DocumentData → List Act → Option Envelope → Type 0
 IsFitAt d past None = ⊥
 IsFitAt d past (Some e) = IsTrue (is_fit e.to (view d past e.to) e.from e.message)
 
+-- an act that gets a message gets a fit one
 abbrev pub GotIsFit : DocumentData → Act → List Act → Type 0
 GotIsFit d (act.Got m) past = IsFitAt d past (sent_at m (sent past))
 GotIsFit d a past = Unit {0}
@@ -158,6 +163,7 @@ AllFit d past = EachBehind (GotIsFit d) past
 
 -- ---- reads that are never held, and identifiers
 
+-- an act that holds a read holds one above the commit identifier
 abbrev pub HeldIsAbove : DocumentData → Act → List Act → Type 0
 HeldIsAbove d (act.Held n t j sid) past = commit_id (journal d past n) < sid
 HeldIsAbove d a past = Unit {0}
@@ -166,14 +172,17 @@ HeldIsAbove d a past = Unit {0}
 abbrev pub NeverHeldBelow : DocumentData → List Act → Type 0
 NeverHeldBelow d past = EachBehind (HeldIsAbove d) past
 
+-- the final identifier of an outcome, or 0
 abbrev pub outcome_ident : Outcome → Ident
 outcome_ident (outcome.Commit f) = f
 outcome_ident outcome.Abort = 0
 
+-- the identifier of a cause, or 0
 abbrev pub cause_ident : Cause → Ident
 cause_ident (cause.Holder u) = 0
 cause_ident (cause.Newer k f) = f
 
+-- the greatest identifier that a message names, or 0
 abbrev pub message_ident : Message → Ident
 message_ident (message.ReadReq q) = date_ident q.date
 message_ident (message.ReadRep q) = q.sid
@@ -183,6 +192,7 @@ message_ident (message.Vote t (ballot.No why)) = cause_ident why
 message_ident (message.Tell t o) = outcome_ident o
 message_ident said = 0
 
+-- the identifier of the head of a record, or 0
 abbrev pub head_ident : Option Head → Ident
 head_ident (Some (head.Prepared t p)) = p
 head_ident (Some (head.Ended t o)) = outcome_ident o
@@ -208,6 +218,7 @@ act_ident (act.Aborted t n why) = cause_ident why
 act_ident (act.Down n h) = head_ident h
 act_ident a = 0
 
+-- no identifier that an act names is above this
 abbrev pub IsAtMost : Ident → Act → Type 0
 IsAtMost most a = act_ident a ≤ most
 

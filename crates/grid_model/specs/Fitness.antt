@@ -28,6 +28,7 @@ date_ident (date.At sid) = sid
 abbrev pub is_fit_request : ClusterData → NodeId → ReadReq → Bool
 is_fit_request c n q = is_small (date_ident q.date) && (nat_le 1 q.op && (nat_le q.op 32 && holds c.places n q.key))
 
+-- the identifier is this one, where there is one
 abbrev pub is_same_ident : Ident → Option Ident → Bool
 is_same_ident sid None = true
 is_same_ident sid (Some s) = s == sid
@@ -58,6 +59,7 @@ is_part_at c (Collects x) y = is_among y (parts_now c x)
 is_part_at c (Commits x acks) y = is_among y x.parts
 is_part_at c s y = true
 
+-- the identifier is at least this one, where there is one
 abbrev pub is_at_least : Option Ident → Ident → Bool
 is_at_least None f = true
 is_at_least (Some p) f = nat_le p f

@@ -27,6 +27,7 @@ pub record Prepared : Type 0 where
   pub reads : List Key
   pub writes : List (Key × Value)
 
+-- the older of two Prepared of one transaction
 abbrev pub older : Option Prepared → Prepared → Option Prepared
 older (Some first) this = Some first
 older None this = Some this
@@ -90,6 +91,7 @@ ended t [] = None
 ended t (record'.Ended u o ∷ r) = if u == t then Some o else ended t r
 ended t (x ∷ r) = ended t r
 
+-- the outcome is a commit
 abbrev pub is_commit : Option Outcome → Bool
 is_commit (Some (outcome.Commit f)) = true
 is_commit (Some outcome.Abort) = false
@@ -101,6 +103,7 @@ commits [] = []
 commits (record'.Ended u (outcome.Commit f) ∷ r) = (u, f) ∷ commits r
 commits (x ∷ r) = commits r
 
+-- those of the commits above which every pending proposal is
 abbrev pub applied_of : List Record → List (TxId × Ident) → List (TxId × Ident)
 applied_of r [] = []
 applied_of r (x ∷ xs) = if is_clear x.1 r then x ∷ applied_of r xs else applied_of r xs
@@ -109,6 +112,7 @@ applied_of r (x ∷ xs) = if is_clear x.1 r then x ∷ applied_of r xs else appl
 abbrev pub applied : List Record → List (TxId × Ident)
 applied r = applied_of r (commits r)
 
+-- the greatest of these identifiers, or 0
 abbrev pub greatest : List (TxId × Ident) → Ident
 greatest [] = 0
 greatest (x ∷ xs) = max x.1 (greatest xs)
@@ -134,6 +138,7 @@ abbrev pub written_value : Key → List (Key × Value) → Option Value
 written_value k [] = None
 written_value k (x ∷ xs) = if same_key x.0 k then Some x.1 else written_value k xs
 
+-- what a Prepared writes to k, where there is one
 abbrev pub wrote_in : Option Prepared → Key → Option Value
 wrote_in None k = None
 wrote_in (Some x) k = written_value k x.writes
@@ -142,6 +147,7 @@ wrote_in (Some x) k = written_value k x.writes
 abbrev pub is_behind : Ident → TxId → Version → Bool
 is_behind f u v = nat_lt v.ident f || (v.ident == f && nat_lt v.of u)
 
+-- the later of a version and of what a commit wrote
 abbrev pub later : Ident → TxId → Option Value → Version → Version
 later f u None best = best
 later f u (Some v) best = if is_behind f u best then record { ident = f; of = u; value = v } else best
@@ -170,6 +176,7 @@ newest r k = (newest_version r k 0).ident
 
 -- ---- conflicts
 
+-- the keys of these writes
 abbrev pub keys_in : List (Key × Value) → List Key
 keys_in xs = map (λ x. x.0) xs
 
@@ -182,10 +189,12 @@ shares (x ∷ xs) ks = is_key_among x ks || shares xs ks
 abbrev pub conflict : List Key → List (Key × Value) → List Key → List (Key × Value) → Bool
 conflict reads writes reads' writes' = shares (keys_in writes) reads' || (shares (keys_in writes) (keys_in writes') || shares reads (keys_in writes'))
 
+-- a Prepared, where there is one, conflicts with these reads and writes
 abbrev pub conflicts_with : Option Prepared → List Key → List (Key × Value) → Bool
 conflicts_with None reads writes = false
 conflicts_with (Some x) reads writes = conflict x.reads x.writes reads writes
 
+-- the outcome is a commit that is not applied
 abbrev pub is_unapplied : Option Outcome → List Record → Bool
 is_unapplied (Some (outcome.Commit f)) r = not (is_clear f r)
 is_unapplied (Some outcome.Abort) r = false
@@ -195,13 +204,16 @@ is_unapplied None r = false
 abbrev pub is_locking : TxId → List Record → Bool
 is_locking u r = is_some (pending u r) || is_unapplied (ended u r) r
 
+-- the lesser of a number and of another, where there is one
 abbrev pub lesser : TxId → Option TxId → Option TxId
 lesser u None = Some u
 lesser u (Some v) = if nat_lt u v then Some u else Some v
 
+-- u is another transaction than t, locks its keys, and conflicts with these reads and writes
 abbrev pub holds_out : TxId → List Record → TxId → List Key → List (Key × Value) → Bool
 holds_out u r t reads writes = not (u == t) && (is_locking u r && conflicts_with (prepared_of u r) reads writes)
 
+-- the least of these transactions that holds a key against t
 abbrev pub holder_among : List TxId → List Record → TxId → List Key → List (Key × Value) → Option TxId
 holder_among [] r t reads writes = None
 holder_among (u ∷ us) r t reads writes = if holds_out u r t reads writes then lesser u (holder_among us r t reads writes) else holder_among us r t reads writes

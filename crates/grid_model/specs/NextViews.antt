@@ -33,14 +33,17 @@ use Rattle.grid_model.specs.Rows.{begun_at}
 
 -- ---- a message that is got
 
+-- the transaction is collecting
 abbrev pub is_collects : Stage → Bool
 is_collects (Collects x) = true
 is_collects s = false
 
+-- the transaction is decided
 abbrev pub is_commits : Stage → Bool
 is_commits (Commits y acks) = true
 is_commits s = false
 
+-- an open transaction with a change, where there is one
 abbrev pub changed_open : (Open → Open) → Option Open → Option Open
 changed_open f None = None
 changed_open f (Some x) = Some (f x)
@@ -57,6 +60,7 @@ desk_heard n v x (message.Vote u (ballot.Yes p)) t =
     else v.desk t
 desk_heard n v x said t = v.desk t
 
+-- a node among these, once
 abbrev pub with_node : NodeId → List NodeId → List NodeId
 with_node x ns = if is_among x ns then ns else ns ++ x ∷ []
 
@@ -79,6 +83,7 @@ abbrev pub is_running : Option Story → Bool
 is_running None = false
 is_running (Some x) = not x.lost
 
+-- a standing decision of t at n is of a transaction of n that runs
 abbrev pub is_own_decision : DocumentData → List Act → NodeId → TxId → Bool
 is_own_decision d past n t = is_none (undone t (journal d past n)) || (is_home d t n && is_running (story d past t))
 
@@ -98,6 +103,7 @@ abbrev pub script_begun : Event → Option ScriptData
 script_begun (event.Begin s) = Some s
 script_begun e = None
 
+-- the Decided of an open transaction, where there is one
 abbrev pub decided_by : Option Open → ClusterData → TxId → Ident → Option Record
 decided_by None c t f = None
 decided_by (Some x) c t f = Some (record'.Decided t f (parts_now c x))
@@ -122,6 +128,7 @@ held_behind e hs (out.Act (act.Held n t op sid)) = with_held (held_by e t op sid
 held_behind e hs (out.Act (act.Served n t op k sid vn v)) = if is_request (said_by e) then hs else without_read t op k sid hs
 held_behind e hs o = hs
 
+-- the transaction that a script opens where nothing is decided of it
 abbrev pub opened_by : Option Decision → Option ScriptData → Ident → Option Open
 opened_by y None sid0 = None
 opened_by None (Some s) sid0 = Some (begun_at s sid0)

@@ -36,10 +36,12 @@ script_of t (s ∷ ss) = if s.number == t then Some s else script_of t ss
 abbrev pub parts_of : DocumentData → ScriptData → List NodeId
 parts_of d s = parts d.cluster.places (keys_of s.ops)
 
+-- the parts of a script, where there is one
 abbrev pub parts_in : DocumentData → Option ScriptData → List NodeId
 parts_in d None = []
 parts_in d (Some s) = parts_of d s
 
+-- n is the home of a script, where there is one
 abbrev pub is_home_in : Option ScriptData → NodeId → Bool
 is_home_in None n = false
 is_home_in (Some s) n = s.home == n
@@ -56,6 +58,7 @@ got [] = None
 got (act.Got m ∷ past) = sent_at m (sent past)
 got (a ∷ past) = got past
 
+-- the Prepared of t behind a message from x, where it is a Prepare
 abbrev pub prepared_from : NodeId → Message → TxId → Ident → Option Record
 prepared_from x (message.Prepare q) t p = Some (record'.Prepared t x q.parts q.sid p q.reads q.writes)
 prepared_from x said t p = None
@@ -73,10 +76,12 @@ record_of d e (head.Ceiling c) = Some (record'.Ceiling c)
 record_of d e (head.Decided t f) = Some (record'.Decided t f (parts_in d (script_of t d.scripts)))
 record_of d e (head.Closed t) = Some (record'.Closed t)
 
+-- the record of a head, where there is one
 abbrev pub doubt_of : DocumentData → Option Envelope → Option Head → Option Record
 doubt_of d e None = None
 doubt_of d e (Some h) = record_of d e h
 
+-- the read that is held behind a message from x, where it is a read request
 abbrev pub held_from : NodeId → Message → TxId → ℕ → Ident → Option HeldRead
 held_from x (message.ReadReq q) t op sid = Some (record { t = t; op = op; sid = sid; key = q.key; from = x })
 held_from x said t op sid = None
@@ -88,6 +93,7 @@ held_by (Some e) t op sid = held_from e.from e.message t op sid
 
 -- ---- what an act changes at one node
 
+-- nothing; a record is written, the clock raised, a read held, a held read freed; the node stops, is opened, or could not be opened
 pub data Change : Type 0 where
   Nothing : Change
   Writes : Option Record → Change
@@ -98,14 +104,17 @@ pub data Change : Type 0 where
   Starts : Bool → Change
   Stays : Change
 
+-- the change, where it is at this node
 abbrev pub where_at : Bool → Change → Change
 where_at true x = x
 where_at false x = Nothing
 
+-- there is a message, and it is a read request
 abbrev pub is_request : Option Message → Bool
 is_request (Some (message.ReadReq q)) = true
 is_request o = false
 
+-- what an envelope says
 abbrev pub said_by : Option Envelope → Option Message
 said_by None = None
 said_by (Some e) = Some e.message
@@ -115,6 +124,7 @@ abbrev pub freed : Bool → TxId → ℕ → Key → Ident → Change
 freed true t op k sid = Nothing
 freed false t op k sid = Frees t op k sid
 
+-- the opening found the record
 abbrev pub is_kept : Flag → Bool
 is_kept flag.Kept = true
 is_kept flag.Gone = false
@@ -148,6 +158,7 @@ pub record Node : Type 0 where
 abbrev pub blank : Node
 blank = record { journal = []; doubt = None; next = 0; held = []; up = false }
 
+-- the journal with one record more, where there is one
 abbrev pub written : Option Record → List Record → List Record
 written None r = r
 written (Some x) r = x ∷ r
@@ -158,10 +169,12 @@ learnt (Some (record'.Prepared t home parts sid p reads writes)) next = max p ne
 learnt (Some (record'.Ended t (outcome.Commit f))) next = max f next
 learnt o next = next
 
+-- the held reads with one more, where there is one
 abbrev pub with_held : Option HeldRead → List HeldRead → List HeldRead
 with_held None hs = hs
 with_held (Some h) hs = hs ++ h ∷ []
 
+-- a held read is of this transaction, operation, key and identifier
 abbrev pub is_read : TxId → ℕ → Key → Ident → HeldRead → Bool
 is_read t op k sid h = (h.t == t) && ((h.op == op) && (same_key h.key k && (h.sid == sid)))
 
@@ -170,6 +183,7 @@ abbrev pub without_read : TxId → ℕ → Key → Ident → List HeldRead → L
 without_read t op k sid [] = []
 without_read t op k sid (h ∷ hs) = if is_read t op k sid h then hs else h ∷ without_read t op k sid hs
 
+-- the journal of an opening: with the record in doubt where it was found
 abbrev pub found : Bool → Option Record → List Record → List Record
 found true o r = written o r
 found false o r = r

@@ -60,9 +60,11 @@ dated (date.At sid) c = sid
 abbrev pub ceiling_of : Ident → Ident
 ceiling_of sid = 64 * ((sid + 63) / 64)
 
+-- the promise that a read needs where its identifier is above the floor
 abbrev pub ceilings : NodeId → Ident → Ident → List Out
 ceilings n floor sid = if nat_lt floor sid then out.Act (act.Ceiling n (ceiling_of sid)) ∷ [] else []
 
+-- the clock is raised where the identifier is above it
 abbrev pub raises : NodeId → Ident → Ident → List Out
 raises n next sid = if nat_lt next sid then out.Act (act.Raised n sid) ∷ [] else []
 
@@ -82,6 +84,7 @@ reply_row c q s = []
 
 -- ---- votes
 
+-- a refusal, and the no to x
 abbrev pub refused : NodeId → NodeId → TxId → Cause → List Out
 refused n x t why = out.Act (act.Refused n t why) ∷ (out.Send x (message.Vote t (ballot.No why)) ∷ [])
 
@@ -108,6 +111,7 @@ prepare_outs n v x q = prepare_row n x q.t (ended q.t v.journal) (pending q.t v.
 abbrev pub tells : TxId → Outcome → List NodeId → List Out
 tells t o ns = map (λ n. out.Send n (message.Tell t o)) ns
 
+-- the greatest proposal of these votes, or 0
 abbrev pub greatest_vote : List Voted → Ident
 greatest_vote [] = 0
 greatest_vote (v ∷ vs) = max v.p (greatest_vote vs)
@@ -120,6 +124,7 @@ have_voted ns votes = list_all (λ n. has_voted n votes) ns
 abbrev pub decides : TxId → Ident → List NodeId → List Out
 decides t f ns = out.Act (act.Decided t f) ∷ (out.Act (act.Finished t) ∷ tells t (outcome.Commit f) ns)
 
+-- the decision, where all parts have voted
 abbrev pub full_row : TxId → List NodeId → List Voted → List Out
 full_row t ns votes = if have_voted ns votes then decides t (greatest_vote votes) ns else []
 
@@ -137,6 +142,7 @@ vote_row c t x b s = []
 abbrev pub are_all_among : List NodeId → List NodeId → Bool
 are_all_among ns ms = list_all (λ n. is_among n ms) ns
 
+-- the end of the commit, where all parts have acknowledged
 abbrev pub closed_row : TxId → List NodeId → List NodeId → List Out
 closed_row t ns acks = if are_all_among ns acks then out.Act (act.Closed t) ∷ [] else []
 
@@ -202,9 +208,11 @@ begun_at s sid0 = record { script = s; sid0 = sid0; sid = None; values = []; vot
 abbrev pub begin_outs : NodeId → View → ScriptData → List Out
 begin_outs n v s = out.Act (act.Began s.number n (commit_id v.journal)) ∷ advance v.cluster (begun_at s (commit_id v.journal)) 0
 
+-- those of the nodes that have not voted
 abbrev pub not_voted : List NodeId → List Voted → List NodeId
 not_voted ns votes = filter (λ n. not (has_voted n votes)) ns
 
+-- those of the nodes that are not among the others
 abbrev pub not_among : List NodeId → List NodeId → List NodeId
 not_among ns ms = filter (λ n. not (is_among n ms)) ns
 

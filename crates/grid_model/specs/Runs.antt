@@ -46,14 +46,17 @@ is_record_at d (act.Decided t f) n = is_home d t n
 is_record_at d (act.Closed t) n = is_home d t n
 is_record_at d a n = false
 
+-- there is no record
 abbrev pub is_empty : List Record → Bool
 is_empty [] = true
 is_empty (x ∷ r) = false
 
+-- an armed fuse behind one record more
 abbrev pub with_record : Bool → Option Fuse → Option Fuse
 with_record b None = None
 with_record b (Some x) = if b then Some (record x { records = x.records + 1 }) else Some x
 
+-- an armed fuse behind one more opening of an empty journal
 abbrev pub with_opening : Bool → Option Fuse → Option Fuse
 with_opening b None = None
 with_opening b (Some x) = if b then Some (record x { opened = x.opened + 1 }) else Some x
@@ -113,11 +116,13 @@ is_stop (act.Down m (Some h)) n = m == n
 is_stop (act.StillDown m) n = m == n
 is_stop a n = false
 
+-- the stop of n by an act behind this past is by its fuse
 abbrev pub is_by_fuse : DocumentData → List Act → Act → NodeId → Bool
 is_by_fuse d past (act.Down m (Some h)) n = stops_record (fuse d past n)
 is_by_fuse d past (act.StillDown m) n = stops_opening (fuse d past n) (journal d past n)
 is_by_fuse d past a n = false
 
+-- 1 for what is so, and 0 for what is not
 abbrev pub as_number : Bool → ℕ
 as_number true = 1
 as_number false = 0

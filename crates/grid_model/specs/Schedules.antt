@@ -42,10 +42,12 @@ head_of (act.Decided t f) = Some (head.Decided t f)
 head_of (act.Closed t) = Some (head.Closed t)
 head_of a = None
 
+-- the head of the record for which an out stands
 abbrev pub head_at : Out → Option Head
 head_at (out.Act a) = head_of a
 head_at (out.Send to said) = None
 
+-- an out whose record the disk does not keep is a Down, and ends the row
 abbrev pub stopped : NodeId → Option Head → Out → List Out → List Out
 stopped n None o rest = o ∷ rest
 stopped n (Some h) o rest = out.Act (act.Down n (Some h)) ∷ []
@@ -98,6 +100,7 @@ next_left past = first_left past 1 (length (sent past))
 abbrev pub acts_of : List Act → Choice → NodeId → List Out → List Act
 acts_of past c n os = numbered (next_number past) n (kept c.keeps n os)
 
+-- the begin of a script, where there is one: code 2 where its home is down
 abbrev pub begin_at : DocumentData → List Act → Choice → Option ScriptData → List Act
 begin_at d past c None = []
 begin_at d past c (Some s) = if (node d past s.home).up then acts_of past c s.home (begin_outs s.home (view d past s.home) s) else act.Void 2 ∷ []
@@ -155,6 +158,7 @@ flag_of None finds = flag.Untouched
 flag_of (Some x) true = flag.Kept
 flag_of (Some x) false = flag.Gone
 
+-- the loss of a script's transaction, where it is an open one of home n
 abbrev pub lost_at : DocumentData → List Act → NodeId → Option ScriptData → List Act
 lost_at d past n None = []
 lost_at d past n (Some s) = if (s.home == n) && is_open (phase d past s) then act.Lost s.number ∷ [] else []
@@ -187,6 +191,7 @@ row d past (item.Restart n) c = restart_row d past c n
 
 -- ---- the start, and the events of the items
 
+-- a node that comes up, or whose disk failed
 abbrev pub start_act : (NodeId → Bool) → NodeId → Act
 start_act opens n = if opens n then act.Up n flag.Untouched else act.StillDown n
 

@@ -30,6 +30,7 @@ use Rattle.grid_model.specs.Nodes.{Node, node, script_of, parts_of, is_home}
 
 -- ---- the phase
 
+-- where a transaction is: unbegun, lost, closed with its final identifier, decided, aborted, answered, reading an operation, or collecting
 pub data Phase : Type 0 where
   Unbegun : Phase
   Lost : Phase
@@ -45,6 +46,7 @@ abbrev pub value_taken : ℕ → List (ℕ × Value) → Option Value
 value_taken j [] = None
 value_taken j (x ∷ xs) = if x.0 == j then Some x.1 else value_taken j xs
 
+-- operation j waits where no value was taken for it
 abbrev pub first_open : Option Value → ℕ → Option ℕ → Option ℕ
 first_open (Some v) j rest = rest
 first_open None j rest = Some j
@@ -60,13 +62,16 @@ waiting_from j seen values (op.Write k e ∷ ops) = waiting_from (j + 1) (k ∷ 
 abbrev pub waiting : List Op → List (ℕ × Value) → Option ℕ
 waiting ops values = waiting_from 1 [] values ops
 
+-- an open transaction reads an operation, or collects
 abbrev pub open_phase : Option ℕ → Phase
 open_phase (Some j) = Reading j
 open_phase None = Collecting
 
+-- a transaction of which no decision stands
 abbrev pub undecided_phase : List Op → Story → Phase
 undecided_phase ops x = if x.aborted then Aborted else (if x.finished && not (is_update ops) then Answered else open_phase (waiting ops x.values))
 
+-- a transaction that was not lost, by the decision that stands
 abbrev pub decided_phase : List Op → Story → Bool → Option Decision → Phase
 decided_phase ops x closed None = undecided_phase ops x
 decided_phase ops x true (Some y) = Closed y.final
@@ -78,6 +83,7 @@ abbrev pub phase_by : List Op → Option Story → Bool → Option Decision → 
 phase_by ops None closed o = Unbegun
 phase_by ops (Some x) closed o = if x.lost then Lost else decided_phase ops x closed o
 
+-- the phase is collecting
 abbrev pub is_collecting : Phase → Bool
 is_collecting Collecting = true
 is_collecting p = false
@@ -98,6 +104,7 @@ is_small i = nat_lt i (2 ^ 22)
 abbrev pub is_small_node : List Record → Ident → Bool
 is_small_node r next = is_small (floor r) && is_small next
 
+-- the identifier of a cause is small
 abbrev pub is_small_cause : Cause → Bool
 is_small_cause (cause.Holder u) = true
 is_small_cause (cause.Newer k f) = is_small f
@@ -120,6 +127,7 @@ is_part ns p x = true
 abbrev pub begun : Ident → Story
 begun sid0 = record { sid0 = sid0; turn = 0; sid = None; values = []; votes = []; acks = []; finished = false; aborted = false; lost = false }
 
+-- the identifier that is there, or else this one
 abbrev pub first_sid : Option Ident → Ident → Ident
 first_sid None sid = sid
 first_sid (Some s) sid = s
@@ -136,6 +144,7 @@ with_request r x = record x { turn = place_behind r x.turn }
 abbrev pub with_value : ℕ → Ident → Value → Story → Story
 with_value j sid v x = record x { turn = 0; sid = Some (first_sid x.sid sid); values = x.values ++ (j, v) ∷ [] }
 
+-- a vote of n is among these
 abbrev pub has_voted : NodeId → List Voted → Bool
 has_voted n vs = list_any (λ v. v.from == n) vs
 
@@ -143,6 +152,7 @@ has_voted n vs = list_any (λ v. v.from == n) vs
 abbrev pub with_vote : NodeId → Ident → Story → Story
 with_vote n p x = if has_voted n x.votes then x else record x { votes = x.votes ++ record { from = n; p = p } ∷ [] }
 
+-- each part is noted once
 abbrev pub with_ack : NodeId → Story → Story
 with_ack n x = if is_among n x.acks then x else record x { acks = x.acks ++ n ∷ [] }
 
@@ -150,6 +160,7 @@ with_ack n x = if is_among n x.acks then x else record x { acks = x.acks ++ n �
 abbrev pub without_answers : Story → Story
 without_answers x = record x { votes = []; acks = [] }
 
+-- the story with a change, where it was told
 abbrev pub if_told : Bool → (Story → Story) → Option Story → Option Story
 if_told b f None = None
 if_told true f (Some x) = Some (f x)
@@ -159,6 +170,7 @@ if_told false f (Some x) = Some x
 abbrev pub is_counted_vote : List NodeId → Phase → List Record → Ident → NodeId → Ident → Bool
 is_counted_vote ns p r next x proposal = is_collecting p && (is_small_node r next && (is_fit_ballot (ballot.Yes proposal) && is_part ns p x))
 
+-- the phase is decided
 abbrev pub is_decided : Phase → Bool
 is_decided (Decided y) = true
 is_decided p = false
@@ -177,11 +189,13 @@ heard ns p h t x said o = o
 abbrev pub phase_at : ScriptData → Option Story → Node → Phase
 phase_at s o h = phase_by s.ops o (is_closed s.number h.journal) (decision s.number h.journal)
 
+-- the story behind a message, where the transaction has a script and the message comes to its home
 abbrev pub heard_at : DocumentData → List Act → Option ScriptData → Option Envelope → Option Story → Option Story
 heard_at d past None e o = o
 heard_at d past s None o = o
 heard_at d past (Some s) (Some e) o = if e.to == s.home then heard (parts_of d s) (phase_at s o (node d past s.home)) (node d past s.home) s.number e.from e.message o else o
 
+-- the story behind a message that is sent: a read request turns to the next holder
 abbrev pub asked : DocumentData → TxId → Message → Option Story → Option Story
 asked d t (message.ReadReq q) o = if_told (q.t == t) (with_request (length (holders d.cluster.places q.key))) o
 asked d t said o = o

@@ -38,9 +38,11 @@ pub record View : Type 0 where
 
 -- ---- the view behind a history
 
+-- what a home knows of an open transaction, by its story
 abbrev pub open_of : ScriptData → Story → Open
 open_of s x = record { script = s; sid0 = x.sid0; sid = x.sid; values = x.values; votes = x.votes; turn = x.turn }
 
+-- the same, where the phase is an open one
 abbrev pub open_by : ScriptData → Phase → Option Story → Option Open
 open_by s p None = None
 open_by s p (Some x) = if is_open p then Some (open_of s x) else None
@@ -50,6 +52,7 @@ abbrev pub open_at : NodeId → Node → Option ScriptData → Option Story → 
 open_at n h None o = None
 open_at n h (Some s) o = if s.home == n then open_by s (phase_at s o h) o else None
 
+-- the acknowledgements in a story
 abbrev pub acks_by : Option Story → List NodeId
 acks_by None = []
 acks_by (Some x) = x.acks
@@ -77,16 +80,19 @@ view d past n = view_of d n (node d past n) (story d past)
 
 -- ---- where a transaction stands for its home
 
+-- none of the others; reading an operation; collecting; decided, with these acknowledgements
 pub data Stage : Type 0 where
   Apart : Stage
   Reads : Open → ℕ → Stage
   Collects : Open → Stage
   Commits : Decision → List NodeId → Stage
 
+-- an open transaction reads an operation, or collects
 abbrev pub open_stage : Open → Option ℕ → Stage
 open_stage x None = Collects x
 open_stage x (Some j) = Reads x j
 
+-- a decision comes first, then what is open
 abbrev pub stage_by : Option Decision → Option Open → List NodeId → Stage
 stage_by (Some y) o acks = Commits y acks
 stage_by None (Some x) acks = open_stage x (waiting x.script.ops x.values)

@@ -56,6 +56,7 @@ is_marked xs m = slice_index_or xs m false
 
 -- ---- nodes
 
+-- the home of a script, where there is one
 abbrev pub home_in : Option ScriptData → Option NodeId
 home_in None = None
 home_in (Some s) = Some s.home
@@ -86,6 +87,7 @@ abbrev pub retold : TxId → (Story → Story) → Option Story → Option (TxId
 retold t f None = None
 retold t f (Some x) = Some (t, f x)
 
+-- a story with its transaction, where there is one
 abbrev pub paired : TxId → Option Story → Option (TxId × Story)
 paired t None = None
 paired t (Some x) = Some (t, x)
@@ -96,10 +98,12 @@ voter (message.Vote t b) = Some t
 voter (message.Ack t) = Some t
 voter said = None
 
+-- the story that a message changes, where its transaction has a script and this is its home
 abbrev pub hearing_at : DocumentData → List Act → Envelope → TxId → Option ScriptData → Option (TxId × Story)
 hearing_at d past e t None = None
 hearing_at d past e t (Some s) = if e.to == s.home then paired t (heard (parts_of d s) (phase_at s (story d past t) (node d past s.home)) (node d past s.home) s.number e.from e.message (story d past t)) else None
 
+-- the story that a message of a voter changes
 abbrev pub hearing_of : DocumentData → List Act → Envelope → Option TxId → Option (TxId × Story)
 hearing_of d past e None = None
 hearing_of d past e (Some t) = hearing_at d past e t (script_of t d.scripts)
@@ -130,6 +134,7 @@ abbrev pub put_telling : Option (TxId × Story) → List (ℕ × Story) → List
 put_telling None xs = xs
 put_telling (Some x) xs = put_key x.0 x.1 xs
 
+-- one story where node n stops
 abbrev pub forgotten_one : DocumentData → NodeId → ℕ × Story → ℕ × Story
 forgotten_one d n x = (x.0, if is_home d x.0 n then without_answers x.1 else x.1)
 
