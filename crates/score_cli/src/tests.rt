@@ -172,6 +172,39 @@ fn faults(rt: HostRuntime) {
     assert!(rt; called(alloc, "run", HEAD, EMPTY_SCHEDULE, 0, 1, 5, ""));
 }
 
+/// The text of a run of so many events that change nothing.
+fn text_of_voids(alloc: Global, count: usize) -> Result<Vec<u8>, Memory> {
+    let mut text = Vec::from_slice(alloc, b"up n1 none\nup n2 none\n")?;
+    for _ in 0..count {
+        text.extend_from_slice(b"void 4\n")?;
+    }
+    text.extend_from_slice(b"summary\nkey a n2 10 0\nkey b n1 0 0\n")?;
+    Ok(text)
+}
+
+/// As many events as a schedule may have, with no message to deliver.
+fn are_all_void(alloc: Global) -> Result<bool, Memory> {
+    let words = words_of(alloc, "run")?;
+    let bytes = bytes_of(alloc, HEAD, "schedule\nnext 50000\n")?;
+    let mut source = MemSource::new(bytes, Vec::new(alloc));
+    let mut sink = MemSink::new(alloc, Vec::new(alloc));
+    let status = score(alloc, &words, &mut source, &mut sink);
+    let text = text_of_voids(alloc, 50000)?;
+    Ok(status.code == 0 && sink.bytes() == text.as_slice())
+}
+
+#[test]
+fn event_limit(rt: HostRuntime) {
+    let alloc = rt.alloc();
+    assert!(rt; matches!(are_all_void(alloc), Ok(true)));
+    refuses(
+        &rt,
+        alloc,
+        "schedule\nnext 50000\nnext 1\n",
+        "refused 8 9\n",
+    );
+}
+
 /// An input of one byte more than is read.
 fn is_too_long(alloc: Global) -> Result<bool, Memory> {
     let bytes = vec![in alloc; 32u8; 4194305]?;
