@@ -16,3 +16,11 @@ pub mod NodesFit
 pub mod NodesFitActs
 pub mod MessagesBacked
 pub mod Promises
+pub mod Holds
+pub mod FullStories
+pub mod PreparesSay
+pub mod VotesBacked
+pub mod DecisionsRest
+pub mod AbortsFinal
+pub mod ClosedSay
+pub mod Instances

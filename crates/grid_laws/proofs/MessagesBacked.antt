@@ -98,7 +98,7 @@ refused-now n t why past = rw (same-number n, same-number t, same-cause why) ref
 served-now : (n : NodeId) (t : TxId) (j : ℕ) (k : Key) (sid vn : Ident) (v : Value) (past : List Act) → has_served n t j sid v (act.Served n t j k sid vn v ∷ past) ≡ true
 served-now n t j k sid vn v past = rw (same-number n, same-number t, same-number j, same-number sid, same-number v) refl
 
-says-due : (d : DocumentData) (past : List Act) (n y : NodeId) (said : Message) → IsFitNode d n (node d past n) → SendDue d past n y said → Says d past n said
+pub says-due : (d : DocumentData) (past : List Act) (n y : NodeId) (said : Message) → IsFitNode d n (node d past n) → SendDue d past n y said → Says d past n said
 says-due d past n y (message.Vote t (ballot.Yes p)) s due = pending-has t p (journal d past n) due.1
 says-due d past n y (message.Vote t (ballot.No why)) s due = (let P : List Act → Type 0 = λ p. has_refused n t why p ≡ true in subst P (sym due.2) (refused-now n t why due.1))
 says-due d past n y (message.Tell t (outcome.Commit f)) s due =

@@ -90,7 +90,7 @@ fits-due d past n t p s up due =
       seen = due.newer;
     })
 
-prepared-is : (d : DocumentData) (past : List Act) (n : NodeId) (t : TxId) (p : Ident) → (due : PreparedDue d past n t p) → prepared_by (got past) t p ≡ Some (record'.Prepared t due.from due.asked.prepare.parts due.asked.prepare.sid p due.asked.prepare.reads due.asked.prepare.writes)
+pub prepared-is : (d : DocumentData) (past : List Act) (n : NodeId) (t : TxId) (p : Ident) → (due : PreparedDue d past n t p) → prepared_by (got past) t p ≡ Some (record'.Prepared t due.from due.asked.prepare.parts due.asked.prepare.sid p due.asked.prepare.reads due.asked.prepare.writes)
 prepared-is d past n t p due = rw due.asked.got refl
 
 over-next : (a b : ℕ) → nat_lt a (1 + max a b) ≡ true
@@ -141,7 +141,7 @@ Everywhere d past n c = FitChange d n (node d past n) c
 fit-record : (d : DocumentData) (past : List Act) (n : NodeId) (h : Head) → IsFitNode d n (node d past n) → RecordDue d past n h → Everywhere d past n (Writes (record_of d (got past) h))
 fit-record d past n h s due = let f = due-fits d past n h s due in fit-written d n (node d past n) (record_of d (got past) h) due.0 f.0 f.1 f.2
 
-closed-home : (d : DocumentData) (past : List Act) (n : NodeId) (t : TxId) → IsFitNode d n (node d past n) → ClosedDue d past n t → is_home d t n ≡ true
+pub closed-home : (d : DocumentData) (past : List Act) (n : NodeId) (t : TxId) → IsFitNode d n (node d past n) → ClosedDue d past n t → is_home d t n ≡ true
 closed-home d past n t s due =
     let is : undone t (node d due.before n).journal ≡ Some due.decision = stage-commits d due.before n t due.decision due.acks due.stage in
     let P : List Act → Type 0 = λ p. undone t (node d p n).journal ≡ Some due.decision in

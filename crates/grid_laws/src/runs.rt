@@ -7,7 +7,15 @@ ghost use Rattle.grid_model.specs.Histories.{after};
 ghost use Rattle.grid_model.specs.Journals.{all_fit};
 ghost use Rattle.grid_model.specs.Nodes.{journal};
 ghost use Rattle.grid_model.specs.Runs.{IsRun};
-ghost use Rattle.grid_model.specs.Facts.{LocksExclude, MessagesBacked, NeverHeldBelow, ServedPromised};
+ghost use Rattle.grid_model.specs.Facts.{
+  AbortsFinal,
+  DecisionsRest,
+  Facts,
+  LocksExclude,
+  MessagesBacked,
+  NeverHeldBelow,
+  ServedPromised,
+};
 
 /// Each record of each journal fits those before it.
 pub fn law_records_fit()
@@ -33,4 +41,20 @@ pub fn law_served_promised()
 /// A read at or below the commit identifier of its node is never held.
 pub fn law_never_held()
     ensures { (d : DocumentData) (h : List Act) → IsRun d d.items h → NeverHeldBelow d (after [] h) }
+{}
+
+/// A decision rests on every part: each has its Prepared, the final identifier is the greatest of the
+/// proposals, and it is above the snapshot identifier.
+pub fn law_decisions_rest()
+    ensures { (d : DocumentData) (h : List Act) → IsRun d d.items h → DecisionsRest d (after [] h) }
+{}
+
+/// A transaction of which an abort was told is given up, or every part has ended it with commit.
+pub fn law_aborts_final()
+    ensures { (d : DocumentData) (h : List Act) → IsRun d d.items h → AbortsFinal d (after [] h) }
+{}
+
+/// The facts on which one copy rests hold of every run, stops and restarts included.
+pub fn law_facts()
+    ensures { (d : DocumentData) (h : List Act) → IsRun d d.items h → Facts d h }
 {}

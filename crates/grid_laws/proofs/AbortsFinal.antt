@@ -1,0 +1,227 @@
+-- A transaction of which an abort was told can never commit.
+use Rattle.std.proofs.Common.{◌≡◌, ℕ, Bool, true, false, List, [], ◌∷◌, Option, Some, None, refl, sym, ap, subst, ◌∙◌, arith}
+use Rattle.std.proofs.lemmas.Bool.Decides.{nat_tests}
+use Rattle.std.specs.Prelude.{◌==◌, ◌||◌, if◌then◌else◌}
+use Rattle.score_base.specs.declared.ids.TxId.{TxId}
+use Rattle.score_base.specs.declared.ids.NodeId.{NodeId}
+use Rattle.score_base.specs.declared.causes.Ballot.TheVariants as ballot
+use Rattle.score_base.specs.declared.causes.Outcome.TheVariants as outcome
+use Rattle.score_base.specs.declared.records.Record.{Record}
+use Rattle.script_lang.specs.Scripts.{ScriptData}
+use Rattle.script_lang.specs.Reads.{is_update}
+use Rattle.placement.specs.Places.{is_among}
+use Rattle.grid_model.specs.declared.acts.Act.{Act}
+use Rattle.grid_model.specs.declared.acts.Act.TheVariants as act
+use Rattle.grid_model.specs.declared.messages.Envelope.{Envelope}
+use Rattle.grid_model.specs.declared.messages.Message.{Message}
+use Rattle.grid_model.specs.declared.messages.Message.TheVariants as message
+use Rattle.grid_model.specs.declared.messages.Prepare.{Prepare}
+use Rattle.grid_model.specs.declared.stories.Story.{Story}
+use Rattle.grid_model.specs.Documents.{DocumentData}
+use Rattle.grid_model.specs.Histories.{sent, sent_at}
+use Rattle.grid_model.specs.Journals.{Decision, Prepared, decision, home_in, is_closed, prepared_of, undone}
+use Rattle.grid_model.specs.Nodes.{Node, got, journal, node, script_of, is_home}
+use Rattle.grid_model.specs.Stories.{story, asked, heard, heard_at, if_told, phase_at, is_open, waiting, with_vote, with_ack, has_voted, begun, Phase}
+use Rattle.grid_model.specs.Views.{Open, Apart, acks_at, open_at, open_of, open_stage, stage, stage_by, view}
+use Rattle.grid_model.specs.Facts.{is_given_up, is_over, MeansNever, AbortsFinal}
+use Rattle.grid_laws.proofs.Causes.{AllDue, IsGot, AbortDue, given_up, apart, SendDue}
+use Rattle.grid_laws.proofs.Stages.{script-number}
+use Rattle.grid_laws.proofs.MessagesBacked.{each-sent}
+use Rattle.grid_laws.proofs.Holds.{got-hold}
+use Rattle.grid_laws.proofs.PreparesSay.{PrepareSays, prepare-more, prepared-say, first-prepared}
+use Rattle.grid_laws.proofs.ClosedSay.{over-more, closed-say, closed-stands}
+
+-- ---- what a story's flags mean
+
+abbrev Meant : List Act → TxId → Option Story → Type 0
+Meant past t None = Unit {0}
+Meant past t (Some x) = (x.lost ≡ true → is_given_up t past ≡ true) × (x.aborted ≡ true → is_given_up t past ≡ true)
+
+or-later : (a b : Bool) → b ≡ true → (a || b) ≡ true
+or-later true b h = refl
+or-later false b h = h
+
+or-first : (a b : Bool) → a ≡ true → (a || b) ≡ true
+or-first true b h = refl
+or-first false b h = cc
+
+given-more : (a : Act) (past : List Act) (t : TxId) → is_given_up t past ≡ true → is_given_up t (a ∷ past) ≡ true
+given-more (act.Aborted u n why) past t h = or-later (u == t) (is_given_up t past) h
+given-more (act.Lost u) past t h = or-later (u == t) (is_given_up t past) h
+given-more a past t h = h
+
+meant-more : (a : Act) (past : List Act) (t : TxId) (o : Option Story) → Meant past t o → Meant (a ∷ past) t o
+meant-more a past t None h = tt
+meant-more a past t (Some x) h = (λ e. given-more a past t (h.0 e), λ e. given-more a past t (h.1 e))
+
+if-meant : (past : List Act) (t : TxId) (b : Bool) (f : Story → Story) (o : Option Story) → (b ≡ true → (x : Story) → Meant past t (Some x) → Meant past t (Some (f x))) → Meant past t o → Meant past t (if_told b f o)
+if-meant past t b f None go h = h
+if-meant past t true f (Some x) go h = go refl x h
+if-meant past t false f (Some x) go h = h
+
+either-meant : (past : List Act) (t : TxId) (b : Bool) (o p : Option Story) → Meant past t o → Meant past t p → Meant past t (if b then o else p)
+either-meant past t true o p h k = h
+either-meant past t false o p h k = k
+
+either-story : (past : List Act) (t : TxId) (b : Bool) (x y : Story) → Meant past t (Some x) → Meant past t (Some y) → Meant past t (Some (if b then x else y))
+either-story past t true x y h k = h
+either-story past t false x y h k = k
+
+meant-heard : (past : List Act) (t : TxId) (ns : List NodeId) (p : Phase) (h : Node) (u : TxId) (n : NodeId) (said : Message) (o : Option Story) → Meant past t o → Meant past t (heard ns p h u n said o)
+meant-heard past t ns p h u n (message.Vote w (ballot.Yes q)) o k = if-meant past t _ (with_vote n q) o (λ e y i. either-story past t (has_voted n y.votes) y _ i i) k
+meant-heard past t ns p h u n (message.Ack w) o k = if-meant past t _ (with_ack n) o (λ e y i. either-story past t (is_among n y.acks) y _ i i) k
+meant-heard past t ns p h u n said o k = k
+
+meant-got : (now : List Act) (d : DocumentData) (past : List Act) (t : TxId) (w : Option ScriptData) (m : Option Envelope) (o : Option Story) → Meant now t o → Meant now t (heard_at d past w m o)
+meant-got now d past t None m o k = k
+meant-got now d past t (Some s) None o k = k
+meant-got now d past t (Some s) (Some e) o k = either-meant now t (e.to == s.home) _ o (meant-heard now t _ _ (node d past s.home) s.number e.from e.message o k) k
+
+meant-asked : (past : List Act) (d : DocumentData) (t : TxId) (said : Message) (o : Option Story) → Meant past t o → Meant past t (asked d t said o)
+meant-asked past d t (message.ReadReq q) o k = if-meant past t (q.t == t) _ o (λ e x i. i) k
+meant-asked past d t said o k = k
+
+meant-told : (d : DocumentData) (past : List Act) (a : Act) (t : TxId) → Meant (a ∷ past) t (story d past t) → Meant (a ∷ past) t (story d (a ∷ past) t)
+meant-told d past (act.Began u n sid0) t k = either-meant (act.Began u n sid0 ∷ past) t (u == t) (Some (begun sid0)) (story d past t) (λ e. cc, λ e. cc) k
+meant-told d past (act.Sent m x y said) t k = meant-asked (act.Sent m x y said ∷ past) d t said (story d past t) k
+meant-told d past (act.Got m) t k = meant-got (act.Got m ∷ past) d past t (script_of t d.scripts) (sent_at m (sent past)) (story d past t) k
+meant-told d past (act.Taken u j sid v) t k = if-meant (act.Taken u j sid v ∷ past) t (u == t) _ (story d past t) (λ e x i. i) k
+meant-told d past (act.Finished u) t k = if-meant (act.Finished u ∷ past) t (u == t) _ (story d past t) (λ e x i. i) k
+meant-told d past (act.Aborted u n why) t k = if-meant (act.Aborted u n why ∷ past) t (u == t) _ (story d past t) (λ e x i. (i.0, λ f. or-first (u == t) (is_given_up t past) e)) k
+meant-told d past (act.Lost u) t k = if-meant (act.Lost u ∷ past) t (u == t) _ (story d past t) (λ e x i. (λ f. or-first (u == t) (is_given_up t past) e, i.1)) k
+meant-told d past (act.Down n h) t k = if-meant (act.Down n h ∷ past) t (is_home d t n) _ (story d past t) (λ e x i. i) k
+meant-told d past a t k = k
+
+flags-meant : (d : DocumentData) (past : List Act) (t : TxId) → Meant past t (story d past t)
+flags-meant d [] t = tt
+flags-meant d (a ∷ past) t = meant-told d past a t (meant-more a past t (story d past t) (flags-meant d past t))
+
+-- ---- a part that asks has a Prepared
+
+-- x asked y, the home, for an update of which it has a Prepared
+record Asks (d : DocumentData) (past : List Act) (x y : NodeId) (u : TxId) : Type 0 where
+  prepare : Prepare
+  says : PrepareSays d past y x prepare
+  t : u ≡ prepare.t
+
+abbrev AsksOf : DocumentData → List Act → NodeId → NodeId → Message → Type 0
+AsksOf d past x y (message.Ask t) = Asks d past x y t
+AsksOf d past x y said = Unit {0}
+
+asks-more : (d : DocumentData) (past : List Act) (a : Act) (x y : NodeId) (said : Message) → AllDue d (a ∷ past) → AsksOf d past x y said → AsksOf d (a ∷ past) x y said
+asks-more d past a x y (message.Ask t) due s = record { prepare = s.prepare; says = prepare-more d past a y x s.prepare due s.says; t = s.t }
+asks-more d past a x y (message.ReadReq q) due s = tt
+asks-more d past a x y (message.ReadRep q) due s = tt
+asks-more d past a x y (message.Prepare q) due s = tt
+asks-more d past a x y (message.Vote t b) due s = tt
+asks-more d past a x y (message.Tell t o) due s = tt
+asks-more d past a x y (message.Ack t) due s = tt
+
+asks-home : (d : DocumentData) (past : List Act) (x y : NodeId) (t : TxId) (o : Option Prepared) → AllDue d past → prepared_of t (journal d past x) ≡ o → home_in o ≡ Some y → Asks d past x y t
+asks-home d past x y t None all is home = cc
+asks-home d past x y t (Some w) all is home =
+    let first = first-prepared d past x t w (journal d past x) (prepared-say d past all x).journal is in
+    let same : w.home ≡ y = cc in
+    let P : NodeId → Type 0 = λ k. PrepareSays d past k x first.prepare in
+    record { prepare = first.prepare; says = subst P same first.says; t = first.t }
+
+asks-due : (d : DocumentData) (past : List Act) (x y : NodeId) (said : Message) → AllDue d past → SendDue d past x y said → AsksOf d past x y said
+asks-due d past x y (message.Ask t) all due = asks-home d past x y t (prepared_of t (journal d past x)) all refl due.1
+asks-due d past x y (message.ReadReq q) all due = tt
+asks-due d past x y (message.ReadRep q) all due = tt
+asks-due d past x y (message.Prepare q) all due = tt
+asks-due d past x y (message.Vote t b) all due = tt
+asks-due d past x y (message.Tell t o) all due = tt
+asks-due d past x y (message.Ack t) all due = tt
+
+asked-last : (d : DocumentData) (past : List Act) (n y : NodeId) (t : TxId) → AllDue d past → IsGot past n y (message.Ask t) → Asks d past y n t
+asked-last d past n y t all is = got-hold (AsksOf d) d past (λ now a m k said due h. asks-more d now a m k said due h) (λ now m k said due h. asks-due d now m k said due h) all (record { from = y; to = n; message = message.Ask t }) is
+
+-- ---- a home that knows no more of a transaction
+
+apart-undone : (u : Option Decision) (o : Option Open) (acks : List NodeId) → stage_by u o acks ≡ Apart → (u ≡ None) × (o ≡ None)
+apart-undone (Some y) o acks e = cc
+apart-undone None None acks e = (refl, refl)
+apart-undone None (Some x) acks e = absurd (other (waiting x.script.ops x.values) e)
+  where
+    other : (w : Option ℕ) → open_stage x w ≡ Apart → ⊥
+    other None i = cc
+    other (Some j) i = cc
+
+not-open : (n : NodeId) (h : Node) (s : ScriptData) (x : Story) (b : Bool) → s.home ≡ n → is_open (phase_at s (Some x) h) ≡ b → open_at n h (Some s) (Some x) ≡ None → is_open (phase_at s (Some x) h) ≡ false
+not-open n h s x false home e is = e
+not-open n h s x true home e is = absurd (none-some (open_of s x) (sym opens ∙ is))
+  where
+    none-some : (y : Open) → Some y ≡ None → ⊥
+    none-some y i = cc
+
+    opens : open_at n h (Some s) (Some x) ≡ Some (open_of s x)
+    opens = let here : (s.home == n) ≡ true = grind (arith, nat_tests) in rw here (rw e refl)
+
+undone-none : (t : TxId) (r : List Record) → is_closed t r ≡ false → undone t r ≡ None → decision t r ≡ None
+undone-none t r e is = rw e at is
+
+-- a full update that is neither lost, closed nor aborted, and has no Decided, is open
+still-open : (s : ScriptData) (x : Story) (h : Node) → x.lost ≡ false → is_closed s.number h.journal ≡ false → decision s.number h.journal ≡ None → x.aborted ≡ false → is_update s.ops ≡ true → waiting s.ops x.values ≡ None → is_open (phase_at s (Some x) h) ≡ true
+still-open s x h a b c e u w = grind (arith, a, b, c, e, u, w)
+
+false-true : (b : Bool) → b ≡ false → b ≡ true → ⊥
+false-true b e f = cc
+
+never : (d : DocumentData) (past : List Act) (n : NodeId) (t : TxId) (s : ScriptData) (x : Story) (l c a : Bool) → AllDue d past → s.number ≡ t → Meant past t (Some x) → undone t (journal d past n) ≡ None → is_update s.ops ≡ true → waiting s.ops x.values ≡ None → is_open (phase_at s (Some x) (node d past n)) ≡ false → x.lost ≡ l → is_closed t (journal d past n) ≡ c → x.aborted ≡ a → (is_given_up t past || is_over d past t) ≡ true
+never d past n t s x true c a all number meant undone update full closes e1 e2 e3 = or-first (is_given_up t past) (is_over d past t) (meant.0 e1)
+never d past n t s x false true a all number meant undone update full closes e1 e2 e3 = or-later (is_given_up t past) (is_over d past t) (closed-stands d past n t (journal d past n) (closed-say d past all n).journal e2)
+never d past n t s x false false true all number meant undone update full closes e1 e2 e3 = or-first (is_given_up t past) (is_over d past t) (meant.1 e3)
+never d past n t s x false false false all number meant undone update full closes e1 e2 e3 =
+    let P : TxId → Type 0 = λ u. is_closed u (journal d past n) ≡ false in
+    let Q : TxId → Type 0 = λ u. decision u (journal d past n) ≡ None in
+    absurd (false-true (is_open (phase_at s (Some x) (node d past n))) closes (still-open s x (node d past n) e1 (subst P (sym number) e2) (subst Q (sym number) (undone-none t (journal d past n) e2 undone)) e3 update full))
+
+apart-never : (d : DocumentData) (past : List Act) (n y : NodeId) (t : TxId) → AllDue d past → IsGot past n y (message.Ask t) → stage (view d past n) t ≡ Apart → (is_given_up t past || is_over d past t) ≡ true
+apart-never d past n y t all got is =
+    let asks : Asks d past y n t = asked-last d past n y t all got in
+    let f = asks.says.full in
+    let s : ScriptData = asks.says.script in
+    let x : Story = f.story in
+    let P : TxId → Type 0 = λ u. script_of u d.scripts ≡ Some s in
+    let Q : TxId → Type 0 = λ u. story d past u ≡ Some x in
+    let script : script_of t d.scripts ≡ Some s = subst P (sym asks.t) f.at.script in
+    let told : story d past t ≡ Some x = subst Q (sym asks.t) f.at.story in
+    let parts = apart-undone (undone t (node d past n).journal) (open_at n (node d past n) (script_of t d.scripts) (story d past t)) (acks_at n (node d past n) t (script_of t d.scripts) (story d past t)) is in
+    let closes : open_at n (node d past n) (Some s) (Some x) ≡ None = rw (script, told) at parts.1 in
+    let R : Option Story → Type 0 = λ o. Meant past t o in
+    never d past n t s x x.lost (is_closed t (journal d past n)) x.aborted all (script-number t d.scripts s script) (subst R told (flags-meant d past t)) parts.0 asks.says.update (ap (waiting s.ops) f.told ∙ f.full) (not-open n (node d past n) s x (is_open (phase_at s (Some x) (node d past n))) f.at.home refl closes) refl refl refl
+
+-- ---- each abort that was told
+
+never-more : (d : DocumentData) (past : List Act) (a : Act) (t : TxId) (b c : Bool) → is_given_up t past ≡ b → is_over d past t ≡ c → (b || c) ≡ true → (is_given_up t (a ∷ past) || is_over d (a ∷ past) t) ≡ true
+never-more d past a t true c g o h = or-first (is_given_up t (a ∷ past)) (is_over d (a ∷ past) t) (given-more a past t g)
+never-more d past a t false true g o h = or-later (is_given_up t (a ∷ past)) (is_over d (a ∷ past) t) (over-more d past a t o)
+never-more d past a t false false g o h = cc
+
+means-more : (d : DocumentData) (past : List Act) (a : Act) (n : NodeId) (said : Message) → MeansNever d past n said → MeansNever d (a ∷ past) n said
+means-more d past a n (message.Tell t outcome.Abort) h = never-more d past a t (is_given_up t past) (is_over d past t) refl refl h
+means-more d past a n (message.Tell t (outcome.Commit f)) h = tt
+means-more d past a n (message.ReadReq q) h = tt
+means-more d past a n (message.ReadRep q) h = tt
+means-more d past a n (message.Prepare q) h = tt
+means-more d past a n (message.Vote t b) h = tt
+means-more d past a n (message.Ack t) h = tt
+means-more d past a n (message.Ask t) h = tt
+
+abort-never : (d : DocumentData) (past : List Act) (n y : NodeId) (t : TxId) → AllDue d past → AbortDue d past n y t → (is_given_up t past || is_over d past t) ≡ true
+abort-never d past n y t all (given_up h) = or-first (is_given_up t past) (is_over d past t) h
+abort-never d past n y t all (apart got is) = apart-never d past n y t all got is
+
+means-due : (d : DocumentData) (past : List Act) (n y : NodeId) (said : Message) → AllDue d past → SendDue d past n y said → MeansNever d past n said
+means-due d past n y (message.Tell t outcome.Abort) all due = abort-never d past n y t all due
+means-due d past n y (message.Tell t (outcome.Commit f)) all due = tt
+means-due d past n y (message.ReadReq q) all due = tt
+means-due d past n y (message.ReadRep q) all due = tt
+means-due d past n y (message.Prepare q) all due = tt
+means-due d past n y (message.Vote t b) all due = tt
+means-due d past n y (message.Ack t) all due = tt
+means-due d past n y (message.Ask t) all due = tt
+
+pub aborts-final : (d : DocumentData) (past : List Act) → AllDue d past → AbortsFinal d past
+aborts-final d past due = each-sent (λ now n said. MeansNever d now n said) d past (λ now a n said all h. means-more d now a n said h) (λ now n y said all h. means-due d now n y said all h) due

@@ -1,0 +1,99 @@
+-- The facts are not empty: worked runs in which their premises hold, computed from the definitions.
+use Rattle.std.proofs.Common.{◌≡◌, Bool, true, false, ◌&&◌, ◌==◌, List, [], refl}
+use Rattle.score_base.specs.declared.ids.NodeId.{NodeId}
+use Rattle.score_base.specs.declared.causes.Ballot.TheVariants as ballot
+use Rattle.score_base.specs.declared.causes.Outcome.TheVariants as outcome
+use Rattle.grid_model.specs.declared.acts.Act.{Act}
+use Rattle.grid_model.specs.declared.messages.Message.{Message}
+use Rattle.grid_model.specs.declared.messages.Message.TheVariants as message
+use Rattle.grid_model.specs.Histories.{after}
+use Rattle.grid_model.specs.Journals.{is_locking, prepared_of, floor, is_clear, all_fit}
+use Rattle.grid_model.specs.Nodes.{journal}
+use Rattle.grid_model.specs.Claims.{has_sent}
+use Rattle.grid_model.specs.Copies.{snapshot}
+use Rattle.grid_model.specs.Facts.{has_prepared, has_decided, has_commit, has_served, is_given_up, is_over, are_apart}
+use Rattle.grid_model.proofs.RunsThatCommit.{read_then_write, read_then_write_acts}
+use Rattle.grid_model.proofs.RunsWithReads.{ceiling_after_crash, ceiling_after_crash_acts}
+use Rattle.grid_model.proofs.RunsWithConflicts.{lock_until_applied, lock_until_applied_acts}
+use Rattle.grid_model.proofs.RunsThatStop.{presumed_abort, presumed_abort_acts}
+
+-- the pasts of the runs
+abbrev committed : List Act
+committed = after [] read_then_write_acts
+
+abbrev crashed : List Act
+crashed = after [] ceiling_after_crash_acts
+
+abbrev locked : List Act
+locked = after [] lock_until_applied_acts
+
+abbrev presumed : List Act
+presumed = after [] presumed_abort_acts
+
+-- ---- messages are backed by records
+
+abbrev is_yes : NodeId → NodeId → Message → Bool
+is_yes x y (message.Vote t (ballot.Yes p)) = (x == 2) && ((t == 1) && (p == 1))
+is_yes x y said = false
+
+abbrev is_commit_told : NodeId → NodeId → Message → Bool
+is_commit_told x y (message.Tell t (outcome.Commit f)) = (t == 1) && (f == 1)
+is_commit_told x y said = false
+
+abbrev is_ack : NodeId → NodeId → Message → Bool
+is_ack x y (message.Ack t) = (x == 2) && (t == 1)
+is_ack x y said = false
+
+abbrev is_reply : NodeId → NodeId → Message → Bool
+is_reply x y (message.ReadRep q) = (x == 2) && (q.t == 1)
+is_reply x y said = false
+
+-- node n2 voted yes with 1, and its Prepared with 1 stands
+pub yes-backed : (has_sent is_yes committed ≡ true) × (has_prepared 1 1 (journal read_then_write committed 2) ≡ true)
+yes-backed = (refl, refl)
+
+-- the commit with 1 was told, and the Decided with 1 stands at the home
+pub commit-backed : (has_sent is_commit_told committed ≡ true) × (has_decided 1 1 (journal read_then_write committed 1) ≡ true)
+commit-backed = (refl, refl)
+
+-- node n2 acknowledged, and its Ended with commit stands
+pub ack-backed : (has_sent is_ack committed ≡ true) × (has_commit 1 (journal read_then_write committed 2) ≡ true)
+ack-backed = (refl, refl)
+
+-- node n2 replied, and it served the read
+pub reply-backed : (has_sent is_reply committed ≡ true) × (has_served 2 1 1 0 10 committed ≡ true)
+reply-backed = (refl, refl)
+
+-- ---- an abort message means that the transaction can never commit
+
+abbrev is_abort_told : NodeId → NodeId → Message → Bool
+is_abort_told x y (message.Tell t outcome.Abort) = t == 1
+is_abort_told x y said = false
+
+-- the abort was told behind a crash of the home, and the transaction is given up, not over
+pub abort-final : (has_sent is_abort_told presumed ≡ true) × (is_given_up 1 presumed ≡ true) × (is_over presumed_abort presumed 1 ≡ false)
+abort-final = (refl, refl, refl)
+
+-- ---- a served read is promised
+
+-- node n2 served a read at 1, and crashed: its floor is 64, the pending proposal of another is 65
+pub served-promised : (has_served 2 2 1 1 10 crashed ≡ true) × (floor (journal ceiling_after_crash crashed 2) ≡ 65) × (is_clear 1 (journal ceiling_after_crash crashed 2) ≡ true) × (has_prepared 3 65 (journal ceiling_after_crash crashed 2) ≡ true)
+served-promised = (refl, refl, refl, refl)
+
+-- ---- locks exclude conflicts
+
+-- at node n2 transaction 1 is pending and 2 is ended and not applied; they lock, and are apart
+pub both-lock : (is_locking 1 (journal lock_until_applied locked 2) ≡ true) × (is_locking 2 (journal lock_until_applied locked 2) ≡ true) × (are_apart (prepared_of 1 (journal lock_until_applied locked 2)) (prepared_of 2 (journal lock_until_applied locked 2)) ≡ true)
+both-lock = (refl, refl, refl)
+
+-- ---- a decision rests on every part
+
+-- the decision with 1, above the snapshot 0, and the Prepared with 1 at both parts
+pub decision-rests : (has_decided 1 1 (journal read_then_write committed 1) ≡ true) × (has_prepared 1 1 (journal read_then_write committed 1) ≡ true) × (has_prepared 1 1 (journal read_then_write committed 2) ≡ true) × (snapshot read_then_write committed 1 ≡ 0)
+decision-rests = (refl, refl, refl, refl)
+
+-- ---- records fit
+
+-- four records stand at the home, and each fits those before it
+pub records-fit : all_fit read_then_write.cluster 1 (journal read_then_write committed 1) ≡ true
+records-fit = refl
