@@ -29,11 +29,11 @@ slice-last [] e y (suc i) is = cc
 slice-last (x ∷ xs) e y zero is = inl is
 slice-last (x ∷ xs) e y (suc i) is = slice-last xs e y i is
 
-sent-last : (m : ℕ) (b : Bool) (ms : List Envelope) (e y : Envelope) → (if b then None else slice_get (ms ++ e ∷ []) (m - 1)) ≡ Some y → ((if b then None else slice_get ms (m - 1)) ≡ Some y) ⊎ (e ≡ y)
+pub sent-last : (m : ℕ) (b : Bool) (ms : List Envelope) (e y : Envelope) → (if b then None else slice_get (ms ++ e ∷ []) (m - 1)) ≡ Some y → ((if b then None else slice_get ms (m - 1)) ≡ Some y) ⊎ (e ≡ y)
 sent-last m true ms e y is = cc
 sent-last m false ms e y is = slice-last ms e y (m - 1) is
 
-sent-none : (m : ℕ) (b : Bool) (y : Envelope) → (if b then None else slice_get [] (m - 1)) ≡ Some y → ⊥
+pub sent-none : (m : ℕ) (b : Bool) (y : Envelope) → (if b then None else slice_get [] (m - 1)) ≡ Some y → ⊥
 sent-none m true y is = cc
 sent-none m false y is = cc
 

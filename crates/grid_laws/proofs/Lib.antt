@@ -23,4 +23,6 @@ pub mod VotesBacked
 pub mod DecisionsRest
 pub mod AbortsFinal
 pub mod ClosedSay
+pub mod LowWords
+pub mod ActsLow
 pub mod Instances
