@@ -46,10 +46,26 @@ fn shows(rt: &impl Abort, alloc: Global, act: Act, line: &str) {
 
 /// A message that was copied has this line where it is sent.
 fn says(rt: &impl Abort, alloc: Global, message: Message, line: &str) {
-    match Out::Send(node(1), message).copy() {
-        Ok(Out::Send(to, message)) => shows(rt, alloc, Act::Sent(3, node(2), to, message), line),
-        _ => assert!(rt; false),
+    match message.copy() {
+        Ok(copy) => shows(rt, alloc, Act::Sent(3, node(2), node(1), copy), line),
+        Err(_) => assert!(rt; false),
     }
+}
+
+/// Whether the copy of an out is that out.
+fn is_copied() -> bool {
+    match Out::Act(Act::Got(11)).copy() {
+        Ok(out) => match &out {
+            Out::Act(act) => matches!(act, Act::Got(11)),
+            Out::Send(_, _) => false,
+        },
+        Err(_) => false,
+    }
+}
+
+#[test]
+fn copies(rt: HostRuntime) {
+    assert!(rt; is_copied());
 }
 
 #[test]
