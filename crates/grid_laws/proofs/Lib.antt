@@ -25,4 +25,6 @@ pub mod AbortsFinal
 pub mod ClosedSay
 pub mod LowWords
 pub mod ActsLow
+pub mod EventProposals
+pub mod SmallIdents
 pub mod Instances

@@ -1,8 +1,8 @@
 //! Laws of every run: of all rows and all free choices of the disks, stops and restarts included.
-ghost use Rattle.std.specs.Prelude.{◌≡◌, ◌≢◌, IsTrue, List, []};
+ghost use Rattle.std.specs.Prelude.{◌≡◌, ◌≢◌, IsTrue, List, [], sum_by};
 ghost use Rattle.score_base.specs.declared.ids.NodeId.{NodeId};
 ghost use Rattle.grid_model.specs.declared.acts.Act.{Act};
-ghost use Rattle.grid_model.specs.Documents.{DocumentData};
+ghost use Rattle.grid_model.specs.Documents.{DocumentData, events_of};
 ghost use Rattle.grid_model.specs.Histories.{after};
 ghost use Rattle.grid_model.specs.Journals.{all_fit};
 ghost use Rattle.grid_model.specs.Nodes.{journal};
@@ -11,6 +11,7 @@ ghost use Rattle.grid_model.specs.Facts.{
   AbortsFinal,
   DecisionsRest,
   Facts,
+  IdentifiersBelow,
   LocksExclude,
   MessagesBacked,
   NeverHeldBelow,
@@ -52,6 +53,11 @@ pub fn law_decisions_rest()
 /// A transaction of which an abort was told is given up, or every part has ended it with commit.
 pub fn law_aborts_final()
     ensures { (d : DocumentData) (h : List Act) → IsRun d d.items h → AbortsFinal d (after [] h) }
+{}
+
+/// After e events no act names an identifier above 64 e.
+pub fn law_identifiers()
+    ensures { (d : DocumentData) (h : List Act) → IsRun d d.items h → IdentifiersBelow (sum_by events_of d.items) (after [] h) }
 {}
 
 /// The facts on which one copy rests hold of every run, stops and restarts included.
