@@ -25,4 +25,8 @@ pub mod AbortsFinal
 pub mod ClosedSay
 pub mod LowWords
 pub mod ActsLow
+pub mod Snapshots
+pub mod RequestsFit
+pub mod ReadsDated
+pub mod RepliesFit
 pub mod Instances
