@@ -27,4 +27,8 @@ pub mod LowWords
 pub mod ActsLow
 pub mod EventProposals
 pub mod SmallIdents
+pub mod Snapshots
+pub mod RequestsFit
+pub mod ReadsDated
+pub mod RepliesFit
 pub mod Instances
