@@ -1,5 +1,5 @@
 -- How many proposals a run has: at most one for each event.
-use Rattle.std.proofs.Common.{◌≡◌, ℕ, ◌+◌, ◌≤◌, Bool, true, false, List, [], ◌∷◌, ◌++◌, length, Option, Some, None, refl, sym, subst, arith}
+use Rattle.std.proofs.Common.{◌≡◌, ℕ, ◌+◌, ◌≤◌, Bool, true, false, List, [], ◌∷◌, ◌++◌, length, Option, Some, None, refl, arith}
 use Rattle.std.specs.Prelude.{is_some, ◌==◌, ◌&&◌, if◌then◌else◌, map, filter, nat_lt, sum_by}
 use Rattle.std.specs.List.{flat_map, range_with_len}
 use Rattle.std.proofs.lemmas.List.{length-append, length-replicate}
@@ -44,8 +44,8 @@ use Rattle.grid_model.specs.Stories.{first_sid, has_voted, is_open, phase, story
 use Rattle.grid_model.specs.Views.{stage, view, Stage, View, Open, Reads, Collects, Commits, Apart}
 use Rattle.grid_model.specs.Advances.{advance, advance_end, op_at, own_reads, owns, parts_now, prepares, request_of, to_node, unread}
 use Rattle.grid_model.specs.Fitness.{is_fit_at, tx_in}
-use Rattle.grid_model.specs.Rows.{abort_row, ack_row, answer, answered, are_all_among, ask_outs, ask_row, ballot_row, begin_outs, begun_at, ceiling_of, ceilings, closed_row, commit_row, decides, freed_by, full_row, greatest_vote, have_voted, judged, not_among, not_voted, prepare_row, raises, read_row, release, reply_row, retry_row, row_of, served, tell_outs, tells, version_for, vote_row}
-use Rattle.grid_model.specs.Schedules.{Choice, acts_of, begin_row, broken, crash_row, deliver_row, drop_row, events_in, flag_of, kept, losses, lost_at, next_left, next_number, next_row, numbered, opened_row, or_void, retry_at, row, start_act, start_row}
+use Rattle.grid_model.specs.Rows.{abort_row, ack_row, answer, answered, are_all_among, ask_outs, ask_row, ballot_row, begin_outs, begun_at, ceilings, closed_row, commit_row, decides, freed_by, greatest_vote, have_voted, judged, not_among, not_voted, prepare_row, raises, read_row, release, reply_row, retry_row, row_of, served, tell_outs, tells, version_for, vote_row}
+use Rattle.grid_model.specs.Schedules.{Choice, acts_of, begin_row, broken, deliver_row, drop_row, events_in, flag_of, kept, lost_at, next_left, next_number, next_row, numbered, opened_row, or_void, retry_at, row, start_act, start_row}
 use Rattle.grid_model.specs.Runs.{Rows, IsRun}
 use Rattle.grid_laws.proofs.ActsLow.{weight, proposals}
 

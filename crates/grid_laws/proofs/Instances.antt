@@ -1,19 +1,28 @@
 -- The facts are not empty: worked runs in which their premises hold, computed from the definitions.
-use Rattle.std.proofs.Common.{◌≡◌, Bool, true, false, ◌&&◌, ◌==◌, List, [], refl}
+use Rattle.std.proofs.Common.{◌≡◌, Bool, true, false, ◌&&◌, ◌==◌, List, [], ◌∷◌, Option, Some, None, refl}
+use Rattle.std.specs.Prelude.{sum_by}
+use Rattle.std.specs.List.{list_any}
 use Rattle.score_base.specs.declared.ids.NodeId.{NodeId}
 use Rattle.score_base.specs.declared.causes.Ballot.TheVariants as ballot
 use Rattle.score_base.specs.declared.causes.Outcome.TheVariants as outcome
 use Rattle.grid_model.specs.declared.acts.Act.{Act}
+use Rattle.grid_model.specs.declared.acts.Act.TheVariants as act
+use Rattle.grid_model.specs.declared.messages.Envelope.{Envelope}
 use Rattle.grid_model.specs.declared.messages.Message.{Message}
 use Rattle.grid_model.specs.declared.messages.Message.TheVariants as message
-use Rattle.grid_model.specs.Histories.{after}
-use Rattle.grid_model.specs.Journals.{is_locking, prepared_of, floor, is_clear, all_fit}
+use Rattle.grid_model.specs.Documents.{DocumentData, events_of}
+use Rattle.grid_model.specs.Fitness.{is_fit}
+use Rattle.grid_model.specs.Histories.{after, sent, sent_at}
+use Rattle.grid_model.specs.Views.{view}
+use Rattle.grid_model.specs.Journals.{is_locking, commit_id, prepared_of, floor, is_clear, all_fit}
 use Rattle.grid_model.specs.Nodes.{journal}
 use Rattle.grid_model.specs.Claims.{has_sent}
 use Rattle.grid_model.specs.Copies.{snapshot}
 use Rattle.grid_model.specs.Facts.{has_prepared, has_decided, has_commit, has_served, is_given_up, is_over, are_apart}
+use Rattle.grid_model.proofs.Plays.{a}
+use Rattle.grid_model.proofs.TransferActs.{asks}
 use Rattle.grid_model.proofs.RunsThatCommit.{read_then_write, read_then_write_acts}
-use Rattle.grid_model.proofs.RunsWithReads.{ceiling_after_crash, ceiling_after_crash_acts}
+use Rattle.grid_model.proofs.RunsWithReads.{ceiling_after_crash, ceiling_after_crash_acts, held_read, held_read_front}
 use Rattle.grid_model.proofs.RunsWithConflicts.{lock_until_applied, lock_until_applied_acts}
 use Rattle.grid_model.proofs.RunsThatStop.{presumed_abort, presumed_abort_acts}
 
@@ -23,6 +32,9 @@ committed = after [] read_then_write_acts
 
 abbrev crashed : List Act
 crashed = after [] ceiling_after_crash_acts
+
+abbrev held : List Act
+held = after [] held_read_front
 
 abbrev locked : List Act
 locked = after [] lock_until_applied_acts
@@ -97,3 +109,34 @@ decision-rests = (refl, refl, refl, refl)
 -- four records stand at the home, and each fits those before it
 pub records-fit : all_fit read_then_write.cluster 1 (journal read_then_write committed 1) ≡ true
 records-fit = refl
+
+-- ---- identifiers
+
+-- behind eleven events a node proposed 65: one identifier for each event would be too low a bound
+pub identifiers-rise : (sum_by events_of ceiling_after_crash.items ≡ 11) × (has_prepared 3 65 (journal ceiling_after_crash crashed 2) ≡ true)
+identifiers-rise = (refl, refl)
+
+-- ---- a read at or below the commit identifier is never held
+
+abbrev is_held : Act → Bool
+is_held (act.Held n t op sid) = (n == 2) && (sid == 1)
+is_held a = false
+
+-- a read at 1 is held at node n2, where nothing is applied yet
+pub held-above : (list_any is_held held ≡ true) × (commit_id (journal held_read held 2) ≡ 0)
+held-above = (refl, refl)
+
+-- ---- each message that is delivered is fit
+
+-- is the message m of a past fit at its receiver?
+abbrev is_fit_sent : DocumentData → List Act → Option Envelope → Bool
+is_fit_sent d past None = false
+is_fit_sent d past (Some e) = is_fit e.to (view d past e.to) e.from e.message
+
+-- the Prepare of node n2, its vote, and the commit for it
+pub delivered-fit : (is_fit_sent read_then_write (after [] asks) (sent_at 4 (sent (after [] asks))) ≡ true) × (is_fit_sent read_then_write committed (sent_at 6 (sent committed)) ≡ true) × (is_fit_sent read_then_write committed (sent_at 8 (sent committed)) ≡ true)
+delivered-fit = (refl, refl, refl)
+
+-- a Prepare for keys that the node does not hold is not
+pub unfit : is_fit 1 (view read_then_write (after [] asks) 1) 1 (message.Prepare (record { t = 1; sid = 0; parts = 1 ∷ []; reads = a ∷ []; writes = [] })) ≡ false
+unfit = refl

@@ -28,7 +28,12 @@ pub mod ActsLow
 pub mod EventProposals
 pub mod SmallIdents
 pub mod Snapshots
+pub mod PartsRise
+pub mod ScriptKeys
+pub mod PreparesFit
+pub mod AnswersFit
 pub mod RequestsFit
 pub mod ReadsDated
 pub mod RepliesFit
+pub mod DeliveredFit
 pub mod Instances

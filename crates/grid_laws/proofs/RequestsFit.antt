@@ -1,10 +1,8 @@
 -- Does each read request name an operation of a script, and go to a holder of its key?
-use Rattle.std.proofs.Common.{◌≡◌, ℕ, ◌≤◌, Bool, true, false, List, [], ◌∷◌, length, Some, subst, arith}
+use Rattle.std.proofs.Common.{◌≡◌, ℕ, ◌≤◌, Bool, true, List, [], length, Some, arith}
 use Rattle.std.proofs.lemmas.Bool.Decides.{nat_tests}
 use Rattle.std.proofs.lemmas.Option.{slice_get_within}
-use Rattle.std.specs.Prelude.{◌==◌, ◌&&◌, if◌then◌else◌, nat_le}
-use Rattle.std.specs.List.{list_all}
-use Rattle.score_base.specs.declared.ids.TxId.{TxId}
+use Rattle.std.specs.Prelude.{◌&&◌, nat_le}
 use Rattle.score_base.specs.declared.ids.NodeId.{NodeId}
 use Rattle.script_lang.specs.Scripts.{ScriptData}
 use Rattle.placement.specs.Places.{holds}
@@ -12,39 +10,24 @@ use Rattle.grid_model.specs.declared.acts.Act.{Act}
 use Rattle.grid_model.specs.declared.messages.Message.{Message}
 use Rattle.grid_model.specs.declared.messages.Message.TheVariants as message
 use Rattle.grid_model.specs.declared.messages.ReadReq.{ReadReq}
-use Rattle.grid_model.specs.Documents.{DocumentData, IsOne, is_body}
+use Rattle.grid_model.specs.Documents.{DocumentData, IsOne}
 use Rattle.grid_model.specs.Histories.{sent, sent_at}
-use Rattle.grid_model.specs.Nodes.{script_of}
 use Rattle.grid_model.specs.Stories.{is_small}
 use Rattle.grid_model.specs.Views.{view}
 use Rattle.grid_model.specs.Fitness.{is_fit_request, date_ident}
 use Rattle.grid_model.proofs.Walks.{waiting-open}
 use Rattle.grid_laws.proofs.Causes.{AllDue, SendDue, RequestDue}
-use Rattle.grid_laws.proofs.DueAnswers.{and-left, and-right}
 use Rattle.grid_laws.proofs.Holds.{sent-hold}
+use Rattle.grid_laws.proofs.PreparesFit.{body-most}
 
 -- the operation is from 1 to 32, and y holds the key
 abbrev pub is_placed : DocumentData → NodeId → ReadReq → Bool
 is_placed d y q = nat_le 1 q.op && (nat_le q.op 32 && holds d.cluster.places y q.key)
 
-script-body : (t : TxId) (ss : List ScriptData) (s : ScriptData) → list_all (λ s. is_body s.ops) ss ≡ true → script_of t ss ≡ Some s → is_body s.ops ≡ true
-script-body t [] s all is = cc
-script-body t (x ∷ ss) s all is = go (x.number == t) is (script-body t ss s (and-right (is_body x.ops) (list_all (λ s. is_body s.ops) ss) all))
-  where
-    go : (b : Bool) → (if b then Some x else script_of t ss) ≡ Some s → (script_of t ss ≡ Some s → is_body s.ops ≡ true) → is_body s.ops ≡ true
-    go true e rest =
-        let same : x ≡ s = cc in
-        let P : ScriptData → Type 0 = λ z. is_body z.ops ≡ true in
-        subst P same (and-left (is_body x.ops) (list_all (λ s. is_body s.ops) ss) all)
-    go false e rest = rest e
-
-short-body : (s : ScriptData) → is_body s.ops ≡ true → length s.ops ≤ 32
-short-body s body = grind (arith, nat_tests, body)
-
 request-due : (d : DocumentData) (past : List Act) (n y : NodeId) (q : ReadReq) → IsOne d → RequestDue d past n y q → is_placed d y q ≡ true
 request-due d past n y q one due =
     let s : ScriptData = due.script in
-    let short : length s.ops ≤ 32 = short-body s (script-body q.t d.scripts s one.bodies due.at.script) in
+    let short : length s.ops ≤ 32 = body-most d q.t s one due.at.script in
     let w = waiting-open 1 q.op [] due.story.values s.ops due.reads in
     let within = slice_get_within s.ops _ _ w.read in
     let least = w.least in

@@ -1,5 +1,5 @@
 -- What the count of identifiers gives a document of at most 50,000 events: each identifier is small.
-use Rattle.std.proofs.Common.{◌≡◌, ℕ, ◌≤◌, Bool, true, List, [], ◌∷◌, ◌++◌, Option, Some, refl, subst, arith}
+use Rattle.std.proofs.Common.{◌≡◌, ℕ, ◌*◌, ◌≤◌, true, List, [], Some, arith}
 use Rattle.std.proofs.lemmas.Bool.Decides.{nat_tests}
 use Rattle.std.specs.Prelude.{sum_by}
 use Rattle.score_base.specs.declared.ids.NodeId.{NodeId}
@@ -10,15 +10,14 @@ use Rattle.grid_model.specs.declared.messages.Envelope.{Envelope}
 use Rattle.grid_model.specs.Documents.{DocumentData, events_of}
 use Rattle.grid_model.specs.Histories.{after, sent, sent_at}
 use Rattle.grid_model.specs.Journals.{floor}
-use Rattle.grid_model.specs.Nodes.{got, node, journal}
+use Rattle.grid_model.specs.Nodes.{node, journal}
 use Rattle.grid_model.specs.Stories.{is_small, is_small_node}
 use Rattle.grid_model.specs.Runs.{IsRun}
 use Rattle.grid_model.specs.Acts.{EachAct}
 use Rattle.grid_model.specs.Facts.{IsAtMost, IdentifiersBelow, message_ident}
-use Rattle.grid_laws.proofs.Causes.{AllDue}
-use Rattle.grid_laws.proofs.LowWords.{nodes-low, floor-low, messages-low, got-low}
+use Rattle.grid_laws.proofs.LowWords.{nodes-low, floor-low, messages-low}
 use Rattle.grid_laws.proofs.ActsLow.{proposals, acts-low, each-higher}
-use Rattle.grid_laws.proofs.EventProposals.{few-proposals, proposals-append}
+use Rattle.grid_laws.proofs.EventProposals.{few-proposals}
 use Rattle.grid_laws.proofs.RunsDue.{due-run}
 
 -- behind e events no identifier is above 64 e
@@ -34,21 +33,9 @@ IsLow past = EachAct (IsAtMost 3200000) past
 small : (i : Ident) → i ≤ 3200000 → is_small i ≡ true
 small i h = grind (arith, nat_tests, h)
 
--- ---- the pasts of a run
-
-pub low-due : (d : DocumentData) (past : List Act) → AllDue d past → proposals past ≤ 50000 → IsLow past
-low-due d past due few = each-higher (64 * proposals past) 3200000 past (omega (arith, few)) (acts-low d past due)
-
-each-before : (m : ℕ) (later past : List Act) → EachAct (IsAtMost m) (later ++ past) → EachAct (IsAtMost m) past
-each-before m [] past h = h
-each-before m (a ∷ later) past h = each-before m later past h.1
-
--- each past of a run of at most 50,000 events
-pub low-run : (d : DocumentData) (items : List Item) (h later past : List Act) → IsRun d items h → sum_by events_of items ≤ 50000 → after [] h ≡ later ++ past → IsLow past
-low-run d items h later past run few is =
-    let all : IsLow (after [] h) = each-higher (64 * sum_by events_of items) 3200000 (after [] h) (omega (arith, few)) (identifiers-below d items h run) in
-    let P : List Act → Type 0 = λ acts. IsLow acts in
-    each-before 3200000 later past (subst P is all)
+-- no identifier of a run of at most 50,000 events
+pub low-run : (d : DocumentData) (items : List Item) (h : List Act) → IsRun d items h → sum_by events_of items ≤ 50000 → IsLow (after [] h)
+low-run d items h run few = each-higher (64 * sum_by events_of items) 3200000 (after [] h) (omega (arith, few)) (identifiers-below d items h run)
 
 -- ---- what is small there
 
@@ -63,7 +50,3 @@ small-node d past n low =
 -- each message that was sent
 pub small-sent : (past : List Act) (m : ℕ) (e : Envelope) → IsLow past → sent_at m (sent past) ≡ Some e → is_small (message_ident e.message) ≡ true
 small-sent past m e low is = small (message_ident e.message) (messages-low 3200000 past low m e is)
-
--- the message that was got last
-pub small-got : (past : List Act) (e : Envelope) → IsLow past → got past ≡ Some e → is_small (message_ident e.message) ≡ true
-small-got past e low is = small (message_ident e.message) (got-low 3200000 past low e is)

@@ -2,7 +2,7 @@
 ghost use Rattle.std.specs.Prelude.{◌≡◌, ◌≢◌, IsTrue, List, [], sum_by};
 ghost use Rattle.score_base.specs.declared.ids.NodeId.{NodeId};
 ghost use Rattle.grid_model.specs.declared.acts.Act.{Act};
-ghost use Rattle.grid_model.specs.Documents.{DocumentData, events_of};
+ghost use Rattle.grid_model.specs.Documents.{DocumentData, IsOne, events_of};
 ghost use Rattle.grid_model.specs.Histories.{after};
 ghost use Rattle.grid_model.specs.Journals.{all_fit};
 ghost use Rattle.grid_model.specs.Nodes.{journal};
@@ -10,6 +10,7 @@ ghost use Rattle.grid_model.specs.Runs.{IsRun};
 ghost use Rattle.grid_model.specs.Facts.{
   AbortsFinal,
   DecisionsRest,
+  DeliveredFit,
   Facts,
   IdentifiersBelow,
   LocksExclude,
@@ -58,6 +59,11 @@ pub fn law_aborts_final()
 /// After e events no act names an identifier above 64 e.
 pub fn law_identifiers()
     ensures { (d : DocumentData) (h : List Act) → IsRun d d.items h → IdentifiersBelow (sum_by events_of d.items) (after [] h) }
+{}
+
+/// Each message that a run delivers is fit where it is got.
+pub fn law_fit()
+    ensures { (d : DocumentData) (h : List Act) → IsOne d → IsRun d d.items h → DeliveredFit d h }
 {}
 
 /// The facts on which one copy rests hold of every run, stops and restarts included.
