@@ -1,6 +1,7 @@
 -- A transaction of which an abort was told can never commit.
 use Rattle.std.proofs.Common.{◌≡◌, ℕ, Bool, true, false, List, [], ◌∷◌, Option, Some, None, refl, sym, ap, subst, ◌∙◌, arith}
 use Rattle.std.proofs.lemmas.Bool.Decides.{nat_tests}
+use Rattle.std.proofs.lemmas.Bool.{or_right}
 use Rattle.std.specs.Prelude.{◌==◌, ◌||◌, if◌then◌else◌}
 use Rattle.score_base.specs.declared.ids.TxId.{TxId}
 use Rattle.score_base.specs.declared.ids.NodeId.{NodeId}
@@ -24,8 +25,8 @@ use Rattle.grid_model.specs.Nodes.{Node, got, journal, node, script_of, is_home}
 use Rattle.grid_model.specs.Stories.{story, asked, heard, heard_at, if_told, phase_at, is_open, waiting, with_vote, with_ack, has_voted, begun, Phase}
 use Rattle.grid_model.specs.Views.{Open, Apart, acks_at, open_at, open_of, open_stage, stage, stage_by, view}
 use Rattle.grid_model.specs.Facts.{is_given_up, is_over, MeansNever, AbortsFinal}
+use Rattle.grid_model.proofs.Undecided.{script-number}
 use Rattle.grid_laws.proofs.Causes.{AllDue, IsGot, AbortDue, given_up, apart, SendDue}
-use Rattle.grid_laws.proofs.Stages.{script-number}
 use Rattle.grid_laws.proofs.MessagesBacked.{each-sent}
 use Rattle.grid_laws.proofs.Holds.{got-hold}
 use Rattle.grid_laws.proofs.PreparesSay.{PrepareSays, prepare-more, prepared-say, first-prepared}
@@ -37,17 +38,13 @@ abbrev Meant : List Act → TxId → Option Story → Type 0
 Meant past t None = Unit {0}
 Meant past t (Some x) = (x.lost ≡ true → is_given_up t past ≡ true) × (x.aborted ≡ true → is_given_up t past ≡ true)
 
-or-later : (a b : Bool) → b ≡ true → (a || b) ≡ true
-or-later true b h = refl
-or-later false b h = h
-
 or-first : (a b : Bool) → a ≡ true → (a || b) ≡ true
 or-first true b h = refl
 or-first false b h = cc
 
 given-more : (a : Act) (past : List Act) (t : TxId) → is_given_up t past ≡ true → is_given_up t (a ∷ past) ≡ true
-given-more (act.Aborted u n why) past t h = or-later (u == t) (is_given_up t past) h
-given-more (act.Lost u) past t h = or-later (u == t) (is_given_up t past) h
+given-more (act.Aborted u n why) past t h = or_right (u == t) (is_given_up t past) h
+given-more (act.Lost u) past t h = or_right (u == t) (is_given_up t past) h
 given-more a past t h = h
 
 meant-more : (a : Act) (past : List Act) (t : TxId) (o : Option Story) → Meant past t o → Meant (a ∷ past) t o
@@ -170,7 +167,7 @@ false-true b e f = cc
 
 never : (d : DocumentData) (past : List Act) (n : NodeId) (t : TxId) (s : ScriptData) (x : Story) (l c a : Bool) → AllDue d past → s.number ≡ t → Meant past t (Some x) → undone t (journal d past n) ≡ None → is_update s.ops ≡ true → waiting s.ops x.values ≡ None → is_open (phase_at s (Some x) (node d past n)) ≡ false → x.lost ≡ l → is_closed t (journal d past n) ≡ c → x.aborted ≡ a → (is_given_up t past || is_over d past t) ≡ true
 never d past n t s x true c a all number meant undone update full closes e1 e2 e3 = or-first (is_given_up t past) (is_over d past t) (meant.0 e1)
-never d past n t s x false true a all number meant undone update full closes e1 e2 e3 = or-later (is_given_up t past) (is_over d past t) (closed-stands d past n t (journal d past n) (closed-say d past all n).journal e2)
+never d past n t s x false true a all number meant undone update full closes e1 e2 e3 = or_right (is_given_up t past) (is_over d past t) (closed-stands d past n t (journal d past n) (closed-say d past all n).journal e2)
 never d past n t s x false false true all number meant undone update full closes e1 e2 e3 = or-first (is_given_up t past) (is_over d past t) (meant.1 e3)
 never d past n t s x false false false all number meant undone update full closes e1 e2 e3 =
     let P : TxId → Type 0 = λ u. is_closed u (journal d past n) ≡ false in
@@ -196,7 +193,7 @@ apart-never d past n y t all got is =
 
 never-more : (d : DocumentData) (past : List Act) (a : Act) (t : TxId) (b c : Bool) → is_given_up t past ≡ b → is_over d past t ≡ c → (b || c) ≡ true → (is_given_up t (a ∷ past) || is_over d (a ∷ past) t) ≡ true
 never-more d past a t true c g o h = or-first (is_given_up t (a ∷ past)) (is_over d (a ∷ past) t) (given-more a past t g)
-never-more d past a t false true g o h = or-later (is_given_up t (a ∷ past)) (is_over d (a ∷ past) t) (over-more d past a t o)
+never-more d past a t false true g o h = or_right (is_given_up t (a ∷ past)) (is_over d (a ∷ past) t) (over-more d past a t o)
 never-more d past a t false false g o h = cc
 
 means-more : (d : DocumentData) (past : List Act) (a : Act) (n : NodeId) (said : Message) → MeansNever d past n said → MeansNever d (a ∷ past) n said

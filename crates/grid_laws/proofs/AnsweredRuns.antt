@@ -28,7 +28,8 @@ use Rattle.grid_model.specs.Advances.{advance}
 use Rattle.grid_model.specs.Fitness.{is_fit_at}
 use Rattle.grid_model.specs.Rows.{answer, ask_outs, begin_outs, reply_row, retry_row}
 use Rattle.grid_model.specs.Schedules.{Choice, acts_of, begin_row, deliver_row, drop_row, flag_of, kept, lost_at, next_left, next_number, next_row, numbered, opened_row, or_void, retry_at, row}
-use Rattle.grid_laws.proofs.Stages.{Opens, opens-reads, script-number}
+use Rattle.grid_model.proofs.Undecided.{script-number}
+use Rattle.grid_laws.proofs.Stages.{Opens, opens-reads}
 use Rattle.grid_laws.proofs.DueHomes.{story-began, ReadersAnswered}
 use Rattle.grid_laws.proofs.DueAnswers.{story-taken, with_reply, stage-quiet}
 use Rattle.grid_laws.proofs.Answered.{is_told, all_calm, calm-all, calm-told, other-told, other-taken, AllTold, OthersTold}

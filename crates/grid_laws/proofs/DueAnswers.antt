@@ -30,10 +30,11 @@ use Rattle.grid_model.specs.Views.{Open, Stage, Apart, Reads, Collects, Commits,
 use Rattle.grid_model.specs.Advances.{advance, parts_now}
 use Rattle.grid_model.specs.Fitness.{is_fit_at, is_same_ident, tx_in}
 use Rattle.grid_model.specs.Rows.{answer, row_of, reply_row, vote_row, ballot_row, decides, tells, ack_row, ask_row, greatest_vote, have_voted, are_all_among, dated}
+use Rattle.grid_model.proofs.Undecided.{script-number}
 use Rattle.grid_laws.proofs.Causes.{IsUp, IsGot, AtHome, DecidedDue, given_up, apart}
 use Rattle.grid_model.specs.Facts.{is_given_up}
 use Rattle.grid_laws.proofs.Frames.{same-number}
-use Rattle.grid_laws.proofs.Stages.{Opens, script-number, opens-reads, opens-collects, stage-commits, is_counted, story-quiet}
+use Rattle.grid_laws.proofs.Stages.{Opens, opens-reads, opens-collects, stage-commits, is_counted, story-quiet}
 use Rattle.grid_laws.proofs.DueActs.{OutsDue}
 use Rattle.grid_laws.proofs.DueReads.{due-read}
 use Rattle.grid_laws.proofs.DueParts.{due-prepare, due-tell}

@@ -25,9 +25,10 @@ use Rattle.grid_model.specs.Stories.{phase_at, is_open, story, waiting, begun}
 use Rattle.grid_model.specs.Views.{Stage, Apart, Reads, Collects, Commits, open_of, stage, view}
 use Rattle.grid_model.specs.Advances.{advance, advance_end, op_at, own_reads, prepare_for, prepares, request, request_of, to_node, unread}
 use Rattle.grid_model.specs.Rows.{begin_outs, not_voted, not_among, retry_row, tells}
+use Rattle.grid_model.proofs.Undecided.{script-number}
 use Rattle.grid_laws.proofs.Causes.{IsUp, AtHome, SendDue}
 use Rattle.grid_laws.proofs.Frames.{same-number}
-use Rattle.grid_laws.proofs.Stages.{Opens, among-get, among-filter, holds-preferred, script-number, opens-reads, opens-collects, stage-commits}
+use Rattle.grid_laws.proofs.Stages.{Opens, among-get, among-filter, holds-preferred, opens-reads, opens-collects, stage-commits}
 use Rattle.grid_laws.proofs.DueActs.{OutsDue}
 
 -- ---- requests and Prepares

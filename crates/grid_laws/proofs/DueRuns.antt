@@ -21,8 +21,8 @@ use Rattle.grid_model.specs.Stories.{story, is_open, phase}
 use Rattle.grid_model.specs.Views.{view, stage}
 use Rattle.grid_model.specs.Rows.{answer, begin_outs, retry_row, ask_outs}
 use Rattle.grid_model.specs.Schedules.{Choice, acts_of, begin_row, deliver_row, drop_row, lost_at, next_left, next_number, next_row, opened_row, or_void, retry_at, row, start_act, start_row}
+use Rattle.grid_model.proofs.Undecided.{script-number}
 use Rattle.grid_laws.proofs.Causes.{IsDue, AreDue}
-use Rattle.grid_laws.proofs.Stages.{script-number}
 use Rattle.grid_laws.proofs.DueActs.{OutsDue, acts-due}
 use Rattle.grid_laws.proofs.DueParts.{due-ask}
 use Rattle.grid_laws.proofs.DueHomes.{ReadersAnswered, due-begin, due-retry}

@@ -1,6 +1,7 @@
 -- Each message that was sent is backed by a record or an act.
 use Rattle.std.proofs.Common.{◌≡◌, ℕ, Bool, true, false, List, [], ◌∷◌, Some, refl, sym, subst, ◌∙◌, arith}
 use Rattle.std.proofs.lemmas.Bool.Decides.{nat_tests}
+use Rattle.std.proofs.lemmas.Bool.{or_right}
 use Rattle.std.specs.Prelude.{◌==◌, ◌&&◌, ◌||◌}
 use Rattle.score_base.specs.declared.ids.TxId.{TxId}
 use Rattle.score_base.specs.declared.ids.NodeId.{NodeId}
@@ -25,29 +26,19 @@ use Rattle.grid_model.specs.Facts.{has_prepared, has_decided, has_commit, has_se
 use Rattle.grid_laws.proofs.Causes.{SendDue, AllDue}
 use Rattle.grid_laws.proofs.Frames.{same-number, journal-more}
 use Rattle.grid_model.proofs.KeyLists.{same_key-self}
+use Rattle.grid_model.proofs.Decisions.{has_decided-grows, decision-has}
 use Rattle.grid_model.proofs.Stands.{has_prepared-grows, has_commit-grows, has_commit-is}
 use Rattle.grid_laws.proofs.NodesFit.{IsFitNode}
 use Rattle.grid_laws.proofs.NodesFitActs.{decision-home, undone-decision, nodes-fit}
 
-or-later : (a b : Bool) → b ≡ true → (a || b) ≡ true
-or-later true b h = refl
-or-later false b h = h
-
 -- ---- what was backed stays backed
 
-pub has_decided-grows : (t : TxId) (f : Ident) (y : Record) (r : List Record) → has_decided t f r ≡ true → has_decided t f (y ∷ r) ≡ true
-has_decided-grows t f (record'.Decided u e parts) r h = or-later (u == t && e == f) (has_decided t f r) h
-has_decided-grows t f (record'.Prepared u home parts sid p reads writes) r h = h
-has_decided-grows t f (record'.Ended u o) r h = h
-has_decided-grows t f (record'.Ceiling c) r h = h
-has_decided-grows t f (record'.Closed u) r h = h
-
 pub has_refused-more : (n : NodeId) (t : TxId) (why : Cause) (a : Act) (past : List Act) → has_refused n t why past ≡ true → has_refused n t why (a ∷ past) ≡ true
-has_refused-more n t why (act.Refused m u other) past h = or-later (m == n && (u == t && is_same_cause why other)) (has_refused n t why past) h
+has_refused-more n t why (act.Refused m u other) past h = or_right (m == n && (u == t && is_same_cause why other)) (has_refused n t why past) h
 has_refused-more n t why a past h = h
 
 pub has_served-more : (n : NodeId) (t : TxId) (j : ℕ) (sid : Ident) (v : Value) (a : Act) (past : List Act) → has_served n t j sid v past ≡ true → has_served n t j sid v (a ∷ past) ≡ true
-has_served-more n t j sid v (act.Served m u i k s vn w) past h = or-later (m == n && (u == t && (i == j && (s == sid && w == v)))) (has_served n t j sid v past) h
+has_served-more n t j sid v (act.Served m u i k s vn w) past h = or_right (m == n && (u == t && (i == j && (s == sid && w == v)))) (has_served n t j sid v past) h
 has_served-more n t j sid v a past h = h
 
 pub prepared-more : (d : DocumentData) (past : List Act) (a : Act) (n : NodeId) (t : TxId) (p : Ident) → has_prepared t p (journal d past n) ≡ true → has_prepared t p (journal d (a ∷ past) n) ≡ true
@@ -79,14 +70,6 @@ pending-has t p (record'.Ended u o ∷ r) h = grind (arith, nat_tests, h, pendin
 pending-has t p (record'.Ceiling c ∷ r) h = pending-has t p r h
 pending-has t p (record'.Decided u f parts ∷ r) h = pending-has t p r h
 pending-has t p (record'.Closed u ∷ r) h = pending-has t p r h
-
-pub decision-has : (t : TxId) (y : Decision) (r : List Record) → decision t r ≡ Some y → has_decided t y.final r ≡ true
-decision-has t y [] h = cc
-decision-has t y (record'.Decided u f parts ∷ r) h = grind (arith, nat_tests, h, decision-has t y r)
-decision-has t y (record'.Prepared u home parts sid q reads writes ∷ r) h = decision-has t y r h
-decision-has t y (record'.Ended u o ∷ r) h = decision-has t y r h
-decision-has t y (record'.Ceiling c ∷ r) h = decision-has t y r h
-decision-has t y (record'.Closed u ∷ r) h = decision-has t y r h
 
 same-cause : (why : Cause) → is_same_cause why why ≡ true
 same-cause (cause.Holder u) = same-number u

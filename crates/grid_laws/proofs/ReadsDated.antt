@@ -22,7 +22,7 @@ use Rattle.grid_model.specs.Advances.{date_by}
 use Rattle.grid_model.specs.Rows.{dated}
 use Rattle.grid_laws.proofs.Causes.{AllDue, IsDue, IsIn, SendDue, RequestDue, Requested, ReplyDue, MayServe, at_once, held, held_ever}
 use Rattle.grid_laws.proofs.Frames.{in-append}
-use Rattle.grid_laws.proofs.Holds.{sent-hold, got-hold}
+use Rattle.grid_laws.proofs.Holds.{got-hold, sent-hold}
 use Rattle.grid_laws.proofs.Snapshots.{HasSnapshot, snapshot-more, snapshot-told, story-step}
 
 -- operation op is the first remote read of t, or sid is the snapshot of t
@@ -77,10 +77,6 @@ requests-due d past n y (message.Vote t b) all due = tt
 requests-due d past n y (message.Tell t o) all due = tt
 requests-due d past n y (message.Ack t) all due = tt
 requests-due d past n y (message.Ask t) all due = tt
-
--- each request that was sent
-pub request-dated : (d : DocumentData) (past : List Act) (m : ℕ) (x y : NodeId) (q : ReadReq) → AllDue d past → sent_at m (sent past) ≡ Some (record { from = x; to = y; message = message.ReadReq q }) → RequestDated d past q
-request-dated d past m x y q due is = sent-hold (RequestsDated d) d past (λ now a n y said all h. requests-more d now a n y said all h) (λ now n y said all h. requests-due d now n y said all h) due m (record { from = x; to = y; message = message.ReadReq q }) is
 
 -- a read that was requested
 pub requested-dated : (d : DocumentData) (past : List Act) (n : NodeId) (h : HeldRead) → AllDue d past → Requested d past n h → IsDated d past h.t h.op h.sid

@@ -38,10 +38,6 @@ holds-preferred places home k n e = grind (arith, nat_tests, among-filter)
 
 -- ---- a script
 
-pub script-number : (t : TxId) (ss : List ScriptData) (s : ScriptData) → script_of t ss ≡ Some s → s.number ≡ t
-script-number t [] s e = cc
-script-number t (x ∷ ss) s e = grind (arith, nat_tests, script-number t ss s)
-
 -- ---- an open transaction
 
 -- x is what n, its home, knows of t, which waits for w

@@ -3,9 +3,9 @@
 //! Each law is a public function without parameters and with an empty body, whose contract is the law:
 //! it speaks of every document and of every history of the rows and the free choices of the disks,
 //! stops and restarts included, with no fuse and no count of faults. The facts themselves are defined
-//! in `grid_model/specs/Facts.antt`, and [`law_facts`] binds them together. [`law_records_fit`] is what
-//! the others rest on: whatever a disk leaves at a stop, each journal is a list in which every record
-//! fits those before it.
+//! in `grid_model/specs/Facts.antt`; [`law_facts`] binds six of them together, and [`law_fit`] and
+//! [`law_identifiers`] stand beside it. [`law_records_fit`] is what the others rest on: whatever a disk
+//! leaves at a stop, each journal is a list in which every record fits those before it.
 #![tactic(auto)]
 
 mod runs;

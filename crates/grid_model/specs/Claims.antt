@@ -23,7 +23,7 @@ use Rattle.grid_model.specs.Documents.{DocumentData}
 use Rattle.grid_model.specs.Histories.{after, sent, sent_at}
 use Rattle.grid_model.specs.Journals.{Prepared, is_clear, holder, newer, prepared_of}
 use Rattle.grid_model.specs.Facts.{has_decided}
-use Rattle.grid_model.specs.Nodes.{Node, node, journal, got, is_home, script_of, parts_in}
+use Rattle.grid_model.specs.Nodes.{Node, node, journal, got, said_by, is_home, script_of, parts_in}
 use Rattle.grid_model.specs.Stories.{phase, is_open, Reading, Collecting}
 use Rattle.grid_model.specs.Serials.{Map, map_behind}
 use Rattle.grid_model.specs.Fitness.{tx_in}
@@ -62,11 +62,6 @@ abbrev pub refusal_of : List Record → TxId → Option Message → Option Cause
 refusal_of r t (Some (message.Prepare q)) = if q.t == t then cause_of r q else None
 refusal_of r t o = None
 
--- what an envelope says
-abbrev pub said_in : Option Envelope → Option Message
-said_in None = None
-said_in (Some e) = Some e.message
-
 -- there is a script, and it has a write
 abbrev pub is_update_in : Option ScriptData → Bool
 is_update_in None = false
@@ -86,7 +81,7 @@ was_open d t past = false
 -- an abort has its refusal, a refusal its holder or its newer version, a loss the opening of the home
 abbrev pub IsCausedAct : DocumentData → Act → List Act → Type 0
 IsCausedAct d (act.Aborted t n why) past = IsTrue (is_update_in (script_of t d.scripts) && has_refused n t why past)
-IsCausedAct d (act.Refused n t why) past = refusal_of (journal d past n) t (said_in (got past)) ≡ Some why
+IsCausedAct d (act.Refused n t why) past = refusal_of (journal d past n) t (said_by (got past)) ≡ Some why
 IsCausedAct d (act.Lost t) past = IsTrue (was_open d t past)
 IsCausedAct d a past = Unit {0}
 
@@ -139,10 +134,10 @@ has_stopped n [] = false
 has_stopped n (act.Down m h ∷ past) = (m == n) || has_stopped n past
 has_stopped n (a ∷ past) = has_stopped n past
 
--- the first of these acts is that n went down
+-- the first of these acts, in the order of time, is that n stopped in a record
 abbrev pub began_down : NodeId → List Act → Bool
 began_down n [] = false
-began_down n (act.Down m h ∷ []) = m == n
+began_down n (act.Down m (Some h) ∷ []) = m == n
 began_down n (a ∷ []) = false
 began_down n (a ∷ (b ∷ past)) = began_down n (b ∷ past)
 

@@ -90,7 +90,7 @@ Says d past n said = Unit {0}
 abbrev pub MessagesBacked : DocumentData → List Act → Type 0
 MessagesBacked d past = EachSent (Says d past) past
 
--- ---- an abort message means that the transaction can never commit
+-- ---- an abort is told only of a transaction that is given up, or that every part has ended with commit
 
 -- a message that n sent which tells an abort: its transaction is given up or over
 abbrev pub MeansNever : DocumentData → List Act → NodeId → Message → Type 0

@@ -1,4 +1,4 @@
-//! A plain node, as the world keeps it and as the rows read it.
+//! A plain node, as a run keeps it and as the rows read it.
 
 use grid_model::HeldRead;
 use score_base::{Ident, Members, Record};

@@ -23,7 +23,7 @@ pub struct RunState<'a> {
     acts: Vec<Act>,
     /// The messages that were sent.
     sent: Vec<Envelope>,
-    /// The numbers of the messages that were got, missed or dropped.
+    /// For each number of a message, whether it was got, missed or dropped.
     gone: Vec<bool>,
     /// The message that was got last.
     got: Option<Envelope>,

@@ -22,7 +22,7 @@ use Rattle.grid_model.specs.Fitness.{tx_in}
 use Rattle.grid_model.specs.Rows.{answer, begin_outs, retry_row, ask_outs}
 use Rattle.grid_model.specs.Schedules.{numbered, next_number, next_left, acts_of, begin_at, begin_row, deliver_row, drop_row, next_row, or_void, retry_at, ask_row, start_row, start_act, events_in, flag_of, losses, opened_row}
 use Rattle.grid_model.specs.Runs.{Rows, IsRun, Lawful, Explains, Fuse, fuse, fuse_at_stop, is_record_at, is_let, are_let, lets_gate, lets_record, is_stop, as_number, faults}
-use Rattle.schedule_replay.specs.Replays.{calm, is_unfused, AreUnfused, played, plays}
+use Rattle.schedule_replay.specs.Replays.{calm, calm_run, is_unfused, AreUnfused, played, plays}
 use Rattle.schedule_replay.proofs.Counts.{Counts, is_own, are_own, counts-begin, counts-answer, counts-retry, counts-ask}
 use Rattle.schedule_replay.proofs.Shorts.{short-at}
 use Rattle.schedule_replay.proofs.Reopened.{are_calm, are_lost, losses-lost}
@@ -197,12 +197,12 @@ pub unfused-all : (is : List Item) → list_all is_unfused is ≡ true → list_
 unfused-all [] e = refl
 unfused-all (i ∷ is) e = list_all-append is_unfused (events_in i) (flat_map events_in is) ∙ both-true (list_all is_unfused (events_in i)) (list_all is_unfused (flat_map events_in is)) (unfused-events i (first-true (is_unfused i) (list_all is_unfused is) e)) (unfused-all is (rest-true (is_unfused i) (list_all is_unfused is) e))
 
-pub run-plays : (d : DocumentData) (h : List Act) → h ≡ start_row d.cluster.nodes (λ n. true) ++ plays d (after [] (start_row d.cluster.nodes (λ n. true))) (flat_map events_in d.items) → IsRun d d.items h
+pub run-plays : (d : DocumentData) (h : List Act) → h ≡ calm_run d → IsRun d d.items h
 run-plays d h e =
     let start : List Act = start_row d.cluster.nodes (λ n. true) in
     record { opens = λ n. true; rest = plays d (after [] start) (flat_map events_in d.items); start = e; rows = rows-plays d (after [] start) (flat_map events_in d.items) }
 
-pub lawful-plays : (d : DocumentData) (h : List Act) → h ≡ start_row d.cluster.nodes (λ n. true) ++ plays d (after [] (start_row d.cluster.nodes (λ n. true))) (flat_map events_in d.items) → AreUnfused d.items → Lawful d h (λ n. 0)
+pub lawful-plays : (d : DocumentData) (h : List Act) → h ≡ calm_run d → AreUnfused d.items → Lawful d h (λ n. 0)
 lawful-plays d h e unfused =
     let start : List Act = start_row d.cluster.nodes (λ n. true) in
     let events : list_all is_unfused (flat_map events_in d.items) ≡ true = unfused-all d.items unfused in

@@ -203,7 +203,8 @@ fn push_prepares(
     Ok(())
 }
 
-/// Adds a Prepare to each of these nodes, where the transaction is collecting.
+/// Adds a Prepare to each of these nodes, where the transaction is collecting, by a walk of its own over
+/// the script.
 pub fn push_prepares_again(
     alloc: Global,
     outs: &mut Vec<Out>,

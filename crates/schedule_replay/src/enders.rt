@@ -1,4 +1,4 @@
-//! A participant that is told how a transaction ended, or asks.
+//! A participant that is told how a transaction ended.
 
 ghost use Rattle.std.specs.Prelude.{◌≡◌, ◌∷◌, ◌++◌, IfOk, OnOk, reverse};
 ghost use Rattle.score_base.specs.declared.records.Record.TheVariants as record';

@@ -4,7 +4,7 @@ ghost use Rattle.grid_model.specs.Documents.{events_of};
 ghost use Rattle.grid_model.specs.Schedules.{start_row, events_in};
 ghost use Rattle.grid_model.specs.Runs.{IsRun, Lawful};
 ghost use Rattle.run_state.specs.Kept.{past};
-ghost use Rattle.schedule_replay.specs.Replays.{HasRoom, AreUnfused, played, plays};
+ghost use Rattle.schedule_replay.specs.Replays.{HasRoom, AreUnfused, calm_run, played, plays};
 
 use crate::schedule::row;
 use grid_model::{Act, Document, Flag, Item};
@@ -60,9 +60,10 @@ fn play_item<'a>(alloc: Global, run: RunState<'a>, item: Item) -> Result<RunStat
     }
 }
 
-/// The acts of a document's run in which no disk fails. Where the schedule sets no fuse they are a
+/// The acts of a document's run in which no disk fails. Where the schedule sets no fuse they are its one
 /// lawful run without a fault.
 pub fn replay(alloc: Global, doc: &Document) -> Result<Vec<Act>, Memory>
+    ensures calm { IfOk result (λ acts. acts.items ≡ calm_run doc.now) }
     ensures run { IfOk result (λ acts. IsRun doc.now doc.now.items acts.items) }
     ensures lawful { IfOk result (λ acts. AreUnfused doc.now.items → Lawful doc.now acts.items (λ n. 0)) }
 {

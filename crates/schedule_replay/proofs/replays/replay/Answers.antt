@@ -1,11 +1,13 @@
-use Rattle.std.proofs.Common.{◌≡◌, ◌+◌, ◌++◌, ◌∷◌, [], ◌∙◌, ap, sym, arith, drop, true, refl}
+use Rattle.std.proofs.Common.{◌≡◌, List, ◌+◌, ◌++◌, ◌∷◌, [], ◌∙◌, ap, sym, arith, drop, true, refl}
 use Rattle.std.specs.Prelude.{sum_by}
 use Rattle.std.specs.List.{flat_map}
 use Rattle.std.proofs.lemmas.List.{append-nil, drop_all}
-use Rattle.grid_model.specs.Documents.{events_of}
+use Rattle.grid_model.specs.declared.acts.Act.{Act}
+use Rattle.grid_model.specs.declared.items.Item.{Item}
+use Rattle.grid_model.specs.Documents.{DocumentData, events_of}
 use Rattle.grid_model.specs.Schedules.{start_row, events_in}
 use Rattle.run_state.specs.Kept.{past}
-use Rattle.schedule_replay.specs.Replays.{HasRoom, plays}
+use Rattle.schedule_replay.specs.Replays.{HasRoom, calm_run, plays}
 use Rattle.schedule_replay.proofs.Calm.{run-plays, lawful-plays}
 use Rattle.schedule_replay.proofs.Loops.{told-item, left-item, drop-item, sum-item, room-start}
 use Rattle.schedule_replay.proofs.replays.replay.Goals as goal
@@ -31,12 +33,19 @@ loop-item-preserved c =
       told = told-item c.args.doc.now c.loop-item.run.acts c.in_ok-run-2.run'.acts (events_in c.item-item.result) (flat_map events_in rest) _ acts (ap (λ is. c.loop-item.run.acts ++ plays c.args.doc.now (past c.loop-item.run) (flat_map events_in is)) (sym more) ∙ c.loop-item.invariant.told);
     }
 
+-- behind the last item nothing is left to play
+whole : (d : DocumentData) (acts behind : List Act) (left : List Item) → left ≡ [] → acts ++ plays d behind (flat_map events_in left) ≡ calm_run d → acts ≡ calm_run d
+whole d acts behind left none told = sym (append-nil acts) ∙ ap (λ is. acts ++ plays d behind (flat_map events_in is)) (sym none) ∙ told
+
+pub returns-clause-calm : goal.returns-clause-calm
+returns-clause-calm c = c.into_acts.ensures ∙ whole c.args.doc.now c.loop-item.run.acts (past c.loop-item.run) (drop c.loop-item.item-index c.items-item-items.result.now) (drop_all c.loop-item.item-index c.items-item-items.result.now (grind arith)) c.loop-item.invariant.told
+
 pub returns-clause-run : goal.returns-clause-run
 returns-clause-run c =
-    let none : drop c.loop-item.item-index c.items-item-items.result.now ≡ [] = drop_all c.loop-item.item-index c.items-item-items.result.now (grind arith) in
-    run-plays c.args.doc.now c.into_acts.result.items (c.into_acts.ensures ∙ sym (append-nil c.loop-item.run.acts) ∙ ap (λ is. c.loop-item.run.acts ++ plays c.args.doc.now (past c.loop-item.run) (flat_map events_in is)) (sym none) ∙ c.loop-item.invariant.told)
+    let acts : c.loop-item.run.acts ≡ calm_run c.args.doc.now = whole c.args.doc.now c.loop-item.run.acts (past c.loop-item.run) (drop c.loop-item.item-index c.items-item-items.result.now) (drop_all c.loop-item.item-index c.items-item-items.result.now (grind arith)) c.loop-item.invariant.told in
+    run-plays c.args.doc.now c.into_acts.result.items (c.into_acts.ensures ∙ acts)
 
 pub returns-clause-lawful : goal.returns-clause-lawful
 returns-clause-lawful c =
-    let none : drop c.loop-item.item-index c.items-item-items.result.now ≡ [] = drop_all c.loop-item.item-index c.items-item-items.result.now (grind arith) in
-    lawful-plays c.args.doc.now c.into_acts.result.items (c.into_acts.ensures ∙ sym (append-nil c.loop-item.run.acts) ∙ ap (λ is. c.loop-item.run.acts ++ plays c.args.doc.now (past c.loop-item.run) (flat_map events_in is)) (sym none) ∙ c.loop-item.invariant.told)
+    let acts : c.loop-item.run.acts ≡ calm_run c.args.doc.now = whole c.args.doc.now c.loop-item.run.acts (past c.loop-item.run) (drop c.loop-item.item-index c.items-item-items.result.now) (drop_all c.loop-item.item-index c.items-item-items.result.now (grind arith)) c.loop-item.invariant.told in
+    lawful-plays c.args.doc.now c.into_acts.result.items (c.into_acts.ensures ∙ acts)
