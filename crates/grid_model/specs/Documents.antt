@@ -80,7 +80,12 @@ pub record IsDocument (d : DocumentData) : Type 0 where
 abbrev pub is_body : List Op → Bool
 is_body ops = nat_le 1 (length ops) && (nat_le (length ops) 32 && are_sound [] ops)
 
--- the document is one: what its own type asks of it, and what that of its scripts asks
+-- the nodes of the partitions and the homes of the scripts are numbered from 1
+abbrev pub are_numbered : DocumentData → Bool
+are_numbered d = list_all (list_all (λ n. nat_le 1 n)) d.cluster.places && list_all (λ s. nat_le 1 s.home) d.scripts
+
+-- the document is one: what its own type asks of it, and what those of its scripts and nodes ask
 pub record IsOne (d : DocumentData) : Type 0 where
   pub document : IsDocument d
   pub bodies : IsTrue (list_all (λ s. is_body s.ops) d.scripts)
+  pub nodes : IsTrue (are_numbered d)
