@@ -40,7 +40,8 @@ pub turned-member : (f : Ident) (t : TxId) (xs : List (Ident × TxId)) → has_p
 turned-member f t [] = refl
 turned-member f t (x ∷ xs) = grind (arith, turned-member f t xs)
 
-all-up_to : (x : Ident × TxId) (f : Ident) (t : TxId) (xs : List (Ident × TxId)) → AllUpTo x xs → has_member f t xs ≡ true → is_before x (f, t) ≡ false
+-- none of those that follow x comes behind it
+pub all-up_to : (x : Ident × TxId) (f : Ident) (t : TxId) (xs : List (Ident × TxId)) → AllUpTo x xs → has_member f t xs ≡ true → is_before x (f, t) ≡ false
 all-up_to x f t [] all h = absurd (grind (arith, h))
 all-up_to x f t (y ∷ ys) all h = elim (or_cases (y.0 == f && y.1 == t) (has_member f t ys) h) [
   | inl here ↦

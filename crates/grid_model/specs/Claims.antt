@@ -1,6 +1,6 @@
 -- What is claimed of every lawful run beside one copy: its footprint, the causes of its aborts, what an
 -- unfinished transaction waits for, and that acknowledged commits are kept.
-use Rattle.std.specs.Prelude.{◌≡◌, ℕ, Bool, false, ◌&&◌, ◌||◌, ◌==◌, not, filter, map, reverse, IsTrue, List, [], ◌∷◌, ◌++◌, Option, Some, None, if◌then◌else◌}
+use Rattle.std.specs.Prelude.{◌≡◌, ◌⊎◌, ℕ, Bool, true, false, ◌&&◌, ◌||◌, ◌==◌, not, filter, map, reverse, IsTrue, List, [], ◌∷◌, ◌++◌, Option, Some, None, is_some, if◌then◌else◌}
 use Rattle.std.specs.List.{list_any}
 use Rattle.score_base.specs.declared.ids.TxId.{TxId}
 use Rattle.score_base.specs.declared.ids.NodeId.{NodeId}
@@ -24,7 +24,7 @@ use Rattle.grid_model.specs.Histories.{after, sent, sent_at}
 use Rattle.grid_model.specs.Journals.{Prepared, is_clear, holder, newer, prepared_of}
 use Rattle.grid_model.specs.Facts.{has_decided}
 use Rattle.grid_model.specs.Nodes.{Node, node, journal, got, said_by, is_home, script_of, parts_in}
-use Rattle.grid_model.specs.Stories.{phase, is_open, Reading, Collecting}
+use Rattle.grid_model.specs.Stories.{Phase, phase, is_open, Reading, Collecting, Answered, Aborted, Lost, Decided, Closed, story}
 use Rattle.grid_model.specs.Serials.{Map, map_behind}
 use Rattle.grid_model.specs.Fitness.{tx_in}
 use Rattle.grid_model.specs.Acts.{EachAct, EachBehind, has_refused}
@@ -178,6 +178,20 @@ pub data ExcusedOf (d : DocumentData) (past : List Act) (s : ScriptData) : Type 
 abbrev pub Excused : DocumentData → List Act → Type 0
 Excused d h = (s : ScriptData) (t : TxId) → script_of t d.scripts ≡ Some s → IsTrue (is_open (phase d (after [] h) s)) → ExcusedOf d (after [] h) s
 
+-- answered, aborted, lost, decided or closed
+abbrev pub is_settled : Phase → Bool
+is_settled Answered = true
+is_settled Aborted = true
+is_settled Lost = true
+is_settled (Decided y) = true
+is_settled (Closed f) = true
+is_settled p = false
+
+-- Accounted: each transaction of the document that was begun is answered, aborted, lost, decided or
+-- closed at the end, or it is excused
+abbrev pub Accounted : DocumentData → List Act → Type 0
+Accounted d h = (s : ScriptData) (t : TxId) → script_of t d.scripts ≡ Some s → IsTrue (is_some (story d (after [] h) s.number)) → IsTrue (is_settled (phase d (after [] h) s)) ⊎ ExcusedOf d (after [] h) s
+
 -- ---- acknowledged commits
 
 -- a list of records that the disk of a node may hold
@@ -199,12 +213,17 @@ writes_at (Some q) = Some q.writes
 abbrev pub writes_on : DocumentData → NodeId → ScriptData → Map → List (Key × Value)
 writes_on d n s m = map (λ k. (k, map_behind m s.ops k)) (filter (holds d.cluster.places n) (written_keys [] s.ops))
 
--- a committed and acknowledged update is in the logs: its Decided at its home, and at each part its
--- Prepared with all of its writes there, with the values that the serial copy gives them
-pub record IsKept (d : DocumentData) (past : List Act) (logs : NodeId → List Record) (s : ScriptData) (f : Ident) (before : List (Ident × TxId)) : Type 0 where
-  pub decided : IsTrue (has_decided s.number f (reverse (logs s.home)))
+-- an update whose client was told is in the serial order, and it is in the logs: its Decided at its home,
+-- and at each part its Prepared with all of its writes there, with the values that the serial copy gives
+-- them
+pub record IsKept (d : DocumentData) (past : List Act) (logs : NodeId → List Record) (s : ScriptData) : Type 0 where
+  pub final : Ident
+  pub later : List (Ident × TxId)
+  pub before : List (Ident × TxId)
+  pub member : order d past ≡ later ++ (final, s.number) ∷ before
+  pub decided : IsTrue (has_decided s.number final (reverse (logs s.home)))
   pub prepared : (n : NodeId) → IsTrue (is_among n (parts_in d (Some s))) → writes_at (prepared_of s.number (reverse (logs n))) ≡ Some (writes_on d n s (copy_of d before))
 
 -- Kept: each finished update is kept in all lists that the disks may hold
 abbrev pub Kept : DocumentData → List Act → Type 0
-Kept d h = (logs : NodeId → List Record) → AreLogs d (after [] h) logs → (s : ScriptData) (t : TxId) → script_of t d.scripts ≡ Some s → IsTrue (is_update s.ops) → IsTrue (is_finished (after [] h) t) → (f : Ident) (later before : List (Ident × TxId)) → order d (after [] h) ≡ later ++ (f, t) ∷ before → IsKept d (after [] h) logs s f before
+Kept d h = (logs : NodeId → List Record) → AreLogs d (after [] h) logs → (s : ScriptData) (t : TxId) → script_of t d.scripts ≡ Some s → IsTrue (is_update s.ops) → IsTrue (is_finished (after [] h) t) → IsKept d (after [] h) logs s
