@@ -1,5 +1,5 @@
 -- A transaction of which an abort was told can never commit.
-use Rattle.std.proofs.Common.{◌≡◌, ℕ, Bool, true, false, List, [], ◌∷◌, Option, Some, None, refl, sym, ap, subst, ◌∙◌, arith}
+use Rattle.std.proofs.Common.{◌≡◌, ◌⊎◌, inl, inr, ℕ, Bool, true, false, List, [], ◌∷◌, Option, Some, None, refl, sym, ap, subst, ◌∙◌, arith}
 use Rattle.std.proofs.lemmas.Bool.Decides.{nat_tests}
 use Rattle.std.proofs.lemmas.Bool.{or_right}
 use Rattle.std.specs.Prelude.{◌==◌, ◌||◌, if◌then◌else◌}
@@ -42,7 +42,7 @@ or-first : (a b : Bool) → a ≡ true → (a || b) ≡ true
 or-first true b h = refl
 or-first false b h = cc
 
-given-more : (a : Act) (past : List Act) (t : TxId) → is_given_up t past ≡ true → is_given_up t (a ∷ past) ≡ true
+pub given-more : (a : Act) (past : List Act) (t : TxId) → is_given_up t past ≡ true → is_given_up t (a ∷ past) ≡ true
 given-more (act.Aborted u n why) past t h = or_right (u == t) (is_given_up t past) h
 given-more (act.Lost u) past t h = or_right (u == t) (is_given_up t past) h
 given-more a past t h = h
@@ -165,17 +165,22 @@ still-open s x h a b c e u w = grind (arith, a, b, c, e, u, w)
 false-true : (b : Bool) → b ≡ false → b ≡ true → ⊥
 false-true b e f = cc
 
-never : (d : DocumentData) (past : List Act) (n : NodeId) (t : TxId) (s : ScriptData) (x : Story) (l c a : Bool) → AllDue d past → s.number ≡ t → Meant past t (Some x) → undone t (journal d past n) ≡ None → is_update s.ops ≡ true → waiting s.ops x.values ≡ None → is_open (phase_at s (Some x) (node d past n)) ≡ false → x.lost ≡ l → is_closed t (journal d past n) ≡ c → x.aborted ≡ a → (is_given_up t past || is_over d past t) ≡ true
-never d past n t s x true c a all number meant undone update full closes e1 e2 e3 = or-first (is_given_up t past) (is_over d past t) (meant.0 e1)
-never d past n t s x false true a all number meant undone update full closes e1 e2 e3 = or_right (is_given_up t past) (is_over d past t) (closed-stands d past n t (journal d past n) (closed-say d past all n).journal e2)
-never d past n t s x false false true all number meant undone update full closes e1 e2 e3 = or-first (is_given_up t past) (is_over d past t) (meant.1 e3)
-never d past n t s x false false false all number meant undone update full closes e1 e2 e3 =
+-- it was given up, or n has closed it
+abbrev pub IsGone : DocumentData → List Act → NodeId → TxId → Type 0
+IsGone d past n t = (is_given_up t past ≡ true) ⊎ (is_closed t (journal d past n) ≡ true)
+
+gone : (d : DocumentData) (past : List Act) (n : NodeId) (t : TxId) (s : ScriptData) (x : Story) (l c a : Bool) → s.number ≡ t → Meant past t (Some x) → undone t (journal d past n) ≡ None → is_update s.ops ≡ true → waiting s.ops x.values ≡ None → is_open (phase_at s (Some x) (node d past n)) ≡ false → x.lost ≡ l → is_closed t (journal d past n) ≡ c → x.aborted ≡ a → IsGone d past n t
+gone d past n t s x true c a number meant undone update full closes e1 e2 e3 = inl (meant.0 e1)
+gone d past n t s x false true a number meant undone update full closes e1 e2 e3 = inr e2
+gone d past n t s x false false true number meant undone update full closes e1 e2 e3 = inl (meant.1 e3)
+gone d past n t s x false false false number meant undone update full closes e1 e2 e3 =
     let P : TxId → Type 0 = λ u. is_closed u (journal d past n) ≡ false in
     let Q : TxId → Type 0 = λ u. decision u (journal d past n) ≡ None in
     absurd (false-true (is_open (phase_at s (Some x) (node d past n))) closes (still-open s x (node d past n) e1 (subst P (sym number) e2) (subst Q (sym number) (undone-none t (journal d past n) e2 undone)) e3 update full))
 
-apart-never : (d : DocumentData) (past : List Act) (n y : NodeId) (t : TxId) → AllDue d past → IsGot past n y (message.Ask t) → stage (view d past n) t ≡ Apart → (is_given_up t past || is_over d past t) ≡ true
-apart-never d past n y t all got is =
+-- the home that was asked knows no more of it
+pub apart-gone : (d : DocumentData) (past : List Act) (n y : NodeId) (t : TxId) → AllDue d past → IsGot past n y (message.Ask t) → stage (view d past n) t ≡ Apart → IsGone d past n t
+apart-gone d past n y t all got is =
     let asks : Asks d past y n t = asked-last d past n y t all got in
     let f = asks.says.full in
     let s : ScriptData = asks.says.script in
@@ -187,7 +192,13 @@ apart-never d past n y t all got is =
     let parts = apart-undone (undone t (node d past n).journal) (open_at n (node d past n) (script_of t d.scripts) (story d past t)) (acks_at n (node d past n) t (script_of t d.scripts) (story d past t)) is in
     let closes : open_at n (node d past n) (Some s) (Some x) ≡ None = rw (script, told) at parts.1 in
     let R : Option Story → Type 0 = λ o. Meant past t o in
-    never d past n t s x x.lost (is_closed t (journal d past n)) x.aborted all (script-number t d.scripts s script) (subst R told (flags-meant d past t)) parts.0 asks.says.update (ap (waiting s.ops) f.told ∙ f.full) (not-open n (node d past n) s x (is_open (phase_at s (Some x) (node d past n))) f.at.home refl closes) refl refl refl
+    gone d past n t s x x.lost (is_closed t (journal d past n)) x.aborted (script-number t d.scripts s script) (subst R told (flags-meant d past t)) parts.0 asks.says.update (ap (waiting s.ops) f.told ∙ f.full) (not-open n (node d past n) s x (is_open (phase_at s (Some x) (node d past n))) f.at.home refl closes) refl refl refl
+
+apart-never : (d : DocumentData) (past : List Act) (n y : NodeId) (t : TxId) → AllDue d past → IsGot past n y (message.Ask t) → stage (view d past n) t ≡ Apart → (is_given_up t past || is_over d past t) ≡ true
+apart-never d past n y t all got is = elim (apart-gone d past n y t all got is) [
+  | inl given ↦ or-first (is_given_up t past) (is_over d past t) given
+  | inr closed ↦ or_right (is_given_up t past) (is_over d past t) (closed-stands d past n t (journal d past n) (closed-say d past all n).journal closed)
+]
 
 -- ---- each abort that was told
 
@@ -196,7 +207,7 @@ never-more d past a t true c g o h = or-first (is_given_up t (a ∷ past)) (is_o
 never-more d past a t false true g o h = or_right (is_given_up t (a ∷ past)) (is_over d (a ∷ past) t) (over-more d past a t o)
 never-more d past a t false false g o h = cc
 
-means-more : (d : DocumentData) (past : List Act) (a : Act) (n : NodeId) (said : Message) → MeansNever d past n said → MeansNever d (a ∷ past) n said
+pub means-more : (d : DocumentData) (past : List Act) (a : Act) (n : NodeId) (said : Message) → MeansNever d past n said → MeansNever d (a ∷ past) n said
 means-more d past a n (message.Tell t outcome.Abort) h = never-more d past a t (is_given_up t past) (is_over d past t) refl refl h
 means-more d past a n (message.Tell t (outcome.Commit f)) h = tt
 means-more d past a n (message.ReadReq q) h = tt
@@ -210,7 +221,7 @@ abort-never : (d : DocumentData) (past : List Act) (n y : NodeId) (t : TxId) →
 abort-never d past n y t all (given_up h) = or-first (is_given_up t past) (is_over d past t) h
 abort-never d past n y t all (apart got is) = apart-never d past n y t all got is
 
-means-due : (d : DocumentData) (past : List Act) (n y : NodeId) (said : Message) → AllDue d past → SendDue d past n y said → MeansNever d past n said
+pub means-due : (d : DocumentData) (past : List Act) (n y : NodeId) (said : Message) → AllDue d past → SendDue d past n y said → MeansNever d past n said
 means-due d past n y (message.Tell t outcome.Abort) all due = abort-never d past n y t all due
 means-due d past n y (message.Tell t (outcome.Commit f)) all due = tt
 means-due d past n y (message.ReadReq q) all due = tt

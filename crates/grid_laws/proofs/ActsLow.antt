@@ -189,7 +189,7 @@ ident-due k d past (act.Refused n t why) all low due = omega (arith, refused-low
 ident-due k d past (act.Ended n t o) all low due = record-low k d past n (head.Ended t o) low due
 ident-due k d past (act.Ceiling n c) all low due = record-low k d past n (head.Ceiling c) low due
 ident-due k d past (act.Decided t f) all low due = record-low k d past due.0 (head.Decided t f) low due.1
-ident-due k d past (act.Aborted t n why) all low due = (let h : cause_ident why ≤ 64 * k = got-low (64 * k) past low (record { from = n; to = due.0; message = message.Vote t (ballot.No why) }) due.1 in omega arith)
+ident-due k d past (act.Aborted t n why) all low due = (let h : cause_ident why ≤ 64 * k = got-low (64 * k) past low (record { from = n; to = due.n; message = message.Vote t (ballot.No why) }) due.got in omega arith)
 ident-due k d past (act.Down n h) all low due = stop-low k d past n h low due
 ident-due k d past a all low due = omega arith
 

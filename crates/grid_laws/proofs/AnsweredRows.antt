@@ -1,5 +1,5 @@
 -- Advance ends with the answer of a read-only transaction whose reads all have their values.
-use Rattle.std.proofs.Common.{◌≡◌, ℕ, ◌+◌, Bool, true, false, List, [], ◌∷◌, ◌++◌, Option, Some, None, refl, sym, subst, arith}
+use Rattle.std.proofs.Common.{◌≡◌, ℕ, Bool, true, false, List, [], ◌∷◌, ◌++◌, Option, Some, None, refl, sym, subst, arith}
 use Rattle.std.specs.Prelude.{is_some, is_none, filter, map, slice_get, nat_lt}
 use Rattle.std.specs.List.{list_all}
 use Rattle.score_base.specs.declared.ids.TxId.{TxId}
@@ -23,7 +23,8 @@ use Rattle.grid_model.specs.Views.{open_of, Open}
 use Rattle.grid_model.specs.Advances.{advance, advance_end, op_at, own_reads, prepares, request_of, to_node, unread}
 use Rattle.grid_model.specs.Schedules.{numbered, kept, broken, head_at}
 use Rattle.grid_laws.proofs.Frames.{same-number}
-use Rattle.grid_laws.proofs.Answered.{is_told, all_calm, calm-all, or-true, AllTold, OthersTold, calm-others, all-from}
+use Rattle.grid_laws.proofs.CalmOuts.{calm-end, calm-numbered}
+use Rattle.grid_laws.proofs.Answered.{is_told, calm-all, or-true, AllTold, OthersTold, calm-others, all-from}
 
 -- ---- outs that write no record
 
@@ -67,18 +68,6 @@ plain-advance d s x i = plain-owns s.number (filter (λ y. nat_lt i y.0) (own_re
 
 -- ---- what stands at the end
 
-calm-to_node : (m : ℕ) (n : NodeId) (w : Option NodeId) (said : Message) → all_calm (numbered m n (to_node w said)) ≡ true
-calm-to_node m n None said = refl
-calm-to_node m n (Some y) said = refl
-
-calm-request : (d : DocumentData) (m : ℕ) (n : NodeId) (x : Open) (j q : ℕ) (o : Option Op) → all_calm (numbered m n (request_of d.cluster x j q o)) ≡ true
-calm-request d m n x j q None = refl
-calm-request d m n x j q (Some o) = calm-to_node m n (slice_get (preferred d.cluster.places x.script.home (key_of o)) q) _
-
-calm-prepares : (d : DocumentData) (m : ℕ) (n : NodeId) (x : Open) (ns : List NodeId) → all_calm (numbered m n (prepares d.cluster x ns)) ≡ true
-calm-prepares d m n x [] = refl
-calm-prepares d m n x (y ∷ ns) = calm-prepares d (m + 1) n x ns
-
 told-reading : (s : ScriptData) (x : Story) (j : ℕ) → waiting s.ops x.values ≡ Some j → is_told s (Some x) ≡ true
 told-reading s x j e = rw e refl
 
@@ -92,8 +81,8 @@ told-finished : (s : ScriptData) (x : Story) → is_told s (Some (record x { fin
 told-finished s x = or-true (is_some (waiting s.ops x.values)) (is_update s.ops)
 
 told-end : (d : DocumentData) (now : List Act) (m : ℕ) (n : NodeId) (s : ScriptData) (x : Story) (w : Option ℕ) (b : Bool) → script_of s.number d.scripts ≡ Some s → story d now s.number ≡ Some x → OthersTold d now s.number → waiting s.ops x.values ≡ w → is_update s.ops ≡ b → AllTold d (after now (numbered m n (advance_end d.cluster (open_of s x) w)))
-told-end d now m n s x (Some j) b is at others e u = calm-all d now (numbered m n (request_of d.cluster (open_of s x) j 0 (op_at s.ops j))) (calm-request d m n (open_of s x) j 0 (op_at s.ops j)) (all-from d now s.number s is (rw at (told-reading s x j e)) others)
-told-end d now m n s x None true is at others e u = rw u (calm-all d now (numbered m n (prepares d.cluster (open_of s x) (parts_of d s))) (calm-prepares d m n (open_of s x) (parts_of d s)) (all-from d now s.number s is (rw at (told-update s x u)) others))
+told-end d now m n s x (Some j) b is at others e u = calm-all d now (numbered m n (request_of d.cluster (open_of s x) j 0 (op_at s.ops j))) (calm-numbered m n (request_of d.cluster (open_of s x) j 0 (op_at s.ops j)) (calm-end d.cluster (open_of s x) (Some j))) (all-from d now s.number s is (rw at (told-reading s x j e)) others)
+told-end d now m n s x None true is at others e u = rw u (calm-all d now (numbered m n (prepares d.cluster (open_of s x) (parts_of d s))) (calm-numbered m n (prepares d.cluster (open_of s x) (parts_of d s)) (rw u at (calm-end d.cluster (open_of s x) None))) (all-from d now s.number s is (rw at (told-update s x u)) others))
 told-end d now m n s x None false is at others e u =
     rw u (all-from d (act.Finished s.number ∷ now) s.number s is (let P : Option Story → Type 0 = λ o. is_told s o ≡ true in subst P (sym (story-finished d now s.number x at)) (told-finished s x)) (calm-others d now (act.Finished s.number) s.number refl others))
 

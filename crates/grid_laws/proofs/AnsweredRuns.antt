@@ -1,7 +1,6 @@
 -- Each event leaves the read-only transactions whose reads all have their values answered.
-use Rattle.std.proofs.Common.{◌≡◌, ℕ, Bool, true, false, List, [], ◌∷◌, ◌++◌, Option, Some, None, refl, sym, subst, arith}
-use Rattle.std.specs.Prelude.{◌==◌, ◌&&◌, if◌then◌else◌}
-use Rattle.std.specs.List.{flat_map}
+use Rattle.std.proofs.Common.{◌≡◌, ℕ, Bool, true, false, List, [], ◌∷◌, Option, Some, None, refl, sym, subst, arith}
+use Rattle.std.specs.Prelude.{◌==◌, if◌then◌else◌}
 use Rattle.score_base.specs.declared.ids.TxId.{TxId}
 use Rattle.score_base.specs.declared.ids.NodeId.{NodeId}
 use Rattle.score_base.specs.declared.ids.Ident.{Ident}
@@ -22,26 +21,26 @@ use Rattle.grid_model.specs.Documents.{DocumentData, number_order, script_number
 use Rattle.grid_model.specs.Histories.{after, sent, sent_at}
 use Rattle.grid_model.specs.Journals.{commit_id}
 use Rattle.grid_model.specs.Nodes.{node, journal, script_of}
-use Rattle.grid_model.specs.Stories.{begun, story, is_open, phase, with_value}
+use Rattle.grid_model.specs.Stories.{begun, story, with_value}
 use Rattle.grid_model.specs.Views.{view, stage, Stage, Open, Reads, Collects, Commits, Apart, open_of}
 use Rattle.grid_model.specs.Advances.{advance}
 use Rattle.grid_model.specs.Fitness.{is_fit_at}
 use Rattle.grid_model.specs.Rows.{answer, ask_outs, begin_outs, reply_row, retry_row}
-use Rattle.grid_model.specs.Schedules.{Choice, acts_of, begin_row, deliver_row, drop_row, flag_of, kept, lost_at, next_left, next_number, next_row, numbered, opened_row, or_void, retry_at, row}
+use Rattle.grid_model.specs.Schedules.{Choice, acts_of, begin_row, deliver_row, drop_row, flag_of, kept, next_left, next_number, next_row, numbered, opened_row, or_void, retry_at, row}
 use Rattle.grid_model.proofs.Undecided.{script-number}
 use Rattle.grid_laws.proofs.Stages.{Opens, opens-reads}
 use Rattle.grid_laws.proofs.DueHomes.{story-began, ReadersAnswered}
 use Rattle.grid_laws.proofs.DueAnswers.{story-taken, with_reply, stage-quiet}
-use Rattle.grid_laws.proofs.Answered.{is_told, all_calm, calm-all, calm-told, other-told, other-taken, AllTold, OthersTold}
+use Rattle.grid_laws.proofs.Answered.{is_told, calm-all, calm-told, other-told, other-taken, AllTold, OthersTold}
 use Rattle.grid_laws.proofs.AnsweredRows.{told-advance}
-use Rattle.grid_laws.proofs.CalmOuts.{is_reply, calm-acts, calm-answer, calm-retry, calm-asks, calm_outs}
+use Rattle.grid_laws.proofs.CalmOuts.{is_reply, calm-acts, calm-answer, calm-asks, calm-losses, calm-retry, calm-void}
 
 -- ---- a reply
 
 others-taken : (d : DocumentData) (past : List Act) (q : ReadRep) → AllTold d past → OthersTold d (act.Taken q.t q.op q.sid q.value ∷ past) q.t
 others-taken d past q all t s other e = other-taken s d past q.t t q.op q.sid q.value other (all t s e)
 
-numbered-taken : (m : ℕ) (n : NodeId) (b : Bool) (t : TxId) (op : ℕ) (sid : Ident) (v : ℕ) (os : List Out) → numbered m n (kept b n (out.Act (act.Taken t op sid v) ∷ os)) ≡ act.Taken t op sid v ∷ numbered m n (kept b n os)
+pub numbered-taken : (m : ℕ) (n : NodeId) (b : Bool) (t : TxId) (op : ℕ) (sid : Ident) (v : ℕ) (os : List Out) → numbered m n (kept b n (out.Act (act.Taken t op sid v) ∷ os)) ≡ act.Taken t op sid v ∷ numbered m n (kept b n os)
 numbered-taken m n true t op sid v os = refl
 numbered-taken m n false t op sid v os = refl
 
@@ -116,10 +115,6 @@ told-deliver_row : (d : DocumentData) (past : List Act) (c : Choice) (m : ℕ) (
 told-deliver_row d past c m None is all = all
 told-deliver_row d past c m (Some e) is all = told-delivered d past c m e (node d past e.to).up is all
 
-calm-void : (past : List Act) (code : ℕ) (c : Choice) (n : NodeId) (os : List Out) → calm_outs os ≡ true → all_calm (or_void code os (acts_of past c n os)) ≡ true
-calm-void past code c n [] h = refl
-calm-void past code c n (o ∷ os) h = calm-acts (next_number past) n c.keeps (o ∷ os) h
-
 told-retry_at : (d : DocumentData) (past : List Act) (c : Choice) (t : TxId) (o : Option ScriptData) → AllTold d past → AllTold d (after past (retry_at d past c t o))
 told-retry_at d past c t None all = all
 told-retry_at d past c t (Some s) all = go (node d past s.home).up
@@ -138,22 +133,6 @@ told-ask_row d past c n t false all = all
 told-crash_row : (d : DocumentData) (past : List Act) (n : NodeId) (b : Bool) → AllTold d past → AllTold d (after past (if b then act.Down n None ∷ [] else act.Void 7 ∷ []))
 told-crash_row d past n true all = λ t s e. calm-told s d past (act.Down n None) t refl (all t s e)
 told-crash_row d past n false all = all
-
-calm-many : (xs ys : List Act) → all_calm xs ≡ true → all_calm ys ≡ true → all_calm (xs ++ ys) ≡ true
-calm-many [] ys h k = k
-calm-many (x ∷ xs) ys h k = grind (arith, h, calm-many xs ys)
-
-calm-lost_at : (d : DocumentData) (past : List Act) (n : NodeId) (s : Option ScriptData) → all_calm (lost_at d past n s) ≡ true
-calm-lost_at d past n None = refl
-calm-lost_at d past n (Some s) = go ((s.home == n) && is_open (phase d past s))
-  where
-    go : (b : Bool) → all_calm (if b then act.Lost s.number ∷ [] else []) ≡ true
-    go true = refl
-    go false = refl
-
-calm-losses : (d : DocumentData) (past : List Act) (n : NodeId) (ts : List TxId) → all_calm (flat_map (λ t. lost_at d past n (script_of t d.scripts)) ts) ≡ true
-calm-losses d past n [] = refl
-calm-losses d past n (t ∷ ts) = calm-many (lost_at d past n (script_of t d.scripts)) (flat_map (λ t. lost_at d past n (script_of t d.scripts)) ts) (calm-lost_at d past n (script_of t d.scripts)) (calm-losses d past n ts)
 
 told-restart_row : (d : DocumentData) (past : List Act) (n : NodeId) (f : Flag) (b o : Bool) → AllTold d past → AllTold d (after past (if b then act.Void 8 ∷ [] else (if o then opened_row d past n f else act.StillDown n ∷ [])))
 told-restart_row d past n f true o all = all

@@ -3,6 +3,7 @@ use Rattle.std.proofs.Common.{◌≡◌, ℕ, Bool, true, false, List, [], ◌�
 use Rattle.std.proofs.lemmas.Bool.Decides.{nat_tests}
 use Rattle.std.specs.Prelude.{is_some, ◌==◌, ◌&&◌, ◌||◌, if◌then◌else◌}
 use Rattle.std.specs.List.{list_all}
+use Rattle.std.proofs.lemmas.Bool.{and_parts, and_from}
 use Rattle.score_base.specs.declared.ids.TxId.{TxId}
 use Rattle.score_base.specs.declared.ids.NodeId.{NodeId}
 use Rattle.score_base.specs.declared.records.Record.{Record}
@@ -24,8 +25,6 @@ use Rattle.grid_model.specs.Facts.{has_commit, is_over, parts_at}
 use Rattle.grid_model.specs.Rows.{are_all_among}
 use Rattle.grid_laws.proofs.Causes.{AllDue, ClosedDue, RecordDue}
 use Rattle.grid_laws.proofs.Stages.{stage-commits}
-use Rattle.grid_laws.proofs.DueAnswers.{and-left, and-right}
-use Rattle.grid_laws.proofs.CalmOuts.{and-both}
 use Rattle.grid_laws.proofs.NodesFitActs.{nodes-fit, prepared-is, decision-home, undone-decision}
 use Rattle.grid_laws.proofs.MessagesBacked.{commit-more}
 use Rattle.grid_laws.proofs.Holds.{AllHold, HoldsIn, NodeHolds, records-hold}
@@ -35,11 +34,11 @@ use Rattle.grid_laws.proofs.VotesBacked.{StoryBacked, AllAcks, acks-last, storie
 
 all-among : (P : NodeId → Bool) (ns : List NodeId) → ((n : NodeId) → is_among n ns ≡ true → P n ≡ true) → list_all P ns ≡ true
 all-among P [] go = refl
-all-among P (n ∷ ns) go = and-both (P n) (list_all P ns) (go n (grind (arith, nat_tests))) (all-among P ns (λ k i. go k (grind (arith, i))))
+all-among P (n ∷ ns) go = and_from (P n) (list_all P ns) (go n (grind (arith, nat_tests))) (all-among P ns (λ k i. go k (grind (arith, i))))
 
 all-more : (P Q : NodeId → Bool) (ns : List NodeId) → ((n : NodeId) → P n ≡ true → Q n ≡ true) → list_all P ns ≡ true → list_all Q ns ≡ true
 all-more P Q [] go h = refl
-all-more P Q (n ∷ ns) go h = and-both (Q n) (list_all Q ns) (go n (and-left (P n) (list_all P ns) h)) (all-more P Q ns go (and-right (P n) (list_all P ns) h))
+all-more P Q (n ∷ ns) go h = and_from (Q n) (list_all Q ns) (go n (and_parts (P n) (list_all P ns) h).0) (all-more P Q ns go (and_parts (P n) (list_all P ns) h).1)
 
 pub over-more : (d : DocumentData) (past : List Act) (a : Act) (t : TxId) → is_over d past t ≡ true → is_over d (a ∷ past) t ≡ true
 over-more d past a t h = all-more (λ n. has_commit t (journal d past n)) (λ n. has_commit t (journal d (a ∷ past) n)) (parts_at d t) (λ n i. commit-more d past a n t i) h

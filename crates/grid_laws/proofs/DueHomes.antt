@@ -19,15 +19,16 @@ use Rattle.grid_model.specs.declared.messages.Message.{Message}
 use Rattle.grid_model.specs.declared.messages.Message.TheVariants as message
 use Rattle.grid_model.specs.declared.stories.Story.{Story}
 use Rattle.grid_model.specs.Documents.{DocumentData}
-use Rattle.grid_model.specs.Journals.{Decision, commit_id, undone}
+use Rattle.grid_model.specs.Journals.{Decision, commit_id, decision, undone}
 use Rattle.grid_model.specs.Nodes.{node, journal, script_of, parts_of}
 use Rattle.grid_model.specs.Stories.{phase_at, is_open, story, waiting, begun}
 use Rattle.grid_model.specs.Views.{Stage, Apart, Reads, Collects, Commits, open_of, stage, view}
 use Rattle.grid_model.specs.Advances.{advance, advance_end, op_at, own_reads, prepare_for, prepares, request, request_of, to_node, unread}
 use Rattle.grid_model.specs.Rows.{begin_outs, not_voted, not_among, retry_row, tells}
 use Rattle.grid_model.proofs.Undecided.{script-number}
-use Rattle.grid_laws.proofs.Causes.{IsUp, AtHome, SendDue}
+use Rattle.grid_laws.proofs.Causes.{IsUp, AtHome, SendDue, by_reads}
 use Rattle.grid_laws.proofs.Frames.{same-number}
+use Rattle.grid_laws.proofs.OpenPhases.{open-begun}
 use Rattle.grid_laws.proofs.Stages.{Opens, among-get, among-filter, holds-preferred, opens-reads, opens-collects, stage-commits}
 use Rattle.grid_laws.proofs.DueActs.{OutsDue}
 
@@ -65,30 +66,30 @@ due-prepares d past n m s x (y ∷ ns) at full update parts = (
 
 -- ---- Advance
 
-due-owns : (d : DocumentData) (past : List Act) (n : NodeId) (m : ℕ) (t u : TxId) (s : ScriptData) (x : Story) (ys : List (ℕ × Value)) (rest : List Out) → AtHome d past n u s x → ((now : List Act) → AtHome d now n u s x → OutsDue d now n m rest) → OutsDue d past n m (map (λ y. out.Act (act.Own t y.0 y.1)) ys ++ rest)
-due-owns d past n m t u s x [] rest at go = go past at
-due-owns d past n m t u s x (y ∷ ys) rest at go = (tt, due-owns d (act.Own t y.0 y.1 ∷ past) n m t u s x ys rest (record { script = at.script; home = at.home; story = at.story }) go)
+due-owns : (d : DocumentData) (past : List Act) (n : NodeId) (m : ℕ) (t u : TxId) (s : ScriptData) (x : Story) (ys : List (ℕ × Value)) (rest : List Out) → AtHome d past n u s x → is_open (phase_at s (Some x) (node d past n)) ≡ true → ((now : List Act) → AtHome d now n u s x → is_open (phase_at s (Some x) (node d now n)) ≡ true → OutsDue d now n m rest) → OutsDue d past n m (map (λ y. out.Act (act.Own t y.0 y.1)) ys ++ rest)
+due-owns d past n m t u s x [] rest at unended go = go past at unended
+due-owns d past n m t u s x (y ∷ ys) rest at unended go = (tt, due-owns d (act.Own t y.0 y.1 ∷ past) n m t u s x ys rest (record { script = at.script; home = at.home; story = at.story }) unended go)
 
-due-end : (d : DocumentData) (past : List Act) (n : NodeId) (m : ℕ) (s : ScriptData) (x : Story) (w : Option ℕ) (b : Bool) → AtHome d past n s.number s x → waiting s.ops x.values ≡ w → is_update s.ops ≡ b → OutsDue d past n m (advance_end d.cluster (open_of s x) w)
-due-end d past n m s x (Some j) b at reads update = due-request d past n m s x j 0 at reads
-due-end d past n m s x None true at reads update = rw update (due-prepares d past n m s x (parts_of d s) at reads update (λ y i. i))
-due-end d past n m s x None false at reads update = rw update (tt, tt)
+due-end : (d : DocumentData) (past : List Act) (n : NodeId) (m : ℕ) (s : ScriptData) (x : Story) (w : Option ℕ) (b : Bool) → AtHome d past n s.number s x → is_open (phase_at s (Some x) (node d past n)) ≡ true → waiting s.ops x.values ≡ w → is_update s.ops ≡ b → OutsDue d past n m (advance_end d.cluster (open_of s x) w)
+due-end d past n m s x (Some j) b at unended reads update = due-request d past n m s x j 0 at reads
+due-end d past n m s x None true at unended reads update = rw update (due-prepares d past n m s x (parts_of d s) at reads update (λ y i. i))
+due-end d past n m s x None false at unended reads update = rw update (by_reads (record { n = n; script = s; story = x; at = at; unended = rw (at.home, at.story) unended; full = reads; reader = update }), tt)
 
-pub due-advance : (d : DocumentData) (past : List Act) (n : NodeId) (m : ℕ) (s : ScriptData) (x : Story) (i : ℕ) → AtHome d past n s.number s x → OutsDue d past n m (advance d.cluster (open_of s x) i)
-due-advance d past n m s x i at =
-    due-owns d past n m s.number s.number s x (filter (λ y. nat_lt i y.0) (own_reads 1 [] unread x.values s.ops)) (advance_end d.cluster (open_of s x) (waiting s.ops x.values)) at
-    (λ now at'. due-end d now n m s x (waiting s.ops x.values) (is_update s.ops) at' refl refl)
+pub due-advance : (d : DocumentData) (past : List Act) (n : NodeId) (m : ℕ) (s : ScriptData) (x : Story) (i : ℕ) → AtHome d past n s.number s x → is_open (phase_at s (Some x) (node d past n)) ≡ true → OutsDue d past n m (advance d.cluster (open_of s x) i)
+due-advance d past n m s x i at unended =
+    due-owns d past n m s.number s.number s x (filter (λ y. nat_lt i y.0) (own_reads 1 [] unread x.values s.ops)) (advance_end d.cluster (open_of s x) (waiting s.ops x.values)) at unended
+    (λ now at' open'. due-end d now n m s x (waiting s.ops x.values) (is_update s.ops) at' open' refl refl)
 
 -- ---- a begin
 
 pub story-began : (d : DocumentData) (past : List Act) (t : TxId) (n : NodeId) (sid0 : Ident) → story d (act.Began t n sid0 ∷ past) t ≡ Some (begun sid0)
 story-began d past t n sid0 = rw (same-number t) refl
 
-pub due-begin : (d : DocumentData) (past : List Act) (m : ℕ) (s : ScriptData) → script_of s.number d.scripts ≡ Some s → IsUp d past s.home → story d past s.number ≡ None → OutsDue d past s.home m (begin_outs s.home (view d past s.home) s)
-due-begin d past m s is up new =
+pub due-begin : (d : DocumentData) (past : List Act) (m : ℕ) (s : ScriptData) → script_of s.number d.scripts ≡ Some s → IsUp d past s.home → story d past s.number ≡ None → decision s.number (journal d past s.home) ≡ None → OutsDue d past s.home m (begin_outs s.home (view d past s.home) s)
+due-begin d past m s is up new none =
     let sid0 : Ident = commit_id (journal d past s.home) in (
       record { script = s; is = is; home = refl; up = up; new = new; ident = refl },
-      due-advance d (act.Began s.number s.home sid0 ∷ past) s.home m s (begun sid0) 0 (record { script = is; home = refl; story = story-began d past s.number s.home sid0 }),
+      due-advance d (act.Began s.number s.home sid0 ∷ past) s.home m s (begun sid0) 0 (record { script = is; home = refl; story = story-began d past s.number s.home sid0 }) (open-begun s sid0 (node d past s.home) none),
     )
 
 -- ---- retries
@@ -98,7 +99,7 @@ abbrev pub ReadersAnswered : DocumentData → List Act → Type 0
 ReadersAnswered d past = (t : TxId) (s : ScriptData) (x : Story) → script_of t d.scripts ≡ Some s → story d past t ≡ Some x → waiting s.ops x.values ≡ None → is_update s.ops ≡ false → x.finished ≡ true
 
 -- an open transaction that was not answered is an update
-open-update : (d : DocumentData) (past : List Act) (n : NodeId) (s : ScriptData) (x : Story) (b : Bool) → is_update s.ops ≡ b → is_open (phase_at s (Some x) (node d past n)) ≡ true → (is_update s.ops ≡ false → x.finished ≡ true) → is_update s.ops ≡ true
+pub open-update : (d : DocumentData) (past : List Act) (n : NodeId) (s : ScriptData) (x : Story) (b : Bool) → is_update s.ops ≡ b → is_open (phase_at s (Some x) (node d past n)) ≡ true → (is_update s.ops ≡ false → x.finished ≡ true) → is_update s.ops ≡ true
 open-update d past n s x true e unended told = e
 open-update d past n s x false e unended told = absurd (closes (told e))
   where

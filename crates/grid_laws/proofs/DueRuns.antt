@@ -1,7 +1,7 @@
 -- Each act of a run was due where it came.
-use Rattle.std.proofs.Common.{◌≡◌, ℕ, Bool, true, false, List, [], ◌∷◌, ◌++◌, Option, Some, None, refl, sym, subst}
-use Rattle.std.specs.Prelude.{◌==◌, ◌&&◌, if◌then◌else◌, map}
-use Rattle.std.specs.List.{flat_map, range_with_len}
+use Rattle.std.proofs.Common.{◌≡◌, ℕ, Bool, true, false, List, [], ◌∷◌, Option, Some, None, refl, sym, subst}
+use Rattle.std.specs.Prelude.{if◌then◌else◌, map}
+use Rattle.std.specs.List.{range_with_len}
 use Rattle.score_base.specs.declared.ids.TxId.{TxId}
 use Rattle.score_base.specs.declared.ids.NodeId.{NodeId}
 use Rattle.script_lang.specs.Scripts.{ScriptData}
@@ -15,18 +15,21 @@ use Rattle.grid_model.specs.declared.items.Item.TheVariants as item
 use Rattle.grid_model.specs.declared.messages.Envelope.{Envelope}
 use Rattle.grid_model.specs.declared.stories.Story.{Story}
 use Rattle.grid_model.specs.Documents.{DocumentData}
-use Rattle.grid_model.specs.Histories.{after, sent, sent_at}
+use Rattle.grid_model.specs.Histories.{sent, sent_at}
 use Rattle.grid_model.specs.Nodes.{node, script_of}
-use Rattle.grid_model.specs.Stories.{story, is_open, phase}
+use Rattle.grid_model.specs.Stories.{story}
 use Rattle.grid_model.specs.Views.{view, stage}
 use Rattle.grid_model.specs.Rows.{answer, begin_outs, retry_row, ask_outs}
-use Rattle.grid_model.specs.Schedules.{Choice, acts_of, begin_row, deliver_row, drop_row, lost_at, next_left, next_number, next_row, opened_row, or_void, retry_at, row, start_act, start_row}
+use Rattle.grid_model.specs.Schedules.{Choice, acts_of, begin_row, deliver_row, drop_row, next_left, next_number, next_row, opened_row, or_void, retry_at, row, start_act, start_row}
 use Rattle.grid_model.proofs.Undecided.{script-number}
 use Rattle.grid_laws.proofs.Causes.{IsDue, AreDue}
 use Rattle.grid_laws.proofs.DueActs.{OutsDue, acts-due}
 use Rattle.grid_laws.proofs.DueParts.{due-ask}
 use Rattle.grid_laws.proofs.DueHomes.{ReadersAnswered, due-begin, due-retry}
 use Rattle.grid_laws.proofs.DueAnswers.{due-answer}
+use Rattle.grid_laws.proofs.DueLosses.{due-losses}
+use Rattle.grid_model.specs.Journals.{decision}
+use Rattle.grid_model.specs.Nodes.{journal}
 
 -- ---- rows
 
@@ -37,34 +40,38 @@ due-void : (d : DocumentData) (past : List Act) (c : Choice) (n : NodeId) (code 
 due-void d past c n code [] due = (tt, tt)
 due-void d past c n code (o ∷ os) due = due-outs d past c n (o ∷ os) due
 
-due-begin_at : (d : DocumentData) (past : List Act) (c : Choice) (s : ScriptData) (b : Bool) → script_of s.number d.scripts ≡ Some s → story d past s.number ≡ None → (node d past s.home).up ≡ b → AreDue d past (if b then acts_of past c s.home (begin_outs s.home (view d past s.home) s) else act.Void 2 ∷ [])
-due-begin_at d past c s true is new up = due-outs d past c s.home (begin_outs s.home (view d past s.home) s) (due-begin d past (next_number past) s is up new)
-due-begin_at d past c s false is new up = (tt, tt)
+-- nothing is decided of a transaction that was not begun
+abbrev pub UnbegunUndecided : DocumentData → List Act → Type 0
+UnbegunUndecided d past = (t : TxId) (s : ScriptData) → script_of t d.scripts ≡ Some s → story d past t ≡ None → decision t (journal d past s.home) ≡ None
 
-due-begin_row : (d : DocumentData) (past : List Act) (c : Choice) (t : TxId) (x : Option Story) (s : Option ScriptData) → story d past t ≡ x → script_of t d.scripts ≡ s → AreDue d past (begin_row d past c x s)
-due-begin_row d past c t (Some x) s new is = (tt, tt)
-due-begin_row d past c t None None new is = tt
-due-begin_row d past c t None (Some s) new is =
+due-begin_at : (d : DocumentData) (past : List Act) (c : Choice) (s : ScriptData) (b : Bool) → UnbegunUndecided d past → script_of s.number d.scripts ≡ Some s → story d past s.number ≡ None → (node d past s.home).up ≡ b → AreDue d past (if b then acts_of past c s.home (begin_outs s.home (view d past s.home) s) else act.Void 2 ∷ [])
+due-begin_at d past c s true none is new up = due-outs d past c s.home (begin_outs s.home (view d past s.home) s) (due-begin d past (next_number past) s is up new (none s.number s is new))
+due-begin_at d past c s false none is new up = (tt, tt)
+
+due-begin_row : (d : DocumentData) (past : List Act) (c : Choice) (t : TxId) (x : Option Story) (s : Option ScriptData) → UnbegunUndecided d past → story d past t ≡ x → script_of t d.scripts ≡ s → AreDue d past (begin_row d past c x s)
+due-begin_row d past c t (Some x) s none new is = (tt, tt)
+due-begin_row d past c t None None none new is = tt
+due-begin_row d past c t None (Some s) none new is =
     let same : t ≡ s.number = sym (script-number t d.scripts s is) in
     let P : TxId → Type 0 = λ u. script_of u d.scripts ≡ Some s in
     let Q : TxId → Type 0 = λ u. story d past u ≡ None in
-    due-begin_at d past c s (node d past s.home).up (subst P same is) (subst Q same new) refl
+    due-begin_at d past c s (node d past s.home).up none (subst P same is) (subst Q same new) refl
 
-due-delivered : (d : DocumentData) (past : List Act) (c : Choice) (m : ℕ) (e : Envelope) (b : Bool) → sent_at m (sent past) ≡ Some e → (node d past e.to).up ≡ b → AreDue d past (if b then act.Got m ∷ acts_of past c e.to (answer e.to (view d past e.to) e.from e.message) else act.Missed m ∷ [])
-due-delivered d past c m e true is up = ((e, is, up), acts-due d (act.Got m ∷ past) e.to (next_number past) c.keeps (answer e.to (view d past e.to) e.from e.message) (due-answer d past e.to m (next_number past) e.from e.message up is))
-due-delivered d past c m e false is up = (tt, tt)
+due-delivered : (d : DocumentData) (past : List Act) (c : Choice) (m : ℕ) (e : Envelope) (b : Bool) → ReadersAnswered d past → sent_at m (sent past) ≡ Some e → (node d past e.to).up ≡ b → AreDue d past (if b then act.Got m ∷ acts_of past c e.to (answer e.to (view d past e.to) e.from e.message) else act.Missed m ∷ [])
+due-delivered d past c m e true told is up = ((e, is, up), acts-due d (act.Got m ∷ past) e.to (next_number past) c.keeps (answer e.to (view d past e.to) e.from e.message) (due-answer d past e.to m (next_number past) e.from e.message told up is))
+due-delivered d past c m e false told is up = (tt, tt)
 
-due-deliver_row : (d : DocumentData) (past : List Act) (c : Choice) (m : ℕ) (o : Option Envelope) → sent_at m (sent past) ≡ o → AreDue d past (deliver_row d past c m o)
-due-deliver_row d past c m None is = (tt, tt)
-due-deliver_row d past c m (Some e) is = due-delivered d past c m e (node d past e.to).up is refl
+due-deliver_row : (d : DocumentData) (past : List Act) (c : Choice) (m : ℕ) (o : Option Envelope) → ReadersAnswered d past → sent_at m (sent past) ≡ o → AreDue d past (deliver_row d past c m o)
+due-deliver_row d past c m None told is = (tt, tt)
+due-deliver_row d past c m (Some e) told is = due-delivered d past c m e (node d past e.to).up told is refl
 
 due-drop_row : (d : DocumentData) (past : List Act) (m : ℕ) (o : Option Envelope) → AreDue d past (drop_row m o)
 due-drop_row d past m None = (tt, tt)
 due-drop_row d past m (Some e) = (tt, tt)
 
-due-next_row : (d : DocumentData) (past : List Act) (c : Choice) (o : Option ℕ) → AreDue d past (next_row d past c o)
-due-next_row d past c None = (tt, tt)
-due-next_row d past c (Some m) = due-deliver_row d past c m (sent_at m (sent past)) refl
+due-next_row : (d : DocumentData) (past : List Act) (c : Choice) (o : Option ℕ) → ReadersAnswered d past → AreDue d past (next_row d past c o)
+due-next_row d past c None told = (tt, tt)
+due-next_row d past c (Some m) told = due-deliver_row d past c m (sent_at m (sent past)) told refl
 
 due-retry_at : (d : DocumentData) (past : List Act) (c : Choice) (t : TxId) (o : Option ScriptData) → ReadersAnswered d past → AreDue d past (retry_at d past c t o)
 due-retry_at d past c t None answered = tt
@@ -82,24 +89,8 @@ due-crash_row : (d : DocumentData) (past : List Act) (n : NodeId) (b : Bool) →
 due-crash_row d past n true up = (up, tt)
 due-crash_row d past n false up = (tt, tt)
 
-due-append : (d : DocumentData) (past xs ys : List Act) → AreDue d past xs → AreDue d (after past xs) ys → AreDue d past (xs ++ ys)
-due-append d past [] ys h k = k
-due-append d past (x ∷ xs) ys h k = (h.0, due-append d (x ∷ past) xs ys h.1 k)
-
-due-lost_at : (d : DocumentData) (now past : List Act) (n : NodeId) (s : Option ScriptData) → AreDue d now (lost_at d past n s)
-due-lost_at d now past n None = tt
-due-lost_at d now past n (Some s) = go ((s.home == n) && is_open (phase d past s))
-  where
-    go : (b : Bool) → AreDue d now (if b then act.Lost s.number ∷ [] else [])
-    go true = (tt, tt)
-    go false = tt
-
-due-losses : (d : DocumentData) (now past : List Act) (n : NodeId) (ts : List TxId) → AreDue d now (flat_map (λ t. lost_at d past n (script_of t d.scripts)) ts)
-due-losses d now past n [] = tt
-due-losses d now past n (t ∷ ts) = due-append d now (lost_at d past n (script_of t d.scripts)) _ (due-lost_at d now past n (script_of t d.scripts)) (due-losses d (after now (lost_at d past n (script_of t d.scripts))) past n ts)
-
 due-opened : (d : DocumentData) (past : List Act) (n : NodeId) (f : Flag) → AreDue d past (opened_row d past n f)
-due-opened d past n f = (tt, due-losses d (act.Up n f ∷ past) (act.Up n f ∷ past) n _)
+due-opened d past n f = (tt, due-losses d past n f)
 
 due-restart_row : (d : DocumentData) (past : List Act) (c : Choice) (n : NodeId) (f : Flag) (b o : Bool) → AreDue d past (if b then act.Void 8 ∷ [] else (if o then opened_row d past n f else act.StillDown n ∷ []))
 due-restart_row d past c n f true o = (tt, tt)
@@ -107,16 +98,16 @@ due-restart_row d past c n f false true = due-opened d past n f
 due-restart_row d past c n f false false = (tt, tt)
 
 -- the acts of an event are due
-pub due-row : (d : DocumentData) (past : List Act) (e : Item) (c : Choice) → ReadersAnswered d past → AreDue d past (row d past e c)
-due-row d past (item.Begin t) c answered = due-begin_row d past c t (story d past t) (script_of t d.scripts) refl refl
-due-row d past (item.Deliver m) c answered = due-deliver_row d past c m (sent_at m (sent past)) refl
-due-row d past (item.Drop m) c answered = due-drop_row d past m (sent_at m (sent past))
-due-row d past (item.Next k) c answered = due-next_row d past c (next_left past)
-due-row d past (item.Retry t) c answered = due-retry_at d past c t (script_of t d.scripts) answered
-due-row d past (item.Ask n t) c answered = due-ask_row d past c n t (node d past n).up
-due-row d past (item.Crash n how) c answered = due-crash_row d past n (node d past n).up refl
-due-row d past (item.Fuse n k how) c answered = (tt, tt)
-due-row d past (item.Restart n) c answered = due-restart_row d past c n _ (node d past n).up c.opens
+pub due-row : (d : DocumentData) (past : List Act) (e : Item) (c : Choice) → ReadersAnswered d past → UnbegunUndecided d past → AreDue d past (row d past e c)
+due-row d past (item.Begin t) c answered none = due-begin_row d past c t (story d past t) (script_of t d.scripts) none refl refl
+due-row d past (item.Deliver m) c answered none = due-deliver_row d past c m (sent_at m (sent past)) answered refl
+due-row d past (item.Drop m) c answered none = due-drop_row d past m (sent_at m (sent past))
+due-row d past (item.Next k) c answered none = due-next_row d past c (next_left past) answered
+due-row d past (item.Retry t) c answered none = due-retry_at d past c t (script_of t d.scripts) answered
+due-row d past (item.Ask n t) c answered none = due-ask_row d past c n t (node d past n).up
+due-row d past (item.Crash n how) c answered none = due-crash_row d past n (node d past n).up refl
+due-row d past (item.Fuse n k how) c answered none = (tt, tt)
+due-row d past (item.Restart n) c answered none = due-restart_row d past c n _ (node d past n).up c.opens
 
 due-starts : (d : DocumentData) (past : List Act) (opens : NodeId → Bool) (ns : List NodeId) → AreDue d past (map (start_act opens) ns)
 due-starts d past opens [] = tt

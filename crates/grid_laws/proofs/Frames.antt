@@ -94,13 +94,13 @@ in-without h t op k sid [] i = i
 in-without h t op k sid (x ∷ hs) i = in-rest h (is_read t op k sid x) x hs (without_read t op k sid hs) (in-without h t op k sid hs) i
 
 -- an act that changes no held reads
-abbrev is_still : Act → Bool
+abbrev pub is_still : Act → Bool
 is_still (act.Held n t op sid) = false
 is_still (act.Served n t op k sid vn v) = false
 is_still (act.Down n h) = false
 is_still a = true
 
-held-stays : (d : DocumentData) (e : Option Envelope) (a : Act) (n : NodeId) (x : Node) → is_still a ≡ true → (changed (change d e a n) x).held ≡ x.held
+pub held-stays : (d : DocumentData) (e : Option Envelope) (a : Act) (n : NodeId) (x : Node) → is_still a ≡ true → (changed (change d e a n) x).held ≡ x.held
 held-stays d e a n x h = grind arith
 
 held-where : (h : HeldRead) (b : Bool) (o : Option HeldRead) (x : Node) (ever : List HeldRead) → ((i : HeldRead) → IsIn i x.held → IsIn i ever) → IsIn h (changed (where_at b (Holds o)) x).held → IsIn h (if b then with_held o ever else ever)

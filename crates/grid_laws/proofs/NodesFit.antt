@@ -27,7 +27,7 @@ at-node P m n c here none = elim (cases_eq m n) [
   | inr other ↦ (let Q : Bool → Type 0 = λ b. P n (where_at b c) in let e : false ≡ (m == n) = grind (arith, nat_tests) in subst Q e (none n))
 ]
 
-home-one : (o : Option ScriptData) (n k : NodeId) → is_home_in o n ≡ true → is_home_in o k ≡ true → n ≡ k
+pub home-one : (o : Option ScriptData) (n k : NodeId) → is_home_in o n ≡ true → is_home_in o k ≡ true → n ≡ k
 home-one None n k h i = cc
 home-one (Some s) n k h i = grind (arith, nat_tests, h, i)
 

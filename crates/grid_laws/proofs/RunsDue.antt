@@ -1,39 +1,48 @@
 -- Each act of a lawful run was due where it came.
-use Rattle.std.proofs.Common.{◌≡◌, Bool, true, false, List, [], ◌∷◌, refl, sym, subst}
-use Rattle.std.specs.Prelude.{map, if◌then◌else◌}
+use Rattle.std.proofs.Common.{◌≡◌, true, List, [], ◌∷◌, Option, Some, None, refl, sym, subst}
 use Rattle.std.specs.List.{flat_map, range_with_len}
-use Rattle.score_base.specs.declared.ids.NodeId.{NodeId}
+use Rattle.score_base.specs.declared.ids.TxId.{TxId}
+use Rattle.script_lang.specs.Scripts.{ScriptData}
 use Rattle.grid_model.specs.declared.acts.Act.{Act}
-use Rattle.grid_model.specs.declared.acts.Act.TheVariants as act
-use Rattle.grid_model.specs.declared.acts.Flag.TheVariants as flag
 use Rattle.grid_model.specs.declared.items.Item.{Item}
 use Rattle.grid_model.specs.Documents.{DocumentData}
 use Rattle.grid_model.specs.Histories.{after}
-use Rattle.grid_model.specs.Schedules.{row, start_act, start_row, events_in}
+use Rattle.grid_model.specs.Schedules.{row, start_row, events_in}
 use Rattle.grid_model.specs.Runs.{Rows, IsRun}
+use Rattle.grid_model.specs.Journals.{Decision, decision}
+use Rattle.grid_model.specs.Nodes.{journal}
+use Rattle.grid_model.specs.Stories.{story}
+use Rattle.grid_model.specs.Facts.{has_decided}
+use Rattle.grid_model.proofs.Decisions.{decision-has}
+use Rattle.grid_laws.proofs.CalmOuts.{calm-starts}
 use Rattle.grid_laws.proofs.Causes.{AllDue}
 use Rattle.grid_laws.proofs.DueActs.{after-append, all-after}
-use Rattle.grid_laws.proofs.DueRuns.{due-row, due-start}
-use Rattle.grid_laws.proofs.Answered.{AllTold, all_calm, calm-all}
+use Rattle.grid_laws.proofs.DueRuns.{UnbegunUndecided, due-row, due-start}
+use Rattle.grid_laws.proofs.NodesFitActs.{nodes-fit}
+use Rattle.grid_laws.proofs.DecisionsRest.{decided-say, decision-stands}
+use Rattle.grid_laws.proofs.Answered.{AllTold, calm-all}
 use Rattle.grid_laws.proofs.AnsweredRuns.{told-row, answered-told}
+
+told-none : (d : DocumentData) (past : List Act) (t : TxId) (s : ScriptData) (o : Option Decision) → AllDue d past → story d past t ≡ None → decision t (journal d past s.home) ≡ o → o ≡ None
+told-none d past t s None due new is = refl
+told-none d past t s (Some y) due new is =
+    let has : has_decided t y.final (journal d past s.home) ≡ true = decision-has t y (journal d past s.home) is in
+    let says = (decision-stands d past s.home t y.final (journal d past s.home) (nodes-fit d past due s.home).homes (decided-say d past due s.home).journal has).1 in
+    let told : story d past t ≡ Some says.full.story = says.full.at.story in
+    cc
+
+pub unbegun-undecided : (d : DocumentData) (past : List Act) → AllDue d past → UnbegunUndecided d past
+unbegun-undecided d past due t s is new = told-none d past t s (decision t (journal d past s.home)) due new refl
 
 pub due-rows : (d : DocumentData) (past : List Act) (es : List Item) (h : List Act) → AllDue d past → AllTold d past → Rows d past es h → AllDue d (after past h)
 unfolding Rows
 due-rows d past [] h due told rows = rw rows due
 due-rows d past (e ∷ es) h due told rows =
     let acts : List Act = row d past e rows.0 in
-    let now : AllDue d (after past acts) = all-after d past acts due (due-row d past e rows.0 (answered-told d past told)) in
+    let now : AllDue d (after past acts) = all-after d past acts due (due-row d past e rows.0 (answered-told d past told) (unbegun-undecided d past due)) in
     let more : AllDue d (after (after past acts) rows.1) = due-rows d (after past acts) es rows.1 now (told-row d past e rows.0 told) rows.3 in
     let P : List Act → Type 0 = λ p. AllDue d p in
     rw rows.2 (subst P (sym (after-append past acts rows.1)) more)
-
-calm-starts : (opens : NodeId → Bool) (ns : List NodeId) → all_calm (map (start_act opens) ns) ≡ true
-calm-starts opens [] = refl
-calm-starts opens (n ∷ ns) = first (opens n) (calm-starts opens ns)
-  where
-    first : (b : Bool) → all_calm (map (start_act opens) ns) ≡ true → all_calm ((if b then act.Up n flag.Untouched else act.StillDown n) ∷ map (start_act opens) ns) ≡ true
-    first true h = h
-    first false h = h
 
 -- each act of a run was due
 pub due-run : (d : DocumentData) (items : List Item) (h : List Act) → IsRun d items h → AllDue d (after [] h)

@@ -29,7 +29,7 @@ abbrev pub OfStory : Type 0 → (Option Ident → List (ℕ × Value) → Type 0
 OfStory N Q None = N
 OfStory N Q (Some x) = Q x.sid x.values
 
-if-of : (N : Type 0) (Q : Option Ident → List (ℕ × Value) → Type 0) (b : Bool) (f : Story → Story) (o : Option Story) → ((y : Story) → Q y.sid y.values → Q (f y).sid (f y).values) → OfStory N Q o → OfStory N Q (if_told b f o)
+pub if-of : (N : Type 0) (Q : Option Ident → List (ℕ × Value) → Type 0) (b : Bool) (f : Story → Story) (o : Option Story) → ((y : Story) → Q y.sid y.values → Q (f y).sid (f y).values) → OfStory N Q o → OfStory N Q (if_told b f o)
 if-of N Q b f None go h = h
 if-of N Q true f (Some y) go h = go y h
 if-of N Q false f (Some y) go h = h
@@ -47,12 +47,12 @@ heard-of N Q ns p h t n (message.Vote u (ballot.Yes q)) o k = if-of N Q _ (with_
 heard-of N Q ns p h t n (message.Ack u) o k = if-of N Q _ (with_ack n) o (λ y i. either-of Q _ y _ i i) k
 heard-of N Q ns p h t n said o k = k
 
-got-of : (N : Type 0) (Q : Option Ident → List (ℕ × Value) → Type 0) (d : DocumentData) (past : List Act) (w : Option ScriptData) (e : Option Envelope) (o : Option Story) → OfStory N Q o → OfStory N Q (heard_at d past w e o)
+pub got-of : (N : Type 0) (Q : Option Ident → List (ℕ × Value) → Type 0) (d : DocumentData) (past : List Act) (w : Option ScriptData) (e : Option Envelope) (o : Option Story) → OfStory N Q o → OfStory N Q (heard_at d past w e o)
 got-of N Q d past None e o k = k
 got-of N Q d past (Some s) None o k = k
 got-of N Q d past (Some s) (Some e) o k = else-of N Q (e.to == s.home) _ o (λ i. heard-of N Q (parts_of d s) (phase_at s o (node d past s.home)) (node d past s.home) s.number e.from e.message o k) k
 
-asked-of : (N : Type 0) (Q : Option Ident → List (ℕ × Value) → Type 0) (d : DocumentData) (t : TxId) (said : Message) (o : Option Story) → OfStory N Q o → OfStory N Q (asked d t said o)
+pub asked-of : (N : Type 0) (Q : Option Ident → List (ℕ × Value) → Type 0) (d : DocumentData) (t : TxId) (said : Message) (o : Option Story) → OfStory N Q o → OfStory N Q (asked d t said o)
 asked-of N Q d t (message.ReadReq q) o k = if-of N Q (q.t == t) _ o (λ y i. i) k
 asked-of N Q d t said o k = k
 

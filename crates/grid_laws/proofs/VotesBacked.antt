@@ -2,6 +2,7 @@
 use Rattle.std.proofs.Common.{◌≡◌, ℕ, ◌≤◌, ◌<◌, Bool, true, false, List, [], ◌∷◌, ◌++◌, Option, Some, None, refl, subst, ◌∙◌, arith}
 use Rattle.std.proofs.lemmas.Bool.Decides.{nat_tests}
 use Rattle.std.specs.Prelude.{max, ◌==◌, ◌&&◌, ◌||◌, if◌then◌else◌, nat_le}
+use Rattle.std.proofs.lemmas.Bool.{and_parts}
 use Rattle.score_base.specs.declared.ids.TxId.{TxId}
 use Rattle.score_base.specs.declared.ids.NodeId.{NodeId}
 use Rattle.score_base.specs.declared.ids.Ident.{Ident}
@@ -27,7 +28,6 @@ use Rattle.grid_laws.proofs.Causes.{AllDue}
 use Rattle.grid_laws.proofs.Holds.{sent-hold}
 use Rattle.grid_laws.proofs.NodesFitActs.{nodes-fit}
 use Rattle.grid_laws.proofs.MessagesBacked.{says-more, says-due, prepared-more, commit-more}
-use Rattle.grid_laws.proofs.DueAnswers.{and-left, and-right}
 
 -- each message that was sent, with its sender
 pub says-sent : (d : DocumentData) (past : List Act) → AllDue d past → (m : ℕ) (e : Envelope) → sent_at m (sent past) ≡ Some e → Says d past e.from e.message
@@ -104,8 +104,8 @@ backed-heard d past t s p h x (message.Vote u (ballot.Yes q)) o is says k =
     if-backed d past t ((u == s.number) && is_counted_vote (parts_of d s) p h.journal h.next x q) (with_vote x q) o
     (λ e y i.
     let number : s.number ≡ t = script-number t d.scripts s is in
-    let here : u ≡ s.number = equal u s.number (and-left (u == s.number) (is_counted_vote (parts_of d s) p h.journal h.next x q) e) in
-    let part : is_among x (parts_of d s) ≡ true = counted-part (parts_of d s) p h.journal h.next x q (and-right (u == s.number) (is_counted_vote (parts_of d s) p h.journal h.next x q) e) in
+    let here : u ≡ s.number = equal u s.number (and_parts (u == s.number) (is_counted_vote (parts_of d s) p h.journal h.next x q) e).0 in
+    let part : is_among x (parts_of d s) ≡ true = counted-part (parts_of d s) p h.journal h.next x q (and_parts (u == s.number) (is_counted_vote (parts_of d s) p h.journal h.next x q) e).1 in
     let P : TxId → Type 0 = λ w. has_prepared w q (journal d past x) ≡ true in
     with-vote d past t x q y (has_voted x y.votes) (subst P (here ∙ number) says, rw is part) i)
     k
@@ -116,7 +116,7 @@ backed-heard d past t s p h x (message.Ack u) o is says k =
     if-backed d past t ((u == s.number) && is_counted_ack (parts_of d s) p h.journal h.next x) (with_ack x) o
     (λ e y i.
     let number : s.number ≡ t = script-number t d.scripts s is in
-    let here : u ≡ s.number = equal u s.number (and-left (u == s.number) (is_counted_ack (parts_of d s) p h.journal h.next x) e) in
+    let here : u ≡ s.number = equal u s.number (and_parts (u == s.number) (is_counted_ack (parts_of d s) p h.journal h.next x) e).0 in
     let P : TxId → Type 0 = λ w. has_commit w (journal d past x) ≡ true in
     with-ack d past t x y (is_among x y.acks) (subst P (here ∙ number) says) i)
     k

@@ -29,7 +29,7 @@ pub fn law_locks_exclude()
     ensures { (d : DocumentData) (h : List Act) → IsRun d d.items h → LocksExclude d (after [] h) }
 {}
 
-/// Each message that was sent is backed by a record or an act.
+/// Each vote, commit, acknowledgement and read reply that was sent is backed by a record or an act.
 pub fn law_messages_backed()
     ensures { (d : DocumentData) (h : List Act) → IsRun d d.items h → MessagesBacked d (after [] h) }
 {}

@@ -1,0 +1,110 @@
+-- An open transaction has ended nowhere, and nobody was told that it ended.
+use Rattle.std.proofs.Common.{◌≡◌, ◌⊎◌, ℕ, true, List, ◌∷◌, Option, Some, None, inl, inr, refl, subst}
+use Rattle.score_base.specs.declared.ids.TxId.{TxId}
+use Rattle.score_base.specs.declared.ids.NodeId.{NodeId}
+use Rattle.score_base.specs.declared.ids.Ident.{Ident}
+use Rattle.score_base.specs.declared.causes.Outcome.{Outcome}
+use Rattle.score_base.specs.declared.causes.Outcome.TheVariants as outcome
+use Rattle.script_lang.specs.Scripts.{ScriptData}
+use Rattle.grid_model.specs.declared.acts.Act.{Act}
+use Rattle.grid_model.specs.declared.messages.Message.{Message}
+use Rattle.grid_model.specs.declared.messages.Message.TheVariants as message
+use Rattle.grid_model.specs.Documents.{DocumentData}
+use Rattle.grid_model.specs.Histories.{sent, sent_at}
+use Rattle.grid_model.specs.Journals.{decision, ended, is_closed}
+use Rattle.grid_model.specs.Nodes.{journal, node, script_of}
+use Rattle.grid_model.specs.Stories.{is_open, phase, story}
+use Rattle.grid_model.specs.Facts.{IsDecided, is_given_up}
+use Rattle.grid_model.proofs.Decisions.{closed-decided, decision-has, has_decided-says}
+use Rattle.grid_model.proofs.Stands.{has_commit-says}
+use Rattle.grid_model.proofs.Undecided.{script-number}
+use Rattle.grid_laws.proofs.Causes.{AbortDue, AllDue, SendDue, apart, given_up}
+use Rattle.grid_laws.proofs.NodesFitActs.{decision-home, nodes-fit}
+use Rattle.grid_laws.proofs.OpenPhases.{open-undecided}
+use Rattle.grid_laws.proofs.Holds.{sent-hold}
+use Rattle.grid_laws.proofs.VotesBacked.{says-sent}
+use Rattle.grid_laws.proofs.AbortsFinal.{apart-gone, given-more}
+use Rattle.grid_laws.proofs.EndsMeant.{abort-given-up, commit-decided, is_decided-more}
+use Rattle.grid_laws.proofs.OpenNotGivenUp.{open-not-given-up}
+use Rattle.grid_laws.proofs.DecidedNotGivenUp.{home-at}
+
+-- what is open is not decided
+pub open-not-decided : (d : DocumentData) (past : List Act) → (s : ScriptData) (t : TxId) → script_of t d.scripts ≡ Some s → is_open (phase d past s) ≡ true → (f : Ident) → IsDecided d past t f → ⊥
+open-not-decided d past s t is e f w =
+    let at : s.home ≡ w.0 = home-at d t w.0 s is w.1 in
+    let says = has_decided-says t f (journal d past w.0) w.2 in
+    let P : TxId → Type 0 = λ u. decision u (journal d past s.home) ≡ None in
+    let Q : NodeId → Type 0 = λ k. decision t (journal d past k) ≡ None in
+    let none : decision t (journal d past w.0) ≡ None = subst Q at (subst P (script-number t d.scripts s is) (open-undecided s (story d past s.number) (node d past s.home) e)) in
+    let some : decision t (journal d past w.0) ≡ Some says.0 = says.1 in
+    cc
+
+-- it has ended nowhere
+pub open-not-ended : (d : DocumentData) (past : List Act) → AllDue d past → (s : ScriptData) (t : TxId) → script_of t d.scripts ≡ Some s → is_open (phase d past s) ≡ true → (n : NodeId) → ended t (journal d past n) ≡ None
+open-not-ended d past all s t is e n = go (ended t (journal d past n)) refl
+  where
+    go : (o : Option Outcome) → ended t (journal d past n) ≡ o → o ≡ None
+    go None i = refl
+    go (Some (outcome.Commit f)) i = absurd (open-not-decided d past s t is e f (commit-decided d past all n t f i))
+    go (Some outcome.Abort) i = absurd (open-not-given-up d past all s t is e (abort-given-up d past all n t i))
+
+-- ---- what was told of it
+
+-- t was given up or decided
+abbrev pub IsSettled : DocumentData → List Act → TxId → Type 0
+IsSettled d past t = (is_given_up t past ≡ true) ⊎ ((f : Ident) × IsDecided d past t f)
+
+abbrev TellSettled : DocumentData → List Act → Message → Type 0
+TellSettled d past (message.Tell t outcome.Abort) = IsSettled d past t
+TellSettled d past said = Unit {0}
+
+settled-more : (d : DocumentData) (past : List Act) (a : Act) (t : TxId) → IsSettled d past t → IsSettled d (a ∷ past) t
+settled-more d past a t h = elim h [ inl g ↦ inl (given-more a past t g) | inr w ↦ inr (w.0, is_decided-more d past a t w.0 w.1) ]
+
+tell-more : (d : DocumentData) (past : List Act) (a : Act) (said : Message) → TellSettled d past said → TellSettled d (a ∷ past) said
+tell-more d past a (message.Tell t outcome.Abort) h = settled-more d past a t h
+tell-more d past a (message.Tell t (outcome.Commit f)) h = tt
+tell-more d past a (message.ReadReq q) h = tt
+tell-more d past a (message.ReadRep q) h = tt
+tell-more d past a (message.Prepare q) h = tt
+tell-more d past a (message.Vote t b) h = tt
+tell-more d past a (message.Ack t) h = tt
+tell-more d past a (message.Ask t) h = tt
+
+closed-settled : (d : DocumentData) (past : List Act) (n : NodeId) (t : TxId) → AllDue d past → is_closed t (journal d past n) ≡ true → IsSettled d past t
+closed-settled d past n t all e =
+    let fit = nodes-fit d past all n in
+    let x = closed-decided d.cluster n t (journal d past n) fit.fits e in
+    inr (x.0.final, (n, (decision-home d n t x.0 (journal d past n) fit.homes x.1).home, decision-has t x.0 (journal d past n) x.1))
+
+abort-settled : (d : DocumentData) (past : List Act) (n y : NodeId) (t : TxId) → AllDue d past → AbortDue d past n y t → IsSettled d past t
+abort-settled d past n y t all (given_up h) = inl h
+abort-settled d past n y t all (apart got is) = elim (apart-gone d past n y t all got is) [ inl g ↦ inl g | inr c ↦ closed-settled d past n t all c ]
+
+tell-due : (d : DocumentData) (past : List Act) (n y : NodeId) (said : Message) → AllDue d past → SendDue d past n y said → TellSettled d past said
+tell-due d past n y (message.Tell t outcome.Abort) all due = abort-settled d past n y t all due
+tell-due d past n y (message.Tell t (outcome.Commit f)) all due = tt
+tell-due d past n y (message.ReadReq q) all due = tt
+tell-due d past n y (message.ReadRep q) all due = tt
+tell-due d past n y (message.Prepare q) all due = tt
+tell-due d past n y (message.Vote t b) all due = tt
+tell-due d past n y (message.Ack t) all due = tt
+tell-due d past n y (message.Ask t) all due = tt
+
+-- of an abort that was told
+abort-sent : (d : DocumentData) (past : List Act) → AllDue d past → (m : ℕ) (x y : NodeId) (t : TxId) → sent_at m (sent past) ≡ Some (record { from = x; to = y; message = message.Tell t outcome.Abort }) → IsSettled d past t
+abort-sent d past due m x y t is = sent-hold (λ now n y said. TellSettled d now said) d past (λ now a n y said all h. tell-more d now a said h) (λ now n y said all h. tell-due d now n y said all h) due m (record { from = x; to = y; message = message.Tell t outcome.Abort }) is
+
+-- nobody was told how an open transaction ended
+pub open-not-told : (d : DocumentData) (past : List Act) → AllDue d past → (s : ScriptData) (t : TxId) → script_of t d.scripts ≡ Some s → is_open (phase d past s) ≡ true → (m : ℕ) (x y : NodeId) (o : Outcome) → sent_at m (sent past) ≡ Some (record { from = x; to = y; message = message.Tell t o }) → ⊥
+open-not-told d past all s t is e m x y (outcome.Commit f) i = open-not-decided d past s t is e f (says-sent d past all m (record { from = x; to = y; message = message.Tell t (outcome.Commit f) }) i)
+open-not-told d past all s t is e m x y outcome.Abort i = elim (abort-sent d past all m x y t i) [
+  | inl g ↦ open-not-given-up d past all s t is e g
+  | inr w ↦ open-not-decided d past s t is e w.0 w.1
+]
+
+-- nobody has acknowledged its end
+pub open-not-acked : (d : DocumentData) (past : List Act) → AllDue d past → (s : ScriptData) (t : TxId) → script_of t d.scripts ≡ Some s → is_open (phase d past s) ≡ true → (m : ℕ) (x y : NodeId) → sent_at m (sent past) ≡ Some (record { from = x; to = y; message = message.Ack t }) → ⊥
+open-not-acked d past all s t is e m x y i =
+    let w = has_commit-says d.cluster x t (journal d past x) (nodes-fit d past all x).fits (says-sent d past all m (record { from = x; to = y; message = message.Ack t }) i) in
+    open-not-decided d past s t is e w.0 (commit-decided d past all x t w.0 w.1)
