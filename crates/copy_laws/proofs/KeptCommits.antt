@@ -1,0 +1,141 @@
+-- Each committed update stands in all lists of records that the disks may hold, with the values of the
+-- serial copy.
+use Rattle.std.proofs.Common.{inl, inr, ◌≡◌, true, List, [], ◌∷◌, ◌++◌, reverse, Option, Some, None, refl, sym, ap, subst, ◌∙◌, arith}
+use Rattle.std.proofs.lemmas.Bool.{and_parts, or_cases}
+use Rattle.std.proofs.lemmas.Bool.Decides.{nat_tests}
+use Rattle.std.proofs.lemmas.List.{reverse-reverse}
+use Rattle.std.specs.Prelude.{◌==◌, ◌&&◌, filter, if◌then◌else◌}
+use Rattle.score_base.specs.declared.ids.TxId.{TxId}
+use Rattle.score_base.specs.declared.ids.NodeId.{NodeId}
+use Rattle.score_base.specs.declared.ids.Ident.{Ident}
+use Rattle.score_base.specs.declared.keys.Key.{Key}
+use Rattle.score_base.specs.declared.records.Record.{Record}
+use Rattle.script_lang.specs.Scripts.{ScriptData}
+use Rattle.script_lang.specs.Reads.{is_key_among, is_update, written_keys}
+use Rattle.placement.specs.Places.{holds, is_among}
+use Rattle.grid_model.specs.declared.acts.Act.{Act}
+use Rattle.grid_model.specs.Documents.{DocumentData}
+use Rattle.grid_model.specs.Serials.{Map, map_behind}
+use Rattle.grid_model.specs.Journals.{Prepared, prepared_of}
+use Rattle.grid_model.specs.Nodes.{is_home_in, journal, node, parts_in, script_of}
+use Rattle.grid_model.specs.Stories.{waiting}
+use Rattle.grid_model.specs.Advances.{own_map}
+use Rattle.grid_model.specs.Copies.{copy_of, is_finished, order}
+use Rattle.grid_model.specs.Facts.{has_decided, IsDecided, RestsOnParts}
+use Rattle.grid_model.specs.Claims.{AreLogs, IsKept, IsLog, in_doubt, standing, writes_at, writes_on}
+use Rattle.grid_model.proofs.KeyLists.{among-here, among-later}
+use Rattle.grid_model.proofs.Decisions.{has_decided-grows}
+use Rattle.grid_model.proofs.Once.{prepared-stays}
+use Rattle.grid_model.proofs.Stands.{has_prepared-says}
+use Rattle.grid_model.proofs.Undecided.{script-number}
+use Rattle.grid_model.proofs.Written.{among-filter, with_values}
+use Rattle.grid_model.proofs.SerialWalks.{AreOf, map-serial}
+use Rattle.grid_model.proofs.SerialCopies.{AllTake, Takes, copy-last, last_map, take-rest}
+use Rattle.grid_laws.proofs.DecisionsRest.{decisions-rest}
+use Rattle.grid_laws.proofs.NodesFitActs.{nodes-fit}
+use Rattle.grid_laws.proofs.FinishedSay.{finished-update}
+use Rattle.copy_laws.proofs.OrderMembers.{decided-order}
+use Rattle.grid_model.proofs.Orders.{has_member}
+use Rattle.copy_laws.proofs.Footing.{Rests, values_in}
+use Rattle.copy_laws.proofs.PreparedFields.{PreparedOf, prepared-fields}
+use Rattle.copy_laws.proofs.AllTaken.{all-taken, Decided, decided-member}
+
+-- ---- what a log has
+
+-- what stands in a journal and stays behind one record more is in each list that its disk may hold
+in-log : (d : DocumentData) (past : List Act) (n : NodeId) (log : List Record) (P : List Record → Type 0) → ((y : Record) (r : List Record) → P r → P (y ∷ r)) → IsLog (node d past n) log → P (journal d past n) → P (reverse log)
+in-log d past n log P more (standing is) h = subst P (sym (ap reverse is ∙ reverse-reverse (journal d past n))) h
+in-log d past n log P more (in_doubt last doubt is) h = subst P (sym (ap reverse is ∙ reverse-reverse (last ∷ journal d past n))) (more last (journal d past n) h)
+
+-- ---- what a member wrote
+
+same-values : (g m : Map) (ks : List Key) → ((k : Key) → is_key_among k ks ≡ true → g k ≡ m k) → with_values g ks ≡ with_values m ks
+same-values g m [] each = refl
+same-values g m (k ∷ ks) each =
+    let here : (k, g k) ≡ (k, m k) = ap (λ v. (k, v)) (each k (among-here k ks)) in
+    let rest : with_values g ks ≡ with_values m ks = same-values g m ks (λ x h. each x (among-later x k ks h)) in
+    ap (λ y. y ∷ with_values g ks) here ∙ ap (λ ys. (k, m k) ∷ ys) rest
+
+-- a member of the order took its values from the copy of those before it
+copy-takes : (d : DocumentData) (past : List Act) (f : Ident) (t : TxId) (s : ScriptData) (later before : List (Ident × TxId)) → Rests d past → order d past ≡ later ++ (f, t) ∷ before → script_of t d.scripts ≡ Some s → (waiting s.ops (values_in d past t) ≡ None) × AreOf (copy_of d before) 1 (values_in d past t) s.ops
+copy-takes d past f t s later before r at is =
+    let all : AllTake d (values_in d past) (later ++ (f, t) ∷ before) = subst (AllTake d (values_in d past)) at (all-taken d past r) in
+    let mine : AllTake d (values_in d past) ((f, t) ∷ before) = take-rest d (values_in d past) later ((f, t) ∷ before) all in
+    let P : Option ScriptData → Type 0 = λ o. Takes o (values_in d past t) (last_map d (values_in d past) before) in
+    let takes = subst P is mine.0 in
+    (takes.0, λ i k v named e. takes.1 i k v named e ∙ sym (copy-last d (values_in d past) before mine.1 k))
+
+-- so what it wrote is what its script leaves there
+wrote-copy : (d : DocumentData) (past : List Act) (f : Ident) (t : TxId) (s : ScriptData) (n : NodeId) (later before : List (Ident × TxId)) → Rests d past → order d past ≡ later ++ (f, t) ∷ before → script_of t d.scripts ≡ Some s → with_values (own_map s.ops (values_in d past t)) (filter (holds d.cluster.places n) (written_keys [] s.ops)) ≡ writes_on d n s (copy_of d before)
+wrote-copy d past f t s n later before r at is = same-values (own_map s.ops (values_in d past t)) (map_behind (copy_of d before) s.ops) (filter (holds d.cluster.places n) (written_keys [] s.ops)) each
+  where
+    each : (k : Key) → is_key_among k (filter (holds d.cluster.places n) (written_keys [] s.ops)) ≡ true → own_map s.ops (values_in d past t) k ≡ map_behind (copy_of d before) s.ops k
+    each k h =
+        let takes = copy-takes d past f t s later before r at is in
+        let among : is_key_among k (written_keys [] s.ops) ≡ true = (and_parts (is_key_among k (written_keys [] s.ops)) (holds d.cluster.places n k) (sym (among-filter (holds d.cluster.places n) k (written_keys [] s.ops)) ∙ h)).0 in
+        sym (map-serial (copy_of d before) (values_in d past t) s.ops k takes.0 takes.1 ∙ ap (λ b. if b then own_map s.ops (values_in d past t) k else copy_of d before k) among)
+
+-- ---- a committed update
+
+-- the Prepared of a member stands at each part, with all its writes there
+prepared-copy : (d : DocumentData) (past : List Act) (f : Ident) (t : TxId) (s : ScriptData) (n : NodeId) (later before : List (Ident × TxId)) → Rests d past → order d past ≡ later ++ (f, t) ∷ before → script_of t d.scripts ≡ Some s → is_among n (parts_in d (Some s)) ≡ true → (x : Prepared) × (prepared_of t (journal d past n) ≡ Some x) × (x.writes ≡ writes_on d n s (copy_of d before))
+prepared-copy d past f t s n later before r at is part =
+    let w : Decided d past f t = decided-member d past f t later before r at in
+    let rests : RestsOnParts d past t f = (decisions-rest d past r.due w.decided.0 t f w.decided.2).1 in
+    let P : Option ScriptData → Type 0 = λ o. is_among n (parts_in d o) ≡ true in
+    let p = rests.each n (subst P (sym is) part) in
+    let x = has_prepared-says d.cluster n t p.0 (journal d past n) (nodes-fit d past r.due n).fits p.1 in
+    let y : PreparedOf d past n t x.0 = prepared-fields d past n t x.0 r.due x.1 in
+    let same : y.script ≡ s = one-script y.script (sym y.named ∙ is) in
+    (x.0, x.1, y.writes ∙ ap (λ (z : ScriptData). with_values (own_map z.ops (values_in d past t)) (filter (holds d.cluster.places n) (written_keys [] z.ops))) same ∙ wrote-copy d past f t s n later before r at is)
+  where
+    one-script : (z : ScriptData) → Some z ≡ Some s → z ≡ s
+    one-script z e = cc
+
+-- a committed update is kept in all lists that the disks may hold
+commit-kept : (d : DocumentData) (past : List Act) (logs : NodeId → List Record) (s : ScriptData) (f : Ident) (later before : List (Ident × TxId)) → Rests d past → AreLogs d past logs → script_of s.number d.scripts ≡ Some s → order d past ≡ later ++ (f, s.number) ∷ before → IsKept d past logs s
+commit-kept d past logs s f later before r are is at = record { final = f; later = later; before = before; member = at; decided = home-log; prepared = part-log }
+  where
+    t : TxId
+    t = s.number
+
+    w : Decided d past f t
+    w = decided-member d past f t later before r at
+
+    home : w.decided.0 ≡ s.home
+    home =
+        let mine : is_home_in (Some s) w.decided.0 ≡ true = subst (λ (o : Option ScriptData). is_home_in o w.decided.0 ≡ true) is w.decided.1 in
+        sym (grind (arith, nat_tests, mine))
+
+    home-log : has_decided t f (reverse (logs s.home)) ≡ true
+    home-log = in-log d past s.home (logs s.home) (λ r. has_decided t f r ≡ true) (λ y r h. has_decided-grows t f y r h) (are.each s.home) (subst (λ (n : NodeId). has_decided t f (journal d past n) ≡ true) home w.decided.2)
+
+    part-log : (n : NodeId) → is_among n (parts_in d (Some s)) ≡ true → writes_at (prepared_of t (reverse (logs n))) ≡ Some (writes_on d n s (copy_of d before))
+    part-log n part =
+        let x = prepared-copy d past f t s n later before r at is part in
+        let stands : prepared_of t (reverse (logs n)) ≡ Some x.0 = in-log d past n (logs n) (λ r. prepared_of t r ≡ Some x.0) (λ y r h. prepared-stays t y r x.0 h) (are.each n) x.1 in
+        ap writes_at stands ∙ ap (λ ws. Some ws) x.2
+
+-- ---- a finished update
+
+-- a member of a list stands between others
+pub member-split : (f : Ident) (t : TxId) (xs : List (Ident × TxId)) → has_member f t xs ≡ true → (later : List (Ident × TxId)) × (before : List (Ident × TxId)) × (xs ≡ later ++ (f, t) ∷ before)
+member-split f t [] h = cc
+member-split f t (x ∷ xs) h = elim (or_cases (x.0 == f && x.1 == t) (has_member f t xs) h) [
+  | inl here ↦
+      let f' : x.0 ≡ f = grind (arith, nat_tests, here) in
+      let t' : x.1 ≡ t = grind (arith, nat_tests, here) in
+      ([], xs, ap (λ g. (g, x.1) ∷ xs) f' ∙ ap (λ u. (f, u) ∷ xs) t')
+  | inr more ↦ (let w = member-split f t xs more in (x ∷ w.0, w.1, ap (λ ys. x ∷ ys) w.2))
+]
+
+-- it is decided, so it is in the order, and it is kept
+pub finished-kept : (d : DocumentData) (past : List Act) (logs : NodeId → List Record) (s : ScriptData) (t : TxId) → Rests d past → AreLogs d past logs → script_of t d.scripts ≡ Some s → is_update s.ops ≡ true → is_finished past t ≡ true → IsKept d past logs s
+finished-kept d past logs s t r are is update finished =
+    let number : s.number ≡ t = script-number t d.scripts s is in
+    let f = finished-update d past r.due s t is update finished in
+    let P : TxId → Type 0 = λ u. IsDecided d past u f.0 in
+    let dec : IsDecided d past s.number f.0 = subst P (sym number) f.1 in
+    let w = member-split f.0 s.number (order d past) (decided-order d past s.number f.0 r.one dec) in
+    let Q : TxId → Type 0 = λ u. script_of u d.scripts ≡ Some s in
+    commit-kept d past logs s f.0 w.0 w.1 r are (subst Q (sym number) is) w.2

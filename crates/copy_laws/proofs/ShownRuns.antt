@@ -1,0 +1,231 @@
+-- Between events each transaction was shown what its script reads by the values that it took.
+use Rattle.std.proofs.Common.{◌≡◌, ℕ, Bool, true, false, List, [], ◌∷◌, ◌++◌, Option, Some, None, refl, sym, ap, subst, ◌∙◌, arith}
+use Rattle.std.proofs.lemmas.Bool.Decides.{nat_tests}
+use Rattle.std.proofs.lemmas.List.{append_assoc}
+use Rattle.std.specs.Prelude.{◌==◌, filter, nat_lt, if◌then◌else◌}
+use Rattle.std.specs.List.{flat_map, range_with_len}
+use Rattle.score_base.specs.declared.ids.TxId.{TxId}
+use Rattle.score_base.specs.declared.ids.NodeId.{NodeId}
+use Rattle.score_base.specs.declared.ids.Ident.{Ident}
+use Rattle.score_base.specs.declared.ids.Value.{Value}
+use Rattle.script_lang.specs.Scripts.{ScriptData}
+use Rattle.grid_model.specs.declared.acts.Act.{Act}
+use Rattle.grid_model.specs.declared.acts.Act.TheVariants as act
+use Rattle.grid_model.specs.declared.acts.Flag.{Flag}
+use Rattle.grid_model.specs.declared.events.Out.{Out}
+use Rattle.grid_model.specs.declared.events.Out.TheVariants as out
+use Rattle.grid_model.specs.declared.items.Item.{Item}
+use Rattle.grid_model.specs.declared.items.Item.TheVariants as item
+use Rattle.grid_model.specs.declared.messages.Envelope.{Envelope}
+use Rattle.grid_model.specs.declared.messages.Message.{Message}
+use Rattle.grid_model.specs.declared.messages.Message.TheVariants as message
+use Rattle.grid_model.specs.declared.messages.ReadRep.{ReadRep}
+use Rattle.grid_model.specs.declared.stories.Story.{Story}
+use Rattle.grid_model.specs.Documents.{DocumentData, number_order, script_numbers}
+use Rattle.grid_model.specs.Histories.{after, sent, sent_at}
+use Rattle.grid_model.specs.Journals.{commit_id}
+use Rattle.grid_model.specs.Nodes.{node, journal, script_of}
+use Rattle.grid_model.specs.Stories.{begun, story, with_value, waiting}
+use Rattle.grid_model.specs.Views.{view, stage, Stage, Open, Reads, Collects, Commits, Apart, open_of}
+use Rattle.grid_model.specs.Advances.{advance, own_reads, unread}
+use Rattle.grid_model.specs.Fitness.{is_fit_at}
+use Rattle.grid_model.specs.Rows.{answer, ask_outs, begin_outs, reply_row, retry_row}
+use Rattle.grid_model.specs.Schedules.{Choice, acts_of, ask_row, begin_row, crash_row, deliver_row, drop_row, events_in, flag_of, kept, next_left, next_number, next_row, numbered, opened_row, or_void, restart_row, retry_at, row, start_row}
+use Rattle.grid_model.specs.Runs.{Rows, IsRun}
+use Rattle.grid_model.specs.Copies.{shown}
+use Rattle.grid_model.proofs.Undecided.{script-number}
+use Rattle.grid_model.proofs.AllReads.{reads_by, first-reads, reads-next}
+use Rattle.grid_laws.proofs.Causes.{AllDue}
+use Rattle.grid_laws.proofs.Frames.{same-number}
+use Rattle.grid_laws.proofs.Stages.{Opens, opens-reads}
+use Rattle.grid_laws.proofs.DueHomes.{story-began}
+use Rattle.grid_laws.proofs.DueActs.{after-append}
+use Rattle.grid_laws.proofs.DueAnswers.{story-taken, with_reply, stage-quiet}
+use Rattle.grid_laws.proofs.RunsDue.{due-run}
+use Rattle.grid_laws.proofs.SilentOuts.{is_reply, all_silent, silent-starts, silent-acts, silent-answer, silent-asks, silent-losses, silent-retry, silent-void}
+use Rattle.copy_laws.proofs.ShownSteps.{AllShown, OthersShown, Says, ShownBy, other-began, other-took, silent-all, silent-by, story-order, story_reads}
+use Rattle.copy_laws.proofs.ShownRows.{shown-advance}
+
+-- ---- a reply
+
+taken-kept : (m : ℕ) (n : NodeId) (b : Bool) (t : TxId) (op : ℕ) (sid : Ident) (v : ℕ) (os : List Out) → numbered m n (kept b n (out.Act (act.Taken t op sid v) ∷ os)) ≡ act.Taken t op sid v ∷ numbered m n (kept b n os)
+taken-kept m n true t op sid v os = refl
+taken-kept m n false t op sid v os = refl
+
+taken-shown : (past : List Act) (t : TxId) (op : ℕ) (sid : Ident) (v : Value) → shown (act.Taken t op sid v ∷ past) t ≡ shown past t ++ (op, v) ∷ []
+taken-shown past t op sid v = rw (same-number t) refl
+
+others-took : (d : DocumentData) (past : List Act) (q : ReadRep) → AllShown d past → OthersShown d (act.Taken q.t q.op q.sid q.value ∷ past) q.t
+others-took d past q all t s other e = other-took d past q.t t q.op q.sid q.value s other (all t s e)
+
+-- the reply that was waited for is shown, and the own reads behind it are left
+left-behind : (d : DocumentData) (past : List Act) (q : ReadRep) (s : ScriptData) (x : Story) → AllDue d past → script_of q.t d.scripts ≡ Some s → story d past q.t ≡ Some x → waiting s.ops x.values ≡ Some q.op → ShownBy d past q.t s → shown (act.Taken q.t q.op q.sid q.value ∷ past) q.t ++ filter (λ y. nat_lt q.op y.0) (own_reads 1 [] unread (x.values ++ (q.op, q.value) ∷ []) s.ops) ≡ reads_by (x.values ++ (q.op, q.value) ∷ []) s.ops
+left-behind d past q s x due is at reads mine =
+    let order = story-order d past q.t s x due is at in
+    let P : Option Story → Type 0 = λ o. Says s (shown past q.t) o in
+    let before : shown past q.t ≡ reads_by x.values s.ops = subst P at mine in
+    let owns : List (ℕ × Value) = filter (λ y. nat_lt q.op y.0) (own_reads 1 [] unread (x.values ++ (q.op, q.value) ∷ []) s.ops) in
+    ap (λ zs. zs ++ owns) (taken-shown past q.t q.op q.sid q.value)
+    ∙ append_assoc (shown past q.t) ((q.op, q.value) ∷ []) owns
+    ∙ ap (λ zs. zs ++ ((q.op, q.value) ∷ owns)) before
+    ∙ sym (reads-next q.op q.value x.values order.0 s.ops order.1 reads)
+
+shown-taken : (d : DocumentData) (past : List Act) (m : ℕ) (n : NodeId) (b : Bool) (q : ReadRep) (x : Open) → Opens d past n q.t x (Some q.op) → AllDue d past → AllShown d past → AllShown d (after past (numbered m n (kept b n (out.Act (act.Taken q.t q.op q.sid q.value) ∷ advance d.cluster (with_reply q x) q.op))))
+shown-taken d past m n b q x o due all =
+    let now : List Act = act.Taken q.t q.op q.sid q.value ∷ past in
+    let y : Story = with_value q.op q.sid q.value o.story in
+    let number : o.script.number ≡ q.t = script-number q.t d.scripts o.script o.at.script in
+    let at : story d now q.t ≡ Some y = story-taken d past q o.story o.at.story in
+    let left = left-behind d past q o.script o.story due o.at.script o.at.story o.reads (all q.t o.script o.at.script) in
+    let P : TxId → Type 0 = λ u. script_of u d.scripts ≡ Some o.script in
+    let Q : TxId → Type 0 = λ u. story d now u ≡ Some y in
+    let L : TxId → Type 0 = λ u. shown now u ++ filter (λ z. nat_lt q.op z.0) (own_reads 1 [] unread y.values o.script.ops) ≡ reads_by y.values o.script.ops in
+    let R : TxId → Type 0 = λ u. OthersShown d now u in
+    let S : Open → Type 0 = λ z. AllShown d (after now (numbered m n (kept b n (advance d.cluster (with_reply q z) q.op)))) in
+    let T : List Act → Type 0 = λ acts. AllShown d (after past acts) in
+    subst T (sym (taken-kept m n b q.t q.op q.sid q.value (advance d.cluster (with_reply q x) q.op)))
+    (subst S (sym o.is) (shown-advance d now m n b o.script y q.op (subst P (sym number) o.at.script) (subst Q (sym number) at) (subst L (sym number) left) (subst R (sym number) (others-took d past q all))))
+
+shown-if : (d : DocumentData) (past : List Act) (m : ℕ) (n : NodeId) (b c c' : Bool) (os : List Out) → c' ≡ c → AllShown d past → (c' ≡ true → AllShown d (after past (numbered m n (kept b n os)))) → AllShown d (after past (numbered m n (kept b n (if c then os else []))))
+shown-if d past m n b true c' os e all go = go e
+shown-if d past m n true false c' os e all go = all
+shown-if d past m n false false c' os e all go = all
+
+shown-none : (d : DocumentData) (past : List Act) (m : ℕ) (n : NodeId) (b : Bool) → AllShown d past → AllShown d (after past (numbered m n (kept b n [])))
+shown-none d past m n true all = all
+shown-none d past m n false all = all
+
+shown-reply : (d : DocumentData) (past : List Act) (m : ℕ) (n : NodeId) (b : Bool) (q : ReadRep) (g : Stage) → stage (view d past n) q.t ≡ g → AllDue d past → AllShown d past → AllShown d (after past (numbered m n (kept b n (reply_row d.cluster q g))))
+shown-reply d past m n b q (Reads x j) e due all =
+    shown-if d past m n b (j == q.op) (j == q.op) (out.Act (act.Taken q.t q.op q.sid q.value) ∷ advance d.cluster (with_reply q x) q.op) refl all
+    (λ same. (let is : j ≡ q.op = grind (arith, nat_tests, same) in
+    let P : ℕ → Type 0 = λ i. Opens d past n q.t x (Some i) in
+    shown-taken d past m n b q x (subst P is (opens-reads d past n q.t x j e)) due all))
+shown-reply d past m n b q (Collects x) e due all = shown-none d past m n b all
+shown-reply d past m n b q (Commits y acks) e due all = shown-none d past m n b all
+shown-reply d past m n b q Apart e due all = shown-none d past m n b all
+
+shown-answer : (d : DocumentData) (past : List Act) (k m : ℕ) (n x : NodeId) (b : Bool) (said : Message) (c : Bool) → is_reply said ≡ c → sent_at k (sent past) ≡ Some (record { from = x; to = n; message = said }) → AllDue d (act.Got k ∷ past) → AllShown d (act.Got k ∷ past) → AllShown d (after (act.Got k ∷ past) (numbered m n (kept b n (answer n (view d past n) x said))))
+shown-answer d past k m n x b (message.ReadRep q) c quiet is due all =
+    let now : List Act = act.Got k ∷ past in
+    let same : stage (view d now n) q.t ≡ stage (view d past n) q.t = stage-quiet d past k x n (message.ReadRep q) q.t is refl in
+    let fit : Bool = is_fit_at n (view d past n) (stage (view d past n) q.t) x (message.ReadRep q) in
+    shown-if d now m n b fit fit (reply_row d.cluster q (stage (view d past n) q.t)) refl all (λ e. shown-reply d now m n b q (stage (view d past n) q.t) same due all)
+shown-answer d past k m n x b said true quiet is due all = cc
+shown-answer d past k m n x b said false quiet is due all = silent-all d (act.Got k ∷ past) (numbered m n (kept b n (answer n (view d past n) x said))) (silent-acts m n b (answer n (view d past n) x said) (silent-answer n (view d past n) x said quiet)) all
+
+-- ---- a begin
+
+began-kept : (m : ℕ) (n : NodeId) (b : Bool) (t : TxId) (sid0 : Ident) (os : List Out) → numbered m n (kept b n (out.Act (act.Began t n sid0) ∷ os)) ≡ act.Began t n sid0 ∷ numbered m n (kept b n os)
+began-kept m n true t sid0 os = refl
+began-kept m n false t sid0 os = refl
+
+shown-begin : (d : DocumentData) (past : List Act) (m : ℕ) (b : Bool) (s : ScriptData) → script_of s.number d.scripts ≡ Some s → story d past s.number ≡ None → AllShown d past → AllShown d (after past (numbered m s.home (kept b s.home (begin_outs s.home (view d past s.home) s))))
+shown-begin d past m b s is new all =
+    let sid0 : Ident = commit_id (journal d past s.home) in
+    let now : List Act = act.Began s.number s.home sid0 ∷ past in
+    let P : Option Story → Type 0 = λ o. Says s (shown past s.number) o in
+    let none : shown past s.number ≡ [] = subst P new (all s.number s is) in
+    let owns : List (ℕ × Value) = filter (λ y. nat_lt 0 y.0) (own_reads 1 [] unread [] s.ops) in
+    let left : shown now s.number ++ owns ≡ reads_by [] s.ops = ap (λ zs. zs ++ owns) none ∙ sym (first-reads s.ops) in
+    let T : List Act → Type 0 = λ acts. AllShown d (after past acts) in
+    subst T (sym (began-kept m s.home b s.number sid0 (advance d.cluster (open_of s (begun sid0)) 0)))
+    (shown-advance d now m s.home b s (begun sid0) 0 is (story-began d past s.number s.home sid0) left (λ t w other e. other-began d past s.number t s.home sid0 w other (all t w e)))
+
+shown-begin_at : (d : DocumentData) (past : List Act) (c : Choice) (s : ScriptData) (b : Bool) → script_of s.number d.scripts ≡ Some s → story d past s.number ≡ None → AllShown d past → AllShown d (after past (if b then acts_of past c s.home (begin_outs s.home (view d past s.home) s) else act.Void 2 ∷ []))
+shown-begin_at d past c s true is new all = shown-begin d past (next_number past) c.keeps s is new all
+shown-begin_at d past c s false is new all = silent-all d past (act.Void 2 ∷ []) refl all
+
+shown-begin_row : (d : DocumentData) (past : List Act) (c : Choice) (t : TxId) (x : Option Story) (s : Option ScriptData) → script_of t d.scripts ≡ s → story d past t ≡ x → AllShown d past → AllShown d (after past (begin_row d past c x s))
+shown-begin_row d past c t (Some x) s is at all = silent-all d past (act.Void 1 ∷ []) refl all
+shown-begin_row d past c t None None is at all = all
+shown-begin_row d past c t None (Some s) is at all =
+    let P : TxId → Type 0 = λ u. script_of u d.scripts ≡ Some s in
+    let Q : TxId → Type 0 = λ u. story d past u ≡ None in
+    let number : t ≡ s.number = sym (script-number t d.scripts s is) in
+    shown-begin_at d past c s (node d past s.home).up (subst P number is) (subst Q number at) all
+
+-- ---- the other rows
+
+shown-delivered : (d : DocumentData) (past : List Act) (c : Choice) (m : ℕ) (e : Envelope) (b : Bool) → (node d past e.to).up ≡ b → sent_at m (sent past) ≡ Some e → AllDue d past → AllShown d past → AllShown d (after past (if b then act.Got m ∷ acts_of past c e.to (answer e.to (view d past e.to) e.from e.message) else act.Missed m ∷ []))
+shown-delivered d past c m e true up is due all = shown-answer d past m (next_number past) e.to e.from c.keeps e.message (is_reply e.message) refl is ((e, is, up), due) (λ t s f. silent-by d past (act.Got m) t s refl (all t s f))
+shown-delivered d past c m e false up is due all = silent-all d past (act.Missed m ∷ []) refl all
+
+shown-deliver_row : (d : DocumentData) (past : List Act) (c : Choice) (m : ℕ) (o : Option Envelope) → sent_at m (sent past) ≡ o → AllDue d past → AllShown d past → AllShown d (after past (deliver_row d past c m o))
+shown-deliver_row d past c m None is due all = silent-all d past (act.Void 3 ∷ []) refl all
+shown-deliver_row d past c m (Some e) is due all = shown-delivered d past c m e (node d past e.to).up refl is due all
+
+silent-drop_row : (m : ℕ) (o : Option Envelope) → all_silent (drop_row m o) ≡ true
+silent-drop_row m None = refl
+silent-drop_row m (Some e) = refl
+
+shown-next_row : (d : DocumentData) (past : List Act) (c : Choice) (o : Option ℕ) → AllDue d past → AllShown d past → AllShown d (after past (next_row d past c o))
+shown-next_row d past c None due all = silent-all d past (act.Void 4 ∷ []) refl all
+shown-next_row d past c (Some m) due all = shown-deliver_row d past c m (sent_at m (sent past)) refl due all
+
+silent-either : (b : Bool) (xs ys : List Act) → all_silent xs ≡ true → all_silent ys ≡ true → all_silent (if b then xs else ys) ≡ true
+silent-either true xs ys h k = h
+silent-either false xs ys h k = k
+
+silent-retry_at : (d : DocumentData) (past : List Act) (c : Choice) (t : TxId) (o : Option ScriptData) → all_silent (retry_at d past c t o) ≡ true
+silent-retry_at d past c t None = refl
+silent-retry_at d past c t (Some s) =
+    let os : List Out = retry_row d.cluster t (stage (view d past s.home) t) in
+    silent-either (node d past s.home).up (or_void 5 os (acts_of past c s.home os)) (act.Void 2 ∷ []) (silent-void past 5 c s.home os (silent-retry d.cluster t (stage (view d past s.home) t))) refl
+
+silent-ask_row : (d : DocumentData) (past : List Act) (c : Choice) (n : NodeId) (t : TxId) → all_silent (ask_row d past c n t) ≡ true
+silent-ask_row d past c n t =
+    let os : List Out = ask_outs (view d past n) t in
+    silent-either (node d past n).up (or_void 6 os (acts_of past c n os)) (act.Void 6 ∷ []) (silent-void past 6 c n os (silent-asks (view d past n) t)) refl
+
+silent-opened_row : (d : DocumentData) (past : List Act) (n : NodeId) (f : Flag) → all_silent (opened_row d past n f) ≡ true
+silent-opened_row d past n f = silent-losses d (act.Up n f ∷ past) n (number_order (script_numbers d.scripts))
+
+silent-restart_row : (d : DocumentData) (past : List Act) (c : Choice) (n : NodeId) → all_silent (restart_row d past c n) ≡ true
+silent-restart_row d past c n =
+    let opened : List Act = opened_row d past n (flag_of (node d past n).doubt c.finds) in
+    silent-either (node d past n).up (act.Void 8 ∷ []) (if c.opens then opened else act.StillDown n ∷ []) refl (silent-either c.opens opened (act.StillDown n ∷ []) (silent-opened_row d past n (flag_of (node d past n).doubt c.finds)) refl)
+
+-- an event leaves each transaction shown its reads
+shown-row : (d : DocumentData) (past : List Act) (e : Item) (c : Choice) → AllDue d past → AllShown d past → AllShown d (after past (row d past e c))
+shown-row d past (item.Begin t) c due all = shown-begin_row d past c t (story d past t) (script_of t d.scripts) refl refl all
+shown-row d past (item.Deliver m) c due all = shown-deliver_row d past c m (sent_at m (sent past)) refl due all
+shown-row d past (item.Drop m) c due all = silent-all d past (drop_row m (sent_at m (sent past))) (silent-drop_row m (sent_at m (sent past))) all
+shown-row d past (item.Next k) c due all = shown-next_row d past c (next_left past) due all
+shown-row d past (item.Retry t) c due all = silent-all d past (retry_at d past c t (script_of t d.scripts)) (silent-retry_at d past c t (script_of t d.scripts)) all
+shown-row d past (item.Ask n t) c due all = silent-all d past (ask_row d past c n t) (silent-ask_row d past c n t) all
+shown-row d past (item.Crash n how) c due all = silent-all d past (crash_row d past n) (silent-either (node d past n).up (act.Down n None ∷ []) (act.Void 7 ∷ []) refl refl) all
+shown-row d past (item.Fuse n k how) c due all = silent-all d past (act.Armed n k how ∷ []) refl all
+shown-row d past (item.Restart n) c due all = silent-all d past (restart_row d past c n) (silent-restart_row d past c n) all
+
+-- ---- a run
+
+due-before : (d : DocumentData) (past acts : List Act) → AllDue d (after past acts) → AllDue d past
+due-before d past [] due = due
+due-before d past (a ∷ acts) due = (due-before d (a ∷ past) acts due).1
+
+shown-rows : (d : DocumentData) (past : List Act) (es : List Item) (h : List Act) → AllDue d (after past h) → AllShown d past → Rows d past es h → AllShown d (after past h)
+unfolding Rows
+shown-rows d past [] h due all rows = rw rows all
+shown-rows d past (e ∷ es) h due all rows =
+    let acts : List Act = row d past e rows.0 in
+    let D : List Act → Type 0 = λ p. AllDue d p in
+    let whole : after past h ≡ after (after past acts) rows.1 = ap (after past) rows.2 ∙ after-append past acts rows.1 in
+    let now : AllShown d (after past acts) = shown-row d past e rows.0 (due-before d past h due) all in
+    let more : AllShown d (after (after past acts) rows.1) = shown-rows d (after past acts) es rows.1 (subst D whole due) now rows.3 in
+    let P : List Act → Type 0 = λ p. AllShown d p in
+    subst P (sym whole) more
+
+all-shown : (d : DocumentData) (items : List Item) (h : List Act) → IsRun d items h → AllShown d (after [] h)
+all-shown d items h run =
+    let first : List Act = start_row d.cluster.nodes run.opens in
+    let whole : after [] h ≡ after (after [] first) run.rest = ap (after []) run.start ∙ after-append [] first run.rest in
+    let D : List Act → Type 0 = λ p. AllDue d p in
+    let now : AllShown d (after [] first) = silent-all d [] first (silent-starts run.opens (range_with_len 1 d.cluster.nodes)) (λ t s e. refl) in
+    let more : AllShown d (after (after [] first) run.rest) = shown-rows d (after [] first) (flat_map events_in items) run.rest (subst D whole (due-run d items h run)) now run.rows in
+    let P : List Act → Type 0 = λ p. AllShown d p in
+    subst P (sym whole) more
+
+-- what a transaction was shown, between events, is what its script reads by the values taken
+pub shown-reads : (d : DocumentData) (h : List Act) → IsRun d d.items h → (t : TxId) (s : ScriptData) → script_of t d.scripts ≡ Some s → shown (after [] h) t ≡ story_reads s (story d (after [] h) t)
+shown-reads d h run t s is = all-shown d d.items h run t s is
