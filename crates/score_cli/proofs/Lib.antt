@@ -1,2 +1,3 @@
 pub mod Complete
+pub mod Headlines
 pub mod Runs

@@ -11,8 +11,9 @@ use Rattle.grid_model.specs.declared.items.Item.{Item}
 use Rattle.grid_model.specs.declared.items.Item.TheVariants as item
 use Rattle.cluster_file.specs.Spelling.{is_built_item}
 use Rattle.cluster_file.proofs.Bools.{and_parts}
-use Rattle.cluster_file.proofs.OneSpelling.{spelled}
+use Rattle.cluster_file.proofs.OneSpelling.{IsSpelled, spelled}
 use Rattle.schedule_replay.specs.Replays.{is_unfused, AreUnfused}
+use Rattle.score_cli.proofs.Headlines.{headline, read-one}
 use Rattle.score_cli.specs.Answers.{Ran, Done, Broken, IsRunText, IsTextOf}
 
 -- an item that is read sets no fuse
@@ -35,7 +36,10 @@ built_are_unfused (i ∷ is) e =
 
 -- the text of the run of a document that was read
 pub text_of_run : (bytes written : List ℕ) (d : DocumentData) → doc bytes ≡ Ok d → (AreUnfused d.items → IsRunText d written) → IsTextOf bytes written
-text_of_run bytes written d read run = record { document = d; spelled = read; run = run (built_are_unfused d.items (spelled bytes d read).built.items) }
+text_of_run bytes written d read run =
+    let s : IsSpelled bytes d = spelled bytes d read in
+    let r : IsRunText d written = run (built_are_unfused d.items s.built.items) in
+    record { document = d; spelled = read; acts = r.acts; headline = headline d r.acts (read-one d s.document s.ranges) r.lawful; printed = r.printed }
 
 ran : (lo ln : Option (List ℕ)) (bytes seen written : List ℕ) → ReadWhole lo ln bytes → length bytes ≤ 4194304 → seen ≡ bytes → IsTextOf seen written → Ran lo ln
 ran lo ln bytes seen written read short same t = record {
@@ -44,21 +48,21 @@ ran lo ln bytes seen written read short same t = record {
   within = short;
   document = t.document;
   spelled = subst (λ bs. doc bs ≡ Ok t.document) same t.spelled;
-  acts = t.run.acts;
-  lawful = t.run.lawful;
+  acts = t.acts;
+  headline = t.headline;
 }
 
 pub done-from : (lo ln ho hn : Option (List ℕ)) (bytes seen written sent : List ℕ) → ReadWhole lo ln bytes → length bytes ≤ 4194304 → seen ≡ bytes → IsTextOf seen written → sent ≡ written → Appends ho hn sent → Done lo ln ho hn
 unfolding ran
 done-from lo ln ho hn bytes seen written sent read short same t e a = record {
   run = ran lo ln bytes seen written read short same t;
-  wrote = subst (λ bs. Appends ho hn bs) (e ∙ t.run.printed) a;
+  wrote = subst (λ bs. Appends ho hn bs) (e ∙ t.printed) a;
 }
 
 pub broken-from : (lo ln ho hn : Option (List ℕ)) (fo fn : ℕ) (bytes seen written sent : List ℕ) → ReadWhole lo ln bytes → length bytes ≤ 4194304 → seen ≡ bytes → IsTextOf seen written → sent ≡ written → AppendsPart ho hn sent → Rose fo fn → Broken lo ln ho hn fo fn
 unfolding ran
 broken-from lo ln ho hn fo fn bytes seen written sent read short same t e a r = record {
   run = ran lo ln bytes seen written read short same t;
-  wrote = subst (λ bs. AppendsPart ho hn bs) (e ∙ t.run.printed) a;
+  wrote = subst (λ bs. AppendsPart ho hn bs) (e ∙ t.printed) a;
   rose = r;
 }

@@ -11,6 +11,7 @@ use Rattle.grid_model.specs.Runs.{Lawful}
 use Rattle.cluster_file.specs.declared.whys.Refusal.{Refusal}
 use Rattle.cluster_file.specs.Doc.{doc}
 use Rattle.history_print.specs.Text.{text}
+use Rattle.score_cli.specs.Headline.{Headline}
 
 -- the greatest input that is read, in bytes
 abbrev pub input_limit : ℕ
@@ -31,8 +32,8 @@ pub data Wrote (held_old held_new : Option (List ℕ)) (faults_old faults_new : 
 unfoldable pub refused_line : Refusal → List ℕ
 refused_line r = codes "refused " ++ decimal r.line ++ codes " " ++ decimal r.why ++ codes "\n"
 
--- the input was read to its end, its bytes are a document within the limit, and these acts are a lawful
--- run of it in which no disk failed
+-- the input was read to its end, its bytes are a document within the limit, and the headline holds of
+-- these acts
 pub record Ran (left_old left_new : Option (List ℕ)) : Type 0 where
   pub bytes : List ℕ
   pub read : ReadWhole left_old left_new bytes
@@ -40,7 +41,7 @@ pub record Ran (left_old left_new : Option (List ℕ)) : Type 0 where
   pub document : DocumentData
   pub spelled : doc bytes ≡ Ok document
   pub acts : List Act
-  pub lawful : Lawful document acts (λ n. 0)
+  pub headline : Headline document acts
 
 -- the text of a lawful run of the document in which no disk failed
 pub record IsRunText (d : DocumentData) (written : List ℕ) : Type 0 where
@@ -48,11 +49,13 @@ pub record IsRunText (d : DocumentData) (written : List ℕ) : Type 0 where
   pub lawful : Lawful d acts (λ n. 0)
   pub printed : written ≡ text acts d
 
--- the text of a lawful run of the document that the bytes spell
+-- the text of acts of which the headline holds, for the document that the bytes spell
 pub record IsTextOf (bytes written : List ℕ) : Type 0 where
   pub document : DocumentData
   pub spelled : doc bytes ≡ Ok document
-  pub run : IsRunText document written
+  pub acts : List Act
+  pub headline : Headline document acts
+  pub printed : written ≡ text acts document
 
 -- the text of that run was written
 pub record Done (left_old left_new held_old held_new : Option (List ℕ)) : Type 0 where
