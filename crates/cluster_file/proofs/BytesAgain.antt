@@ -3,7 +3,7 @@ use Rattle.std.proofs.Common.{◌≡◌, ℕ, ◌+◌, ◌<◌, ◌≤◌, ◌^�
 use Rattle.std.specs.Prelude.{sum_by}
 use Rattle.std.specs.Fmt.{decimal}
 use Rattle.std.specs.List.{list_all, flat_map, join_with_byte, slice_split}
-use Rattle.std.proofs.lemmas.Bool.{ne_eqb}
+use Rattle.std.proofs.lemmas.Bool.{ne_eqb, and_parts}
 use Rattle.std.proofs.lemmas.Bool.Decides.{nat_tests}
 use Rattle.std.proofs.lemmas.List.Folds.{list_all-append}
 use Rattle.score_base.specs.declared.ids.NodeId.{NodeId}
@@ -15,7 +15,7 @@ use Rattle.script_lang.specs.declared.exprs.Atom.{Atom}
 use Rattle.script_lang.specs.declared.exprs.Atom.TheVariants as atom
 use Rattle.script_lang.specs.declared.exprs.Step.{Step}
 use Rattle.script_lang.specs.declared.exprs.Step.TheVariants as step
-use Rattle.script_lang.specs.Spelling.{atom_word, step_words, expr_words, op_words, is_plain_atom, is_plain_step, are_plain_steps, is_plain_expr}
+use Rattle.script_lang.specs.Spelling.{atom_word, step_words, expr_words, op_words, is_plain_atom, is_plain_step, are_plain_steps, is_plain_expr, script_words}
 use Rattle.script_lang.specs.declared.scripts.Op.{Op}
 use Rattle.script_lang.specs.declared.scripts.Op.TheVariants as op
 use Rattle.grid_model.specs.Documents.{DocumentData, IsDocument, events_of}
@@ -26,11 +26,12 @@ use Rattle.cluster_file.specs.declared.drafts.Part.TheVariants as part
 use Rattle.script_lang.specs.Reading.{◌>>=◌}
 use Rattle.cluster_file.specs.Lines.{words_line, line_of}
 use Rattle.cluster_file.specs.Doc.{◌>>>◌, at_line, is_whole, close, pieces_from, blank, document_of, doc}
-use Rattle.cluster_file.specs.Spelling.{IsBuilt, IsInRange, is_node, is_tx, is_init_in_range, has_key, is_script_in_range, is_item_in_range, node_word, nodes_words, partition_words, init_words, tx_words, item_words, partition_lines, script_lines, document_lines, spelling}
-use Rattle.cluster_file.proofs.Bools.{and_parts}
+use Rattle.cluster_file.specs.Spelling.{IsBuilt, IsInRange, is_node, is_tx, is_init_in_range, has_key, is_script_in_range, is_item_in_range, node_word, nodes_words, partition_words, init_words, item_words, partition_lines, document_lines, spelling}
 use Rattle.cluster_file.proofs.Bytes.{is_plain, are_plain, is_line, plain_decimal, plain_key, words_again, printed_words, lines_again}
 use Rattle.cluster_file.proofs.Again.{small}
-use Rattle.cluster_file.proofs.LinesAgain.{lines_from, running, document_again}
+use Rattle.cluster_file.proofs.ClusterAgain.{lines_from}
+use Rattle.cluster_file.proofs.LinesAgain.{running, document_again}
+use Rattle.cluster_file.proofs.LinesSoFar.{tx_words}
 
 -- The lines of a spelling are lines of words.
 
@@ -102,7 +103,7 @@ op_line (op.Write k e) h =
     let long : nat_le 1 (length (codes "write" ∷ k ∷ expr_words e)) ≡ true = grind (arith, nat_tests) in
     rw (long, plain_key k both.0, plain_atom e.first parts.0, plain_steps e.steps parts.1) refl
 
-script_lines_are : (s : ScriptData) → is_script_in_range s ≡ true → list_all is_line (script_lines s) ≡ true
+script_lines_are : (s : ScriptData) → is_script_in_range s ≡ true → list_all is_line (script_words s) ≡ true
 script_lines_are s h =
     let z = and_parts (is_tx s.number && is_node s.home && nat_le 1 (length s.ops) && nat_le (length s.ops) 32 && list_all has_key s.ops) (are_sound [] s.ops) h in
     let a = and_parts (is_tx s.number && is_node s.home && nat_le 1 (length s.ops) && nat_le (length s.ops) 32) (list_all has_key s.ops) z.0 in
@@ -140,9 +141,9 @@ item_line (item.Restart n) h = rw (plain_node n h) refl
 document_lines_are : (d : DocumentData) → IsDocument d → IsInRange d → list_all is_line (document_lines d) ≡ true
 document_lines_are d h r =
     let schedule : list_all is_line ((codes "schedule" ∷ []) ∷ map item_words d.items) ≡ true = rw (all_map is_item_in_range is_line item_words item_line d.items r.items) refl in
-    let scripts : list_all is_line (flat_map script_lines d.scripts ++ ((codes "schedule" ∷ []) ∷ map item_words d.items)) ≡ true = all_both is_line (flat_map script_lines d.scripts) ((codes "schedule" ∷ []) ∷ map item_words d.items) (all_flat_map is_script_in_range is_line script_lines script_lines_are d.scripts r.scripts) schedule in
-    let inits : list_all is_line (map init_words d.cluster.inits ++ (flat_map script_lines d.scripts ++ ((codes "schedule" ∷ []) ∷ map item_words d.items))) ≡ true = all_both is_line (map init_words d.cluster.inits) (flat_map script_lines d.scripts ++ ((codes "schedule" ∷ []) ∷ map item_words d.items)) (all_map is_init_in_range is_line init_words init_line d.cluster.inits r.inits) scripts in
-    let places : list_all is_line (partition_lines 0 d.cluster.places ++ (map init_words d.cluster.inits ++ (flat_map script_lines d.scripts ++ ((codes "schedule" ∷ []) ∷ map item_words d.items)))) ≡ true = all_both is_line (partition_lines 0 d.cluster.places) (map init_words d.cluster.inits ++ (flat_map script_lines d.scripts ++ ((codes "schedule" ∷ []) ∷ map item_words d.items))) (partition_lines_are 0 d.cluster.places (omega (arith, h.cluster.places.most)) r.places) inits in
+    let scripts : list_all is_line (flat_map script_words d.scripts ++ ((codes "schedule" ∷ []) ∷ map item_words d.items)) ≡ true = all_both is_line (flat_map script_words d.scripts) ((codes "schedule" ∷ []) ∷ map item_words d.items) (all_flat_map is_script_in_range is_line script_words script_lines_are d.scripts r.scripts) schedule in
+    let inits : list_all is_line (map init_words d.cluster.inits ++ (flat_map script_words d.scripts ++ ((codes "schedule" ∷ []) ∷ map item_words d.items))) ≡ true = all_both is_line (map init_words d.cluster.inits) (flat_map script_words d.scripts ++ ((codes "schedule" ∷ []) ∷ map item_words d.items)) (all_map is_init_in_range is_line init_words init_line d.cluster.inits r.inits) scripts in
+    let places : list_all is_line (partition_lines 0 d.cluster.places ++ (map init_words d.cluster.inits ++ (flat_map script_words d.scripts ++ ((codes "schedule" ∷ []) ∷ map item_words d.items)))) ≡ true = all_both is_line (partition_lines 0 d.cluster.places) (map init_words d.cluster.inits ++ (flat_map script_words d.scripts ++ ((codes "schedule" ∷ []) ∷ map item_words d.items))) (partition_lines_are 0 d.cluster.places (omega (arith, h.cluster.places.most)) r.places) inits in
     rw (nodes_line d.cluster.nodes h.cluster.most, places) refl
 
 -- The bytes of such lines.

@@ -4,10 +4,16 @@ pub mod Steps
 pub mod SoFar
 pub mod Named
 pub mod Known
+pub mod PartsKeep
+pub mod LinesKeep
 pub mod Keeps
 pub mod Bytes
+pub mod LinesSoFar
+pub mod LinesTold
 pub mod Told
 pub mod OneSpelling
 pub mod Again
+pub mod ClusterAgain
+pub mod ScriptsAgain
 pub mod LinesAgain
 pub mod BytesAgain

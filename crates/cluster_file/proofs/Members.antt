@@ -7,6 +7,8 @@ use Rattle.std.specs.declared.cmp.Ordering.TheVariants.{Less, Equal, Greater}
 use Rattle.std.specs.Cmp.Lexicographic.{slice_cmp}
 use Rattle.std.specs.List.{list_any}
 use Rattle.std.specs.BTreeSet.{insert_key}
+use Rattle.std.proofs.Math.Bool.{or-false}
+use Rattle.std.proofs.lemmas.Bool.{and_parts, or_parts, not-true}
 use Rattle.std.proofs.lemmas.List.Folds.{list_any-append}
 use Rattle.std.proofs.lemmas.List.Sums.{fold-append}
 use Rattle.std.proofs.lemmas.Map.Lookups.{exact_unsigned, exact_bytes}
@@ -14,7 +16,8 @@ use Rattle.score_base.specs.declared.keys.Key.{Key}
 use Rattle.score_base.specs.declared.ids.TxId.{TxId}
 use Rattle.score_base.specs.Keys.{same_key}
 use Rattle.grid_model.specs.Documents.{key_order, number_order}
-use Rattle.cluster_file.proofs.Bools.{and_parts, or_parts, or_false, or_twice, or_swap, or_turn, not_parts}
+use Rattle.script_lang.proofs.Seen.{or_swap}
+use Rattle.cluster_file.proofs.Bools.{or_twice, or_turn}
 
 pub list_any_same : {X : Type 0} (p q : X → Bool) → ((x : X) → p x ≡ q x) → (xs : List X) → list_any p xs ≡ list_any q xs
 list_any_same p q h [] = refl
@@ -31,7 +34,7 @@ module _ {K : Type 0} (cmp : K → K → Ordering) (p : K → Bool) (same : (k x
       by Greater e h = rw h (or_swap (p x) (p k) (list_any p xs))
 
   pub list_any_fold : (acc ks : List K) → list_any p (fold (insert_key cmp) acc ks) ≡ (list_any p acc || list_any p ks)
-  list_any_fold acc [] = sym (or_false (list_any p acc))
+  list_any_fold acc [] = sym (or-false (list_any p acc))
   list_any_fold acc (k ∷ ks) = list_any_fold (insert_key cmp acc k) ks ∙ ap (λ b. b || list_any p ks) (list_any_insert k acc) ∙ or_turn (p k) (list_any p acc) (list_any p ks)
 
 -- a number is among the ordered ones exactly where it is among them
@@ -48,7 +51,7 @@ distinct_more eq sides f none one [] n d new = rw (one n [], none) refl
 distinct_more eq sides f none one (x ∷ xs) n d new =
     let parts = and_parts (not (list_any (λ y. eq y x) xs)) (f xs) (sym (one x xs) ∙ d) in
     let news = or_parts (eq x n) (list_any (λ y. eq y n) xs) new in
-    let old : list_any (λ y. eq y x) xs ≡ false = not_parts (list_any (λ y. eq y x) xs) parts.0 in
+    let old : list_any (λ y. eq y x) xs ≡ false = not-true (list_any (λ y. eq y x) xs) parts.0 in
     let other : eq n x ≡ false = sides n x ∙ news.0 in
     let rest : f (xs ++ n ∷ []) ≡ true = distinct_more eq sides f none one xs n parts.1 news.1 in
     rw (one x (xs ++ n ∷ []), list_any-append, old, other, rest) refl
@@ -58,7 +61,7 @@ pub distinct_before : {K : Type 0} (eq : K → K → Bool) (sides : (a b : K) �
 distinct_before eq sides f one [] n ys d = refl
 distinct_before eq sides f one (x ∷ xs) n ys d =
     let parts = and_parts (not (list_any (λ y. eq y x) (xs ++ n ∷ ys))) (f (xs ++ n ∷ ys)) (sym (one x (xs ++ n ∷ ys)) ∙ d) in
-    let apart : (list_any (λ y. eq y x) xs || (eq n x || list_any (λ y. eq y x) ys)) ≡ false = sym (list_any-append (λ y. eq y x) xs (n ∷ ys)) ∙ not_parts (list_any (λ y. eq y x) (xs ++ n ∷ ys)) parts.0 in
+    let apart : (list_any (λ y. eq y x) xs || (eq n x || list_any (λ y. eq y x) ys)) ≡ false = sym (list_any-append (λ y. eq y x) xs (n ∷ ys)) ∙ not-true (list_any (λ y. eq y x) (xs ++ n ∷ ys)) parts.0 in
     let other = or_parts (eq n x) (list_any (λ y. eq y x) ys) (or_parts (list_any (λ y. eq y x) xs) (eq n x || list_any (λ y. eq y x) ys) apart).1 in
     let turned : eq x n ≡ false = sides x n ∙ other.0 in
     rw (turned, distinct_before eq sides f one xs n ys parts.1) refl

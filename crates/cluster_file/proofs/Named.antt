@@ -1,9 +1,10 @@
 -- What one more word, key, script or item does to the parts of a document.
-use Rattle.std.proofs.Common.{◌≡◌, Bool, true, false, ◌&&◌, List, [], ◌∷◌, ◌++◌, refl, sym, ap, ◌∙◌, map}
+use Rattle.std.proofs.Common.{◌≡◌, Bool, true, List, [], ◌∷◌, ◌++◌, refl, sym, ap, ◌∙◌, map}
 use Rattle.std.specs.Ordering.{nat_cmp}
 use Rattle.std.specs.Cmp.Lexicographic.{slice_cmp}
 use Rattle.std.specs.List.{list_any, list_all, flat_map}
 use Rattle.std.specs.BTreeSet.{insert_key}
+use Rattle.std.proofs.lemmas.Bool.{and_parts}
 use Rattle.std.proofs.lemmas.List.{append_assoc, append-nil, map-append}
 use Rattle.std.proofs.lemmas.List.Folds.{list_all-append}
 use Rattle.std.proofs.lemmas.List.Sums.{fold-append}
@@ -16,6 +17,7 @@ use Rattle.score_base.specs.Keys.{same_key}
 use Rattle.script_lang.specs.Scripts.{ScriptData}
 use Rattle.script_lang.specs.Reads.{keys_named, key_of}
 use Rattle.script_lang.specs.declared.scripts.Op.{Op}
+use Rattle.script_lang.proofs.Seen.{keys_named_last}
 use Rattle.grid_model.specs.Documents.{script_numbers, keys_in, key_order, number_order}
 
 pub numbers_last : (ss : List ScriptData) (s : ScriptData) → script_numbers (ss ++ s ∷ []) ≡ script_numbers ss ++ s.number ∷ []
@@ -27,10 +29,6 @@ key_order_last ks k = fold-append (insert_key (slice_cmp nat_cmp)) [] ks (k ∷ 
 
 pub number_order_last : (ts : List TxId) (t : TxId) → number_order (ts ++ t ∷ []) ≡ insert_key nat_cmp (number_order ts) t
 number_order_last ts t = fold-append (insert_key nat_cmp) [] ts (t ∷ [])
-
-keys_named_last : (ops : List Op) (o : Op) → keys_named (ops ++ o ∷ []) ≡ keys_named ops ++ key_of o ∷ []
-keys_named_last [] o = refl
-keys_named_last (x ∷ ops) o = ap (λ ks. key_of x ∷ ks) (keys_named_last ops o)
 
 pub last_keys : (inits : List (Key × Value)) (ss : List ScriptData) (s : ScriptData) → keys_in inits (ss ++ s ∷ []) ≡ keys_in inits ss ++ keys_named s.ops
 last_keys inits ss s =
@@ -57,16 +55,11 @@ pub all_last : {X : Type 0} (p : X → Bool) (xs : List X) (x : X) → list_all 
 all_last p xs x h k = rw (list_all-append, h, k) refl
 
 pub all_but_last : {X : Type 0} (p : X → Bool) (xs : List X) (x : X) → list_all p (xs ++ x ∷ []) ≡ true → (list_all p xs ≡ true) × (p x ≡ true)
-all_but_last p [] x h = (refl, first (p x) h)
-  where
-    first : (b : Bool) → (b && true) ≡ true → b ≡ true
-    first true e = refl
-    first false e = cc
-all_but_last p (y ∷ xs) x h = by (p y) h (all_but_last p xs x)
-  where
-    by : (b : Bool) → (b && list_all p (xs ++ x ∷ [])) ≡ true → (list_all p (xs ++ x ∷ []) ≡ true → (list_all p xs ≡ true) × (p x ≡ true)) → ((b && list_all p xs) ≡ true) × (p x ≡ true)
-    by true e k = k e
-    by false e k = cc
+all_but_last p [] x h = (refl, (and_parts (p x) true h).0)
+all_but_last p (y ∷ xs) x h =
+    let both = and_parts (p y) (list_all p (xs ++ x ∷ [])) h in
+    let rest = all_but_last p xs x both.1 in
+    (rw (both.0, rest.0) refl, rest.1)
 
 -- before any script, the keys named are those of the initial values
 pub known_in_inits : (inits : List (Key × Value)) (k : Key) → list_any (λ x. same_key x.0 k) inits ≡ list_any (same_key k) (keys_in inits [])

@@ -11,12 +11,16 @@ use Rattle.cluster_file.specs.declared.whys.Refusal.{Refusal}
 use Rattle.cluster_file.specs.Lines.{line_of}
 use Rattle.script_lang.specs.Words.{is_printed}
 use Rattle.cluster_file.specs.Doc.{◌>>>◌, at_line, is_whole, close, pieces_from, blank, document_of, doc}
-use Rattle.cluster_file.specs.Spelling.{IsInRange, IsBuilt, line, spelling, nodes_words, partition_lines, init_words, script_lines, document_lines}
-use Rattle.cluster_file.proofs.Bools.{and_parts}
-use Rattle.cluster_file.proofs.Steps.{either, numbered, below}
+use Rattle.cluster_file.specs.Spelling.{IsInRange, IsBuilt, line, spelling, nodes_words, partition_lines, init_words, document_lines}
+use Rattle.std.proofs.lemmas.Bool.{and_parts}
+use Rattle.script_lang.proofs.Readings.{either, weaken}
+use Rattle.script_lang.proofs.ScriptRead.{empty_list}
+use Rattle.cluster_file.proofs.Steps.{numbered, below}
 use Rattle.cluster_file.proofs.SoFar.{IsStage, IsBegun}
 use Rattle.cluster_file.proofs.Keeps.{IsWhole, line_keeps, blank_line_keeps, blank_pieces_keep, IsDocument-from_pieces}
-use Rattle.cluster_file.proofs.Told.{open_lines, schedule_lines, lines_so_far, IsInRangeSoFar, Adds, Begins, words_told, blank_words_told}
+use Rattle.cluster_file.proofs.LinesSoFar.{open_lines, schedule_lines, lines_so_far, IsInRangeSoFar, Adds, Begins}
+use Rattle.cluster_file.proofs.Told.{words_told, blank_words_told}
+use Rattle.script_lang.specs.Spelling.{script_words}
 
 -- the words of a line
 abbrev cut : List ℕ → List (List ℕ)
@@ -29,10 +33,6 @@ bytes_so_far d = flat_map line (lines_so_far d)
 both : {A E : Type 0} (m : Result A E) (P Q : A → Type 0) → IfOk m P → IfOk m Q → IfOk m (λ x. P x × Q x)
 both (Ok x) P Q h k = (h, k)
 both (Err e) P Q h k = tt
-
-weaken : {A E : Type 0} (m : Result A E) (P Q : A → Type 0) → IfOk m P → ((x : A) → P x → Q x) → IfOk m Q
-weaken (Ok x) P Q h k = k x h
-weaken (Err e) P Q h k = tt
 
 line_told : (d : Draft) (x : List ℕ) → IsBegun d → IfOk (line_of d x) (Adds d (cut x))
 unfolding line_of
@@ -59,12 +59,8 @@ first_bytes e x more h =
     ∙ ap (λ l. l ++ more) (append-nil (line (cut x)) ∙ line_bytes x)
     ∙ append_assoc x (10 ∷ []) more
 
-empty : (x : List ℕ) → (length x == 0) ≡ true → x ≡ []
-empty [] e = refl
-empty (b ∷ bs) e = absurd (grind (arith, nat_tests, e))
-
 close_told : (d : Draft) (x : List ℕ) → IfOk (close d x) (λ e. (bytes_so_far e ≡ bytes_so_far d ++ x) × (IsInRangeSoFar d → IsInRangeSoFar e))
-close_told d x = either ((length x == 0) && is_whole d.part) _ _ _ (λ e. (sym (ap (λ l. bytes_so_far d ++ l) (empty x (and_parts (length x == 0) (is_whole d.part) e).0) ∙ append-nil (bytes_so_far d)), λ r. r)) (λ _. tt)
+close_told d x = either ((length x == 0) && is_whole d.part) _ _ _ (λ e. (sym (ap (λ l. bytes_so_far d ++ l) (empty_list x (and_parts (length x == 0) (is_whole d.part) e).0) ∙ append-nil (bytes_so_far d)), λ r. r)) (λ _. tt)
 
 more_left : (y : List ℕ) (rest : List (List ℕ)) → (length (y ∷ rest) == 0) ≡ true → ⊥
 more_left y rest e = grind (arith, nat_tests, e)
@@ -89,7 +85,7 @@ blank_pieces_told n (x ∷ y ∷ rest) = either (length (y ∷ rest) == 0) _ _ _
 whole_lines : (d : Draft) → IsWhole d → lines_so_far d ≡ document_lines (document_of d)
 whole_lines d w =
     let stage : (d.script ≡ None) × (1 ≤ length d.places) = subst (λ p. IsStage p d.places d.inits d.scripts d.script d.items) w.ended w.begun.stage in
-    let front = λ (l : List (List (List ℕ))). nodes_words d.nodes ∷ (partition_lines 0 d.places ++ (map init_words d.inits ++ (flat_map script_lines d.scripts ++ l))) in
+    let front = λ (l : List (List (List ℕ))). nodes_words d.nodes ∷ (partition_lines 0 d.places ++ (map init_words d.inits ++ (flat_map script_words d.scripts ++ l))) in
     ap (λ o. front (open_lines o ++ schedule_lines d.part d.items)) stage.0 ∙ ap (λ p. front (schedule_lines p d.items)) w.ended
 
 -- the bytes spell the document

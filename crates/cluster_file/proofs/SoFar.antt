@@ -63,3 +63,15 @@ pub record IsBegun (d : Draft) : Type 0 where
   pub named : IsNamed d.nodes d.inits (all_scripts d) d.known.keys d.numbers.keys
   pub plan : IsPlan d.nodes (script_numbers (all_scripts d)) d.items d.events
   pub stage : IsStage d.part d.places d.inits d.scripts d.script d.items
+
+-- d with a script that is being read
+abbrev pub inside : Draft → ScriptData → Draft
+inside d s = record d { script = Some s; part = part.Scripts }
+
+-- d with that script taken out
+abbrev pub outside : Draft → Draft
+outside d = record d { script = None; part = part.Scripts }
+
+-- d in the schedule
+abbrev pub planned : Draft → Draft
+planned d = record d { script = None; part = part.Items }

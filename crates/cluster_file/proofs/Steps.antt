@@ -1,34 +1,9 @@
--- What holds of whatever a reading gives.
-use Rattle.std.proofs.Common.{◌≡◌, ℕ, Bool, true, false, cond, Result, Ok, Err, IfOk, refl, subst}
-use Rattle.script_lang.specs.Reading.{◌>>=◌}
+-- What holds of whatever a reading of lines gives.
+use Rattle.std.proofs.Common.{ℕ, Result, Ok, Err, IfOk}
 use Rattle.cluster_file.specs.Doc.{◌>>>◌, at_line}
 use Rattle.cluster_file.specs.declared.whys.Refusal.{Refusal}
 
-pub anything : {A : Type 0} (m : Result A ℕ) → IfOk m (λ _. Unit {0})
-anything (Ok x) = tt
-anything (Err e) = tt
-
--- one reader behind another
-pub behind : {A B : Type 0} (m : Result A ℕ) (f : A → Result B ℕ) (Q : A → Type 0) (P : B → Type 0) → IfOk m Q → ((x : A) → Q x → IfOk (f x) P) → IfOk (m >>= f) P
-behind (Ok x) f Q P h k = k x h
-behind (Err e) f Q P h k = tt
-
--- the same where nothing is said of the first
-pub then : {A B : Type 0} (m : Result A ℕ) (f : A → Result B ℕ) (P : B → Type 0) → ((x : A) → IfOk (f x) P) → IfOk (m >>= f) P
-then (Ok x) f P k = k x
-then (Err e) f P k = tt
-
--- a reading by a test
-pub either : {A E : Type 0} (b : Bool) (x y : Result A E) (P : A → Type 0) → (b ≡ true → IfOk x P) → (b ≡ false → IfOk y P) → IfOk (cond b x y) P
-either true x y P h k = h refl
-either false x y P h k = k refl
-
--- what a reading gives is of a kind
-pub at_ok : {A E : Type 0} (m : Result A E) (P : A → Type 0) (x : A) → IfOk m P → m ≡ Ok x → P x
-at_ok (Ok y) P x h e = let same : y ≡ x = cc in subst P same h
-at_ok (Err w) P x h e = cc
-
--- the same with a line number
+-- a reading with a line number
 pub numbered : {A : Type 0} (n : ℕ) (m : Result A ℕ) (P : A → Type 0) → IfOk m P → IfOk (at_line n m) P
 numbered n (Ok x) P h = h
 numbered n (Err w) P h = tt

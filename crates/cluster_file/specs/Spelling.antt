@@ -9,7 +9,7 @@ use Rattle.score_base.specs.declared.ids.TxId.{TxId}
 use Rattle.score_base.specs.declared.ids.Value.{Value}
 use Rattle.score_base.specs.Keys.{is_key}
 use Rattle.script_lang.specs.Scripts.{ScriptData, are_sound}
-use Rattle.script_lang.specs.Spelling.{op_words, is_plain_expr}
+use Rattle.script_lang.specs.Spelling.{script_words, is_plain_expr}
 use Rattle.script_lang.specs.declared.scripts.Op.{Op}
 use Rattle.script_lang.specs.declared.scripts.Op.TheVariants as op
 use Rattle.grid_model.specs.Documents.{DocumentData}
@@ -32,9 +32,6 @@ partition_words i ns = codes "partition" ∷ decimal i ∷ map node_word ns
 abbrev pub init_words : Key × Value → List (List ℕ)
 init_words x = codes "init" ∷ x.0 ∷ decimal x.1 ∷ []
 
-abbrev pub tx_words : ScriptData → List (List ℕ)
-tx_words s = codes "tx" ∷ decimal s.number ∷ node_word s.home ∷ []
-
 abbrev pub item_words : Item → List (List ℕ)
 item_words (item.Begin t) = codes "begin" ∷ decimal t ∷ []
 item_words (item.Deliver m) = codes "deliver" ∷ decimal m ∷ []
@@ -53,15 +50,11 @@ abbrev pub partition_lines : ℕ → List (List NodeId) → List (List (List ℕ
 partition_lines i [] = []
 partition_lines i (ns ∷ rest) = partition_words i ns ∷ partition_lines (i + 1) rest
 
--- a script, from its 'tx' to its 'end'
-abbrev pub script_lines : ScriptData → List (List (List ℕ))
-script_lines s = tx_words s ∷ (map op_words s.ops ++ (codes "end" ∷ []) ∷ [])
-
 -- the cluster, the scripts, the schedule
 abbrev pub document_lines : DocumentData → List (List (List ℕ))
 document_lines d =
     nodes_words d.cluster.nodes ∷ (partition_lines 0 d.cluster.places ++ (map init_words d.cluster.inits
-    ++ (flat_map script_lines d.scripts ++ ((codes "schedule" ∷ []) ∷ map item_words d.items))))
+    ++ (flat_map script_words d.scripts ++ ((codes "schedule" ∷ []) ∷ map item_words d.items))))
 
 -- a line: its words with single spaces between them, and a line feed
 abbrev pub line : List (List ℕ) → List ℕ

@@ -1,13 +1,14 @@
 -- How an atom that was read is spelled, and that its spelling is read as it.
-use Rattle.std.proofs.Common.{◌≡◌, ℕ, ◌+◌, ◌-◌, ◌*◌, ◌<◌, ◌^◌, ◌==◌, ◌&&◌, not, nat_le, nat_lt, Bool, true, false, cond, List, [], ◌∷◌, length, Option, Some, None, Ok, Err, IfOk, refl, sym, ap, ◌∙◌, arith, lit<}
+use Rattle.std.proofs.Common.{◌≡◌, ℕ, ◌+◌, ◌-◌, ◌*◌, ◌<◌, ◌^◌, ◌&&◌, not, nat_le, nat_lt, Bool, true, false, cond, List, [], ◌∷◌, length, Option, Some, None, Ok, Err, IfOk, refl, sym, ap, ◌∙◌, arith}
 use Rattle.std.specs.Char.{is_ascii_digit}
 use Rattle.std.specs.Fmt.{decimal}
 use Rattle.std.specs.List.{list_all}
+use Rattle.std.proofs.lemmas.Bool.{and_parts, not-true}
 use Rattle.std.proofs.lemmas.Bool.Decides.{nat_tests}
 use Rattle.score_base.specs.declared.keys.Key.{Key}
 use Rattle.score_base.specs.Keys.{is_key, is_digit, is_key_byte}
 use Rattle.score_base.specs.Numbers.{number, digits_from}
-use Rattle.score_base.proofs.Spelling.{decimal-number, number-decimal, said}
+use Rattle.score_base.proofs.Spelling.{decimal-number, number-decimal, plain as no_zero_first}
 use Rattle.script_lang.specs.declared.exprs.Atom.{Atom}
 use Rattle.script_lang.specs.declared.exprs.Atom.TheVariants as atom
 use Rattle.script_lang.specs.Exprs.{is_atom_among}
@@ -16,21 +17,14 @@ use Rattle.script_lang.specs.Reading.{◌>>=◌, or_why}
 use Rattle.script_lang.specs.Words.{key_of, begins_with_digit}
 use Rattle.script_lang.specs.ExprWords.{number_atom, known_atom, key_atom, atom_of}
 use Rattle.script_lang.specs.Spelling.{atom_word, is_plain_atom}
-use Rattle.script_lang.proofs.Readings.{behind, either, and_parts, not_parts}
+use Rattle.script_lang.proofs.Readings.{behind, either}
+use Rattle.script_lang.proofs.WordsRead.{number_small}
 
 -- the word spells the atom, over the known keys
 pub record IsAtomOf (known : List Key) (w : List ℕ) (a : Atom) : Type 0 where
   pub spelled : w ≡ atom_word a
   pub among : is_atom_among known a ≡ true
   pub plain : is_plain_atom a ≡ true
-
-digits_of : (b : Bool) (x : Option ℕ) (n : ℕ) → cond b None x ≡ Some n → x ≡ Some n
-digits_of true x n e = cc
-digits_of false x n e = e
-
-number_small : (w : List ℕ) (n : ℕ) → number w ≡ Some n → n < 2 ^ 64
-number_small [] n e = cc
-number_small (b ∷ bs) n e = (said 0 (b ∷ bs) n (lit< tt) (digits_of ((b == 48) && not (length bs == 0)) (digits_from 0 (b ∷ bs)) n e)).2
 
 number_read : (known : List Key) (w : List ℕ) → IfOk (number_atom w) (IsAtomOf known w)
 unfolding number_atom
@@ -55,12 +49,12 @@ is_first false x n e = cc
 number_first : (w : List ℕ) (n : ℕ) → number w ≡ Some n → begins_with_digit w ≡ true
 number_first [] n e = cc
 number_first (b ∷ bs) n e =
-    let first = is_first (is_ascii_digit b && nat_lt (10 * 0 + (b - 48)) (2 ^ 64)) (digits_from (10 * 0 + (b - 48)) bs) n (digits_of ((b == 48) && not (length bs == 0)) (digits_from 0 (b ∷ bs)) n e) in
+    let first = is_first (is_ascii_digit b && nat_lt (10 * 0 + (b - 48)) (2 ^ 64)) (digits_from (10 * 0 + (b - 48)) bs) n (no_zero_first b bs (digits_from 0 (b ∷ bs)) n e).0 in
     (and_parts (is_ascii_digit b) (nat_lt (10 * 0 + (b - 48)) (2 ^ 64)) first).0
 
 key_first : (k : Key) → is_key k ≡ true → begins_with_digit k ≡ false
 key_first [] e = cc
-key_first (b ∷ bs) e = not_parts (is_digit b) (first (not (is_digit b)) (is_key_byte b) (nat_le (length bs) 31) (list_all is_key_byte bs) e)
+key_first (b ∷ bs) e = not-true (is_digit b) (first (not (is_digit b)) (is_key_byte b) (nat_le (length bs) 31) (list_all is_key_byte bs) e)
   where
     first : (p q r t : Bool) → (p && q && r && t) ≡ true → p ≡ true
     first true q r t h = refl

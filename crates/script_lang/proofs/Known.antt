@@ -2,6 +2,7 @@
 use Rattle.std.proofs.Common.{◌≡◌, ◌&&◌, ◌||◌, Bool, true, false, List, [], ◌∷◌, length, nat_le, refl, sym, subst}
 use Rattle.std.specs.List.{list_all}
 use Rattle.std.specs.Cmp.Lexicographic.{same_text}
+use Rattle.std.proofs.lemmas.Bool.{and_parts}
 use Rattle.score_base.specs.declared.keys.Key.{Key}
 use Rattle.score_base.specs.Keys.{same_key}
 use Rattle.script_lang.specs.declared.exprs.Atom.{Atom}
@@ -11,7 +12,6 @@ use Rattle.script_lang.specs.declared.exprs.Step.TheVariants as step
 use Rattle.script_lang.specs.declared.exprs.Expr.{Expr}
 use Rattle.script_lang.specs.Reads.{is_key_among}
 use Rattle.script_lang.specs.Exprs.{is_atom_among, is_step_among, are_steps_among, is_expr_among, all_in_atom, all_in_step, all_in_steps, all_in_expr}
-use Rattle.script_lang.proofs.Readings.{and_parts}
 
 module _ (p : Key → Bool) where
   key_passes : (known : List Key) (k : Key) → list_all p known ≡ true → is_key_among k known ≡ true → p k ≡ true

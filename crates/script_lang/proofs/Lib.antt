@@ -3,6 +3,7 @@ pub mod Entries
 pub mod Seen
 pub mod ReadSteps
 pub mod Readings
+pub mod WordsRead
 pub mod AtomsRead
 pub mod StepsRead
 pub mod ScriptRead

@@ -1,5 +1,5 @@
 -- What holds of whatever a reading gives.
-use Rattle.std.proofs.Common.{◌≡◌, ℕ, Bool, true, false, ◌&&◌, not, cond, Result, Ok, Err, IfOk, refl, subst}
+use Rattle.std.proofs.Common.{◌≡◌, ℕ, Bool, true, false, cond, Result, Ok, Err, IfOk, refl, subst}
 use Rattle.script_lang.specs.Reading.{◌>>=◌}
 
 -- one reader behind another
@@ -17,15 +17,12 @@ pub either : {A E : Type 0} (b : Bool) (x y : Result A E) (P : A → Type 0) →
 either true x y P h k = h refl
 either false x y P h k = k refl
 
+-- what holds of all that a reading gives, and what follows from it
+pub weaken : {A E : Type 0} (m : Result A E) (P Q : A → Type 0) → IfOk m P → ((x : A) → P x → Q x) → IfOk m Q
+weaken (Ok x) P Q h k = k x h
+weaken (Err e) P Q h k = tt
+
 -- what a reading gives is of a kind
 pub at_ok : {A E : Type 0} (m : Result A E) (P : A → Type 0) (x : A) → IfOk m P → m ≡ Ok x → P x
 at_ok (Ok y) P x h e = let same : y ≡ x = cc in subst P same h
 at_ok (Err w) P x h e = cc
-
-pub and_parts : (a b : Bool) → (a && b) ≡ true → (a ≡ true) × (b ≡ true)
-and_parts true b e = (refl, e)
-and_parts false b e = cc
-
-pub not_parts : (a : Bool) → not a ≡ true → a ≡ false
-not_parts true e = cc
-not_parts false e = refl

@@ -1,14 +1,11 @@
 -- How a script that was read is spelled.
-use Rattle.std.proofs.Common.{◌≡◌, ℕ, ◌+◌, ◌==◌, ◌&&◌, nat_le, true, List, [], ◌∷◌, ◌++◌, length, map, Option, Some, None, Result, Ok, Err, IfOk, refl, sym, ap, ◌∙◌, arith, codes}
+use Rattle.std.proofs.Common.{◌≡◌, ℕ, ◌+◌, ◌==◌, nat_le, true, List, [], ◌∷◌, ◌++◌, length, map, Result, Ok, Err, IfOk, refl, sym, ap, ◌∙◌, arith, codes}
 use Rattle.std.specs.List.{flat_map, join_with_byte, slice_split, list_all}
 use Rattle.std.specs.Fmt.{decimal}
 use Rattle.std.specs.Cmp.Lexicographic.{same_text}
 use Rattle.std.proofs.lemmas.Bool.Decides.{nat_tests}
 use Rattle.std.proofs.lemmas.List.{append_assoc, append-nil, map-append}
 use Rattle.std.proofs.lemmas.List.Splits.{join_with_byte-slice_split}
-use Rattle.score_base.specs.Keys.{is_key}
-use Rattle.score_base.specs.Numbers.{number}
-use Rattle.score_base.proofs.Spelling.{decimal-number}
 use Rattle.script_lang.specs.Scripts.{ScriptData}
 use Rattle.script_lang.specs.declared.scripts.Op.{Op}
 use Rattle.script_lang.specs.declared.scripts.Op.TheVariants as op
@@ -17,38 +14,13 @@ use Rattle.script_lang.specs.declared.script_lines.Stage.TheVariants as stage
 use Rattle.script_lang.specs.declared.whys.At.{At}
 use Rattle.script_lang.specs.Reads.{known_keys}
 use Rattle.script_lang.specs.Reading.{is_word, word_at, end_at}
-use Rattle.script_lang.specs.Words.{node_in, node_of, key_of, tx_in, tx_of, is_printed}
+use Rattle.script_lang.specs.Words.{node_of, key_of, tx_of, is_printed}
 use Rattle.script_lang.specs.ExprWords.{expr_of}
 use Rattle.script_lang.specs.Spelling.{op_words, script_words, script_lines, script_text}
 use Rattle.script_lang.specs.ScriptLines.{◌>>>◌, tx_line, read_line, write_line, end_line, words_line, line_of, at_line, close, lines_from, script_of_text}
 use Rattle.script_lang.proofs.Readings.{behind, either, at_ok}
+use Rattle.script_lang.proofs.WordsRead.{word_read, end_read, key_read, tx_read, node_read}
 use Rattle.script_lang.proofs.StepsRead.{IsExprOf, expr_read}
-
-word_read : (ws : List (List ℕ)) → IfOk (word_at ws) (λ x. ws ≡ x.0 ∷ x.1)
-word_read [] = tt
-word_read (w ∷ ws) = refl
-
-end_read : (ws : List (List ℕ)) → IfOk (end_at ws) (λ _. ws ≡ [])
-end_read [] = refl
-end_read (w ∷ ws) = tt
-
-key_read : (w : List ℕ) → IfOk (key_of w) (λ k. w ≡ k)
-key_read w = either (is_key w) (Ok w) (Err 5) (λ k. w ≡ k) (λ e. refl) (λ e. tt)
-
-tx_read : (w : List ℕ) → IfOk (tx_of w) (λ t. w ≡ decimal t)
-tx_read w = by (number w) refl
-  where
-    by : (o : Option ℕ) → number w ≡ o → IfOk (tx_in o) (λ t. w ≡ decimal t)
-    by None e = tt
-    by (Some t) e = either (nat_le 1 t && nat_le t 65535) (Ok t) (Err 6) (λ u. w ≡ decimal u) (λ _. decimal-number w t e) (λ _. tt)
-
-node_read : (nodes : ℕ) (w : List ℕ) → IfOk (node_of nodes w) (λ n. w ≡ 110 ∷ decimal n)
-node_read nodes [] = tt
-node_read nodes (b ∷ bs) = either (b == 110) (node_in nodes (number bs)) (Err 3) (λ n. b ∷ bs ≡ 110 ∷ decimal n) (λ e. by (grind (arith, nat_tests, e)) (number bs) refl) (λ e. tt)
-  where
-    by : b ≡ 110 → (o : Option ℕ) → number bs ≡ o → IfOk (node_in nodes o) (λ n. b ∷ bs ≡ 110 ∷ decimal n)
-    by first None e = tt
-    by first (Some n) e = either (nat_le 1 n && nat_le n nodes) (Ok n) (Err 3) (λ m. b ∷ bs ≡ 110 ∷ decimal m) (λ _. ap (λ (c : ℕ). c ∷ bs) first ∙ ap (λ ds. 110 ∷ ds) (decimal-number bs n e)) (λ _. tt)
 
 -- the words of the lines of a script up to its last operation
 abbrev body_words : ScriptData → List (List (List ℕ))
@@ -63,7 +35,7 @@ words_so_far (stage.Done s) = script_words s
 tx_line_read : (nodes : ℕ) (ws : List (List ℕ)) → IfOk (tx_line nodes ws) (λ next. words_so_far next ≡ (codes "tx" ∷ ws) ∷ [])
 unfolding tx_line
 tx_line_read nodes ws =
-    behind (word_at ws) _ (λ x. ws ≡ x.0 ∷ x.1) _ (word_read ws) (λ w a. behind (tx_of w.0) _ (λ t. w.0 ≡ decimal t) _ (tx_read w.0) (λ t b. behind (word_at w.1) _ (λ x. w.1 ≡ x.0 ∷ x.1) _ (word_read w.1) (λ v c. behind (node_of nodes v.0) _ (λ n. v.0 ≡ 110 ∷ decimal n) _ (node_read nodes v.0) (λ n d. behind (end_at v.1) _ (λ _. v.1 ≡ []) _ (end_read v.1) (λ _ e. ap (λ l. (codes "tx" ∷ l) ∷ []) (sym (a ∙ ap (λ x. x ∷ w.1) b ∙ ap (λ l. decimal t ∷ l) (c ∙ ap (λ x. x ∷ v.1) d ∙ ap (λ l. (110 ∷ decimal n) ∷ l) e))))))))
+    behind (word_at ws) _ (λ x. ws ≡ x.0 ∷ x.1) _ (word_read ws) (λ w a. behind (tx_of w.0) _ _ _ (tx_read w.0) (λ t b. behind (word_at w.1) _ (λ x. w.1 ≡ x.0 ∷ x.1) _ (word_read w.1) (λ v c. behind (node_of nodes v.0) _ _ _ (node_read nodes v.0) (λ n d. behind (end_at v.1) _ (λ _. v.1 ≡ []) _ (end_read v.1) (λ _ e. ap (λ l. (codes "tx" ∷ l) ∷ []) (sym (a ∙ ap (λ x. x ∷ w.1) b.0 ∙ ap (λ l. decimal t ∷ l) (c ∙ ap (λ x. x ∷ v.1) d.0 ∙ ap (λ l. (110 ∷ decimal n) ∷ l) e))))))))
 
 -- one more operation
 more_words : (s : ScriptData) (o : Op) → body_words (record s { ops = s.ops ++ o ∷ [] }) ≡ body_words s ++ op_words o ∷ []
@@ -71,11 +43,11 @@ more_words s o = ap (λ l. (codes "tx" ∷ decimal s.number ∷ (110 ∷ decimal
 
 read_line_read : (s : ScriptData) (ws : List (List ℕ)) → IfOk (read_line s ws) (λ next. words_so_far next ≡ body_words s ++ (codes "read" ∷ ws) ∷ [])
 unfolding read_line
-read_line_read s ws = either (nat_le 32 (length s.ops)) _ _ _ (λ e. tt) (λ room. behind (word_at ws) _ (λ x. ws ≡ x.0 ∷ x.1) _ (word_read ws) (λ w a. behind (key_of w.0) _ (λ k. w.0 ≡ k) _ (key_read w.0) (λ k b. behind (end_at w.1) _ (λ _. w.1 ≡ []) _ (end_read w.1) (λ _ e. more_words s (op.Read k) ∙ ap (λ l. body_words s ++ (codes "read" ∷ l) ∷ []) (sym (a ∙ ap (λ x. x ∷ w.1) b ∙ ap (λ l. k ∷ l) e))))))
+read_line_read s ws = either (nat_le 32 (length s.ops)) _ _ _ (λ e. tt) (λ room. behind (word_at ws) _ (λ x. ws ≡ x.0 ∷ x.1) _ (word_read ws) (λ w a. behind (key_of w.0) _ _ _ (key_read w.0) (λ k b. behind (end_at w.1) _ (λ _. w.1 ≡ []) _ (end_read w.1) (λ _ e. more_words s (op.Read k) ∙ ap (λ l. body_words s ++ (codes "read" ∷ l) ∷ []) (sym (a ∙ ap (λ x. x ∷ w.1) b.0 ∙ ap (λ l. k ∷ l) e))))))
 
 write_line_read : (s : ScriptData) (ws : List (List ℕ)) → IfOk (write_line s ws) (λ next. words_so_far next ≡ body_words s ++ (codes "write" ∷ ws) ∷ [])
 unfolding write_line
-write_line_read s ws = either (nat_le 32 (length s.ops)) _ _ _ (λ e. tt) (λ room. behind (word_at ws) _ (λ x. ws ≡ x.0 ∷ x.1) _ (word_read ws) (λ w a. behind (key_of w.0) _ (λ k. w.0 ≡ k) _ (key_read w.0) (λ k b. behind (expr_of (known_keys s.ops) w.1) _ (IsExprOf (known_keys s.ops) w.1) _ (expr_read (known_keys s.ops) w.1) (λ x h. more_words s (op.Write k x) ∙ ap (λ l. body_words s ++ (codes "write" ∷ l) ∷ []) (sym (a ∙ ap (λ y. y ∷ w.1) b ∙ ap (λ l. k ∷ l) h.spelled))))))
+write_line_read s ws = either (nat_le 32 (length s.ops)) _ _ _ (λ e. tt) (λ room. behind (word_at ws) _ (λ x. ws ≡ x.0 ∷ x.1) _ (word_read ws) (λ w a. behind (key_of w.0) _ _ _ (key_read w.0) (λ k b. behind (expr_of (known_keys s.ops) w.1) _ (IsExprOf (known_keys s.ops) w.1) _ (expr_read (known_keys s.ops) w.1) (λ x h. more_words s (op.Write k x) ∙ ap (λ l. body_words s ++ (codes "write" ∷ l) ∷ []) (sym (a ∙ ap (λ y. y ∷ w.1) b.0 ∙ ap (λ l. k ∷ l) h.spelled))))))
 
 end_line_read : (s : ScriptData) (ws : List (List ℕ)) → IfOk (end_line s ws) (λ next. words_so_far next ≡ body_words s ++ (codes "end" ∷ ws) ∷ [])
 unfolding end_line
@@ -103,7 +75,7 @@ line_read nodes so_far line = either (list_all is_printed line) _ _ _ (λ e. joi
     joined (Ok next) h = ap (map (join_with_byte 32)) h ∙ map-append (join_with_byte 32) (words_so_far so_far) (ws ∷ []) ∙ ap (λ l. map (join_with_byte 32) (words_so_far so_far) ++ l ∷ []) (join_with_byte-slice_split 32 line)
     joined (Err why) h = tt
 
-empty_list : {A : Type 0} (xs : List A) → (length xs == 0) ≡ true → xs ≡ []
+pub empty_list : {A : Type 0} (xs : List A) → (length xs == 0) ≡ true → xs ≡ []
 empty_list [] e = refl
 empty_list (x ∷ xs) e = absurd (grind (arith, nat_tests, e))
 

@@ -29,7 +29,7 @@ written_same s t [] h = refl
 written_same s t (op.Read k ∷ ops) h = written_same s t ops h
 written_same s t (op.Write k e ∷ ops) h = rw (h k, written_same s t ops h, written_same (k ∷ s) (k ∷ t) ops (same_more s t k h)) refl
 
-or_swap : (a b c : Bool) → (a || (b || c)) ≡ (b || (a || c))
+pub or_swap : (a b c : Bool) → (a || (b || c)) ≡ (b || (a || c))
 or_swap true true c = refl
 or_swap true false c = refl
 or_swap false b c = refl
@@ -84,7 +84,7 @@ written_told ops rest o seen new whole first told more =
     ∙ ap (λ l. seen ++ written_keys seen l) (sym first)
     ∙ told
 
-keys_named_last : (ops : List Op) (o : Op) → keys_named (ops ++ o ∷ []) ≡ keys_named ops ++ key_of o ∷ []
+pub keys_named_last : (ops : List Op) (o : Op) → keys_named (ops ++ o ∷ []) ≡ keys_named ops ++ key_of o ∷ []
 keys_named_last [] o = refl
 keys_named_last (x ∷ ops) o = ap (λ ks. key_of x ∷ ks) (keys_named_last ops o)
 

@@ -1,5 +1,6 @@
 -- What one more operation does to a well-formed script.
 use Rattle.std.proofs.Common.{◌≡◌, ◌<◌, ◌&&◌, true, List, [], ◌∷◌, ◌++◌, length, length-append, Result, Ok, Err, OnOk, OnErr, refl, ap, ◌∙◌, arith}
+use Rattle.std.proofs.lemmas.Bool.{and_parts}
 use Rattle.std.proofs.lemmas.List.{append-nil}
 use Rattle.score_base.specs.declared.keys.Key.{Key}
 use Rattle.script_lang.specs.declared.exprs.Atom.{Atom}
@@ -12,7 +13,6 @@ use Rattle.script_lang.specs.declared.scripts.Op.TheVariants as op
 use Rattle.script_lang.specs.Exprs.{is_atom_among, is_step_among, are_steps_among, is_expr_among}
 use Rattle.script_lang.specs.Reads.{known_keys}
 use Rattle.script_lang.specs.Scripts.{are_sound, IsFront}
-use Rattle.script_lang.proofs.Readings.{and_parts}
 use Rattle.script_lang.proofs.Seen.{SameKeys, in_middle}
 
 -- a read behind them leaves them sound
@@ -38,7 +38,7 @@ steps_same s t [] h = refl
 steps_same s t (x ∷ xs) h = rw (step_same s t x h, steps_same s t xs h) refl
 
 -- an expression over some keys is one over all lists with the same keys
-expr_same : (s t : List Key) (e : Expr) → SameKeys s t → is_expr_among s e ≡ is_expr_among t e
+pub expr_same : (s t : List Key) (e : Expr) → SameKeys s t → is_expr_among s e ≡ is_expr_among t e
 expr_same s t e h = rw (atom_same s t e.first h, steps_same s t e.steps h) refl
 
 -- a write of an expression over the keys read before leaves them sound

@@ -2,6 +2,7 @@
 use Rattle.std.proofs.Common.{◌≡◌, ℕ, zero, suc, ◌≤◌, ◌&&◌, nat_le, true, List, [], ◌∷◌, ◌++◌, length, drop, Result, Ok, Err, IfOk, refl, sym, ap, ◌∙◌, arith, codes}
 use Rattle.std.specs.List.{flat_map}
 use Rattle.std.specs.Cmp.Lexicographic.{same_text}
+use Rattle.std.proofs.lemmas.Bool.{and_parts}
 use Rattle.std.proofs.lemmas.Bool.Decides.{nat_tests}
 use Rattle.score_base.specs.declared.keys.Key.{Key}
 use Rattle.script_lang.specs.declared.exprs.Atom.{Atom}
@@ -14,7 +15,7 @@ use Rattle.script_lang.specs.Exprs.{is_atom_among, is_step_among, are_steps_amon
 use Rattle.script_lang.specs.Reading.{is_word}
 use Rattle.script_lang.specs.ExprWords.{atom_of, operator_of, atoms_behind, first_atom, one_atom, two_atoms, step_of, steps_of, expr_of}
 use Rattle.script_lang.specs.Spelling.{atom_word, step_words, expr_words, is_plain_atom, is_plain_step, are_plain_steps, is_plain_expr}
-use Rattle.script_lang.proofs.Readings.{behind, then, either, at_ok, and_parts}
+use Rattle.script_lang.proofs.Readings.{behind, then, either, at_ok}
 use Rattle.script_lang.proofs.AtomsRead.{IsAtomOf, atom_read, atom_again}
 
 -- the word of an operator
