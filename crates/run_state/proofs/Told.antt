@@ -16,6 +16,7 @@ use Rattle.grid_model.specs.Keyed.{at_key, put_key}
 use Rattle.grid_model.specs.Nodes.{Node, node, script_of, parts_of, is_home}
 use Rattle.grid_model.specs.Stories.{story, begun, told, if_told, heard, heard_at, asked, phase_at, Phase, with_request, with_value, with_vote, with_ack, without_answers, is_counted_vote, is_counted_ack}
 use Rattle.grid_model.proofs.Places.{at-put, put-other}
+use Rattle.grid_model.proofs.Undecided.{script-number}
 use Rattle.run_state.specs.Kept.{retold, paired, voter, hearing_at, hearing_of, hearing, asking, telling, put_telling, forgotten, retold_by}
 
 -- what a list that has one story more says of t, by what it said of t
@@ -49,10 +50,6 @@ told-if P f u t (Some x) e = elim (cases_eq u t) [
 ]
 
 -- ---- what is got
-
-script-number : (t : ℕ) (ss : List ScriptData) (s : ScriptData) → script_of t ss ≡ Some s → s.number ≡ t
-script-number t [] s e = cc
-script-number t (x ∷ ss) s e = grind (arith, nat_tests, script-number t ss s)
 
 -- a message of no vote and no acknowledgement changes nothing
 unheard : (ns : List ℕ) (p : Phase) (h : Node) (t x : ℕ) (said : Message) (o : Option Story) → voter said ≡ None → heard ns p h t x said o ≡ o

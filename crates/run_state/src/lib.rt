@@ -13,5 +13,6 @@ mod states;
 mod stories;
 
 pub use plain_nodes::PlainNode;
-pub use scripts::{is_home, parts_in, parts_of, script_of};
+pub use scripts::{parts_at, script_of};
 pub use states::RunState;
+pub use stories::{begun, has_voted, is_small, is_small_node, with_value};

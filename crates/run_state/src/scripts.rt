@@ -1,10 +1,13 @@
 //! What a document says of a transaction.
 ghost use Rattle.std.specs.Prelude.{◌≡◌, IfOk};
 ghost use Rattle.std.specs.Option.{option_copied};
+ghost use Rattle.placement.specs.Places.{parts};
+ghost use Rattle.script_lang.specs.Reads.{keys_of};
 ghost use Rattle.grid_model.specs.Nodes.{script_of, parts_of, parts_in, is_home};
 ghost use Rattle.run_state.specs.Kept.{home_in};
 
 use grid_model::Document;
+use placement::Cluster;
 use score_base::{Memory, NodeId, NodeList, TxId};
 use script_lang::{Script, keys};
 use std::alloc::Global;
@@ -41,12 +44,19 @@ pub fn is_home(doc: &Document, t: TxId, n: NodeId) -> bool
     }
 }
 
-/// All nodes that hold a key of the script, rising.
+/// All nodes of the cluster that hold a key of the script, rising.
+pub fn parts_at(alloc: Global, cluster: &Cluster, script: &Script) -> Result<NodeList, Memory>
+    ensures { IfOk result (λ ns. ns ≡ parts cluster.now.places (keys_of script.now.ops)) }
+{
+    let keys = keys(alloc, script)?;
+    cluster.places.parts(alloc, keys.as_slice())
+}
+
+/// All nodes of the document that hold a key of the script, rising.
 pub fn parts_of(alloc: Global, doc: &Document, script: &Script) -> Result<NodeList, Memory>
     ensures { IfOk result (λ ns. ns ≡ parts_of doc.now script.now) }
 {
-    let keys = keys(alloc, script)?;
-    doc.cluster().places.parts(alloc, keys.as_slice())
+    parts_at(alloc, doc.cluster(), script)
 }
 
 /// The parts of a transaction; none where it has no script.

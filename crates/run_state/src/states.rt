@@ -218,6 +218,8 @@ impl<'a> RunState<'a> {
     ghost use Rattle.run_state.specs.Kept.{RunData, past, retold, hearing_at, hearing_of, hearing, asking, telling};
     ghost use Rattle.grid_model.specs.Nodes.{node, script_of};
     ghost use Rattle.grid_model.specs.Stories.{story};
+    ghost use Rattle.grid_model.specs.declared.stories.Story.{Story};
+    ghost use Rattle.std.specs.Fn.{FnOnceReturnsAtMut};
     ghost use Rattle.grid_model.specs.Schedules.{is_gone, next_number, next_left, first_left};
 
     /// No act yet.
@@ -358,36 +360,20 @@ impl<'a> RunState<'a> {
         }
     }
 
-    fn finishing(&self, t: TxId) -> Result<Option<(TxId, Story)>, Memory>
-        ensures { IfOk result (λ o. o ≡ retold t (λ x. record x { finished = true }) (story self.now.doc (past self.now) t)) }
+    /// The story of a transaction behind a change.
+    fn changing<F: FnOnce(&mut Story)>(
+        &self,
+        t: TxId,
+        change: F,
+    ) -> Result<Option<(TxId, Story)>, Memory>
+        requires { F.IsAlwaysCallable change }
+        ensures { (f : Story → Story) → ((x y : Story) → FnOnceReturnsAtMut F.FnOnce change x tt y → y ≡ f x) → IfOk result (λ o. o ≡ retold t f (story self.now.doc (past self.now) t)) }
     {
         let Some(story) = self.story(t) else {
             return Ok(None);
         };
         let mut told = copy_of(story)?;
-        told.finished = true;
-        Ok(Some((t, told)))
-    }
-
-    fn aborting(&self, t: TxId) -> Result<Option<(TxId, Story)>, Memory>
-        ensures { IfOk result (λ o. o ≡ retold t (λ x. record x { aborted = true }) (story self.now.doc (past self.now) t)) }
-    {
-        let Some(story) = self.story(t) else {
-            return Ok(None);
-        };
-        let mut told = copy_of(story)?;
-        told.aborted = true;
-        Ok(Some((t, told)))
-    }
-
-    fn losing(&self, t: TxId) -> Result<Option<(TxId, Story)>, Memory>
-        ensures { IfOk result (λ o. o ≡ retold t (λ x. record x { lost = true }) (story self.now.doc (past self.now) t)) }
-    {
-        let Some(story) = self.story(t) else {
-            return Ok(None);
-        };
-        let mut told = copy_of(story)?;
-        told.lost = true;
+        change(&mut told);
         Ok(Some((t, told)))
     }
 
@@ -400,9 +386,9 @@ impl<'a> RunState<'a> {
             Act::Sent(_, _, _, message) => self.asking(message),
             Act::Got(m) => self.hearing(alloc, *m),
             Act::Taken(t, j, sid, value) => self.taking(*t, *j, *sid, *value),
-            Act::Finished(t) => self.finishing(*t),
-            Act::Aborted(t, _, _) => self.aborting(*t),
-            Act::Lost(t) => self.losing(*t),
+            Act::Finished(t) => self.changing(*t, |told| told.finished = true),
+            Act::Aborted(t, _, _) => self.changing(*t, |told| told.aborted = true),
+            Act::Lost(t) => self.changing(*t, |told| told.lost = true),
             _ => Ok(None),
         }
     }

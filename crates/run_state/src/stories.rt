@@ -60,7 +60,7 @@ pub fn with_request(holders: usize, story: &Story) -> Result<Story, Memory>
     Ok(told)
 }
 
-/// The story behind a reply that is taken.
+/// The story behind a reply that is taken: the first fixes the snapshot.
 pub fn with_value(j: u8, sid: Ident, value: Value, story: &Story) -> Result<Story, Memory>
     ensures { IfOk result (λ x. x ≡ with_value j sid value story.now) }
 {
@@ -73,16 +73,11 @@ pub fn with_value(j: u8, sid: Ident, value: Value, story: &Story) -> Result<Stor
     Ok(told)
 }
 
-/// Whether a vote of the node was taken.
-fn has_voted(n: NodeId, votes: &[Voted]) -> bool
+/// Whether a yes of the node was taken.
+pub fn has_voted(n: NodeId, votes: &[Voted]) -> bool
     ensures { result ≡ has_voted n votes.now }
 {
-    for vote in votes {
-        if vote.from == n {
-            return true;
-        }
-    }
-    false
+    votes.iter().any(|vote| vote.from == n)
 }
 
 /// The story behind a yes of the node; the first one is taken.
@@ -138,14 +133,14 @@ fn is_collecting(script: &Script, story: &Story, home: &PlainNode) -> bool
 }
 
 /// Whether an identifier is below 2^22.
-fn is_small(ident: Ident) -> bool
+pub fn is_small(ident: Ident) -> bool
     ensures { result ≡ is_small ident }
 {
     ident.0 < 1 << 22
 }
 
 /// Whether the floor and the clock of a node are small.
-fn is_small_node(node: &PlainNode) -> bool
+pub fn is_small_node(node: &PlainNode) -> bool
     ensures { result ≡ is_small_node node.now.journal node.now.next }
 {
     is_small(floor(node.records.as_slice())) && is_small(node.next)

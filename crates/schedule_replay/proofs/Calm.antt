@@ -1,5 +1,6 @@
 -- Where no disk fails the acts of the rows are a run, and a lawful one where no fuse is set.
 use Rattle.std.proofs.Common.{◌≡◌, ℕ, ◌+◌, ◌&&◌, ◌||◌, ◌==◌, not, Bool, true, false, List, [], ◌∷◌, ◌++◌, length, refl, ap, ◌∙◌, Option, Some, None, arith, if◌then◌else◌, map, replicate, zero, suc}
+use Rattle.std.proofs.lemmas.Bool.{and_parts, and_from}
 use Rattle.std.specs.List.{flat_map, list_all, range_with_len}
 use Rattle.std.proofs.lemmas.List.Folds.{list_all-append}
 use Rattle.script_lang.specs.Scripts.{ScriptData}
@@ -106,17 +107,9 @@ calm-played d past (item.Crash n how) e = calm-if (node d past n).up (act.Down n
 calm-played d past (item.Fuse n k how) e = cc
 calm-played d past (item.Restart n) e = calm-if (node d past n).up (act.Void 8 ∷ []) (opened_row d past n (flag_of (node d past n).doubt false)) refl (calm-opened d past n (flag_of (node d past n).doubt false))
 
-pub first-true : (b c : Bool) → (b && c) ≡ true → b ≡ true
-first-true true c e = refl
-first-true false c e = e
-
-pub rest-true : (b c : Bool) → (b && c) ≡ true → c ≡ true
-rest-true true c e = e
-rest-true false c e = cc
-
 calm-plays : (d : DocumentData) (past : List Act) (es : List Item) → list_all is_unfused es ≡ true → are_calm (plays d past es) ≡ true
 calm-plays d past [] q = refl
-calm-plays d past (e ∷ es) q = calm-append (played d past e) (plays d (after past (played d past e)) es) (calm-played d past e (first-true (is_unfused e) (list_all is_unfused es) q)) (calm-plays d (after past (played d past e)) es (rest-true (is_unfused e) (list_all is_unfused es) q))
+calm-plays d past (e ∷ es) q = calm-append (played d past e) (plays d (after past (played d past e)) es) (calm-played d past e (and_parts (is_unfused e) (list_all is_unfused es) q).0) (calm-plays d (after past (played d past e)) es (and_parts (is_unfused e) (list_all is_unfused es) q).1)
 
 calm-ups : (ns : List ℕ) → are_calm (map (start_act (λ n. true)) ns) ≡ true
 calm-ups [] = refl
@@ -124,7 +117,7 @@ calm-ups (n ∷ ns) = calm-ups ns
 
 -- ---- fuses and faults
 
-none-if : (b : Bool) (o : Option Fuse) → o ≡ None → (if b then None else o) ≡ None
+pub none-if : (b : Bool) (o : Option Fuse) → o ≡ None → (if b then None else o) ≡ None
 none-if true o e = refl
 none-if false o e = e
 
@@ -156,12 +149,9 @@ let-one : (d : DocumentData) (past : List Act) (a : Act) (n : ℕ) → are_calm 
 let-one d past (act.Up m flag.Kept) n e = or-true (not (m == n)) _ (ap lets_gate (unarmed-at_stop d past n e))
 let-one d past a n e = or-true (not (is_record_at d a n)) _ (ap lets_record (unarmed d past n e))
 
-both-true : (b c : Bool) → b ≡ true → c ≡ true → (b && c) ≡ true
-both-true b c e f = rw (e, f) refl
-
 let-all : (d : DocumentData) (past : List Act) (n : ℕ) → are_calm past ≡ true → are_let d past n ≡ true
 let-all d [] n e = refl
-let-all d (a ∷ past) n e = let rest : are_calm past ≡ true = calm-rest a past e in both-true (is_let d past a n) (are_let d past n) (let-one d past a n rest) (let-all d past n rest)
+let-all d (a ∷ past) n e = let rest : are_calm past ≡ true = calm-rest a past e in and_from (is_let d past a n) (are_let d past n) (let-one d past a n rest) (let-all d past n rest)
 
 calm-stop : (a : Act) (past : List Act) (n : ℕ) → are_calm (a ∷ past) ≡ true → is_stop a n ≡ false
 calm-stop (act.Down m (Some h)) past n e = cc
@@ -191,11 +181,11 @@ unfused-next (suc c) = unfused-next c
 
 unfused-events : (i : Item) → is_unfused i ≡ true → list_all is_unfused (events_in i) ≡ true
 unfused-events (item.Next c) e = unfused-next c
-unfused-events i e = both-true (is_unfused i) true e refl
+unfused-events i e = and_from (is_unfused i) true e refl
 
 pub unfused-all : (is : List Item) → list_all is_unfused is ≡ true → list_all is_unfused (flat_map events_in is) ≡ true
 unfused-all [] e = refl
-unfused-all (i ∷ is) e = list_all-append is_unfused (events_in i) (flat_map events_in is) ∙ both-true (list_all is_unfused (events_in i)) (list_all is_unfused (flat_map events_in is)) (unfused-events i (first-true (is_unfused i) (list_all is_unfused is) e)) (unfused-all is (rest-true (is_unfused i) (list_all is_unfused is) e))
+unfused-all (i ∷ is) e = list_all-append is_unfused (events_in i) (flat_map events_in is) ∙ and_from (list_all is_unfused (events_in i)) (list_all is_unfused (flat_map events_in is)) (unfused-events i (and_parts (is_unfused i) (list_all is_unfused is) e).0) (unfused-all is (and_parts (is_unfused i) (list_all is_unfused is) e).1)
 
 pub run-plays : (d : DocumentData) (h : List Act) → h ≡ calm_run d → IsRun d d.items h
 run-plays d h e =

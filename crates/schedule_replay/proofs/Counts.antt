@@ -33,6 +33,7 @@ use Rattle.grid_model.specs.Advances.{advance, advance_end, owns, request, reque
 use Rattle.grid_model.specs.Fitness.{is_fit_at}
 use Rattle.grid_model.specs.Rows.{served, version_for, release, ceilings, raises, answered, read_row, reply_row, judged, prepare_row, tells, decides, ballot_row, vote_row, are_all_among, closed_row, ack_row, ask_row, commit_row, abort_row, freed_by, tell_outs, row_of, answer_at, begun_at, begin_outs, not_voted, not_among, retry_row, ask_outs}
 use Rattle.schedule_replay.specs.Numbering.{sends}
+use Rattle.schedule_replay.specs.Stages.{parts_left}
 
 -- the reads that some outs hold
 abbrev pub helds : List Out → ℕ
@@ -79,10 +80,6 @@ helds-append : (xs ys : List Out) → helds (xs ++ ys) ≡ helds xs + helds ys
 helds-append [] ys = omega arith
 helds-append (out.Act (act.Held n t op sid) ∷ xs) ys = omega (arith, helds-append xs ys)
 helds-append (o ∷ xs) ys = helds-append xs ys
-
-both-own : (b c : Bool) → (b && c) ≡ true → b ≡ true
-both-own true c e = refl
-both-own false c e = e
 
 own-append : (xs ys : List Out) → are_own xs ≡ true → are_own ys ≡ true → are_own (xs ++ ys) ≡ true
 own-append [] ys p q = q
@@ -134,7 +131,7 @@ counts-owns : (t : ℕ) (values : List (ℕ × ℕ)) → Counts 0 0 (map (λ y. 
 counts-owns t [] = counts-none 0 0
 counts-owns t (y ∷ values) = let p : Counts 0 0 (map (λ z. out.Act (act.Own t z.0 z.1)) values) = counts-owns t values in record { sent = p.sent; held = p.held; own = p.own }
 
-counts-advance : (c : ClusterData) (x : Open) (i : ℕ) → Counts 16 0 (advance c x i)
+pub counts-advance : (c : ClusterData) (x : Open) (i : ℕ) → Counts 16 0 (advance c x i)
 counts-advance c x i = counts-append 0 0 16 0 (owns x.script.number i (own_reads 1 [] unread x.values x.script.ops)) (advance_end c x (waiting x.script.ops x.values)) (counts-owns x.script.number _) (counts-end c x (waiting x.script.ops x.values))
 
 -- ---- reads
@@ -233,7 +230,7 @@ counts-tell n v t outcome.Abort = counts-abort n t (length v.held) (pending t v.
 
 -- ---- the table
 
-counts-row : (n : ℕ) (v : View) (s : Stage) (x : ℕ) (said : Message) → Counts (16 + length v.held) 1 (row_of n v s x said)
+pub counts-row : (n : ℕ) (v : View) (s : Stage) (x : ℕ) (said : Message) → Counts (16 + length v.held) 1 (row_of n v s x said)
 counts-row n v s x (message.ReadReq q) = counts-more 1 1 _ 1 _ (omega arith) (omega arith) (counts-read n v x q _)
 counts-row n v s x (message.ReadRep q) = counts-more 16 0 _ 1 _ (omega arith) (omega arith) (counts-reply v.cluster q s)
 counts-row n v s x (message.Prepare q) = counts-more 1 0 _ 1 _ (omega arith) (omega arith) (counts-prepare n x q.t _ _ _ _ _)
@@ -263,3 +260,12 @@ counts-retry c t (Commits y acks) h = counts-tells t (outcome.Commit y.final) (n
 
 pub counts-ask : (v : View) (t : ℕ) → Counts 1 0 (ask_outs v t)
 counts-ask v t = counts-if (is_some (pending t v.journal)) 1 0 (to_node (home_of t v.journal) (message.Ask t)) [] (counts-to_node (home_of t v.journal) (message.Ask t)) (counts-none 1 0)
+
+-- a transaction that is decided is told to each of its parts, however many
+pub retry-few : (c : ClusterData) (t : ℕ) (s : Stage) → sends (retry_row c t s) ≤ 16 + length (parts_left s)
+retry-few c t Apart = omega arith
+retry-few c t (Reads x j) = omega (arith, (counts-retry c t (Reads x j) (omega arith)).sent)
+retry-few c t (Collects x) = omega (arith, (counts-retry c t (Collects x) (omega arith)).sent)
+retry-few c t (Commits y acks) =
+    let told : sends (tells t (outcome.Commit y.final) (not_among y.parts acks)) ≤ length (not_among y.parts acks) = (counts-sends (λ n. message.Tell t (outcome.Commit y.final)) (not_among y.parts acks)).sent in
+    omega (arith, told, filter-short (λ n. not (is_among n acks)) y.parts)

@@ -1,4 +1,3 @@
-pub mod Sending
 pub mod Told
 pub mod Clocks
 pub mod Walking

@@ -1,7 +1,7 @@
 -- A document whose schedule sets no fuse has exactly one lawful run in which no disk fails.
 use Rattle.std.proofs.Common.{◌≡◌, ℕ, ◌+◌, ◌≤◌, ◌&&◌, ◌==◌, not, Bool, true, false, List, [], ◌∷◌, ◌++◌, length, refl, sym, ap, ◌∙◌, subst, Option, Some, None, arith, if◌then◌else◌, map, inl, inr}
 use Rattle.std.specs.List.{flat_map, list_all, range_with_len}
-use Rattle.std.proofs.lemmas.Bool.{cases_Bool}
+use Rattle.std.proofs.lemmas.Bool.{cases_Bool, and_parts}
 use Rattle.std.proofs.lemmas.Bool.Decides.{nat_tests}
 use Rattle.score_base.specs.declared.records.Record.{Record}
 use Rattle.script_lang.specs.Scripts.{ScriptData}
@@ -23,11 +23,11 @@ use Rattle.grid_model.specs.Views.{view, stage}
 use Rattle.grid_model.specs.Fitness.{tx_in}
 use Rattle.grid_model.specs.Rows.{answer, begin_outs, retry_row, ask_outs}
 use Rattle.grid_model.specs.Schedules.{Choice, numbered, head_of, stopped, broken, kept, next_number, next_left, acts_of, begin_at, begin_row, deliver_row, drop_row, next_row, or_void, retry_at, ask_row, row, start_row, start_act, events_in, flag_of, losses, opened_row}
-use Rattle.grid_model.specs.Runs.{Rows, Lawful, Fuse, fuse, is_stop, is_by_fuse, stops_record, stops_opening, as_number, faults}
+use Rattle.grid_model.specs.Runs.{Rows, Lawful, fuse, is_stop, is_by_fuse, stops_record, stops_opening, as_number, faults}
 use Rattle.schedule_replay.specs.Replays.{calm, is_unfused, AreUnfused, played, plays}
 use Rattle.schedule_replay.proofs.Counts.{Counts, is_own, are_own, counts-begin, counts-answer, counts-retry, counts-ask}
 use Rattle.schedule_replay.proofs.Shorts.{short-at}
-use Rattle.schedule_replay.proofs.Calm.{calm-after, first-true, rest-true, unfused-all, lawful-plays}
+use Rattle.schedule_replay.proofs.Calm.{calm-after, none-if, unfused-all, lawful-plays}
 use Rattle.schedule_replay.proofs.Reopened.{is_calm, are_calm, are_lost, losses-lost, undoubted}
 
 -- ---- no fuse is set
@@ -54,7 +54,7 @@ unset-stopped m n (Some h) a rest e r = refl
 
 unset-broken : (m n : ℕ) (os : List Out) → are_own os ≡ true → are_unset (numbered m n (broken n os)) ≡ true
 unset-broken m n [] e = refl
-unset-broken m n (out.Act a ∷ os) e = unset-stopped m n (head_of a) a (broken n os) (first-true (is_own a) (are_own os) e) (unset-broken m n os (rest-true (is_own a) (are_own os) e))
+unset-broken m n (out.Act a ∷ os) e = unset-stopped m n (head_of a) a (broken n os) (and_parts (is_own a) (are_own os) e).0 (unset-broken m n os (and_parts (is_own a) (are_own os) e).1)
 unset-broken m n (out.Send to said ∷ os) e = unset-broken (m + 1) n os e
 
 unset-kept : (b : Bool) (m n : ℕ) (os : List Out) → are_own os ≡ true → are_unset (numbered m n (kept b n os)) ≡ true
@@ -69,7 +69,7 @@ unset-append (x ∷ xs) ys p q = grind (arith, unset-append xs ys)
 
 -- where a node's acts are calm, its disk kept each record
 same-stopped : (m n : ℕ) (o : Option Head) (a : Act) (os : List Out) → (are_calm (numbered m n (broken n os)) ≡ true → broken n os ≡ os) → are_calm (numbered m n (stopped n o (out.Act a) (broken n os))) ≡ true → stopped n o (out.Act a) (broken n os) ≡ out.Act a ∷ os
-same-stopped m n None a os same e = ap (λ z. out.Act a ∷ z) (same (rest-true (is_calm a) (are_calm (numbered m n (broken n os))) e))
+same-stopped m n None a os same e = ap (λ z. out.Act a ∷ z) (same (and_parts (is_calm a) (are_calm (numbered m n (broken n os))) e).1)
 same-stopped m n (Some h) a os same e = cc
 
 same-broken : (m n : ℕ) (os : List Out) → are_calm (numbered m n (broken n os)) ≡ true → broken n os ≡ os
@@ -169,11 +169,7 @@ one-row d past (item.Restart n) c e = one-if past (node d past n).up (act.Void 8
 -- ---- no stop without a fault
 
 unset-rest : (a : Act) (past : List Act) → are_unset (a ∷ past) ≡ true → are_unset past ≡ true
-unset-rest a past e = rest-true (is_unset a) (are_unset past) e
-
-none-if : (b : Bool) (o : Option Fuse) → o ≡ None → (if b then None else o) ≡ None
-none-if true o e = refl
-none-if false o e = e
+unset-rest a past e = (and_parts (is_unset a) (are_unset past) e).1
 
 fuseless : (d : DocumentData) (past : List Act) (n : ℕ) → are_unset past ≡ true → fuse d past n ≡ None
 fuseless d [] n e = refl
@@ -203,7 +199,7 @@ calm-one : (d : DocumentData) (a : Act) (past : List Act) → are_unset (a ∷ p
 calm-one d a past u f = elim (cases_Bool (is_calm a)) [
   | inl quiet ↦ quiet
   | inr loud ↦
-      let stop = faulty a (first-true (is_unset a) (are_unset past) u) loud in
+      let stop = faulty a (and_parts (is_unset a) (are_unset past) u).0 loud in
       let more : 1 ≤ faults d (a ∷ past) stop.0 = counted (is_stop a stop.0) (is_by_fuse d past a stop.0) (faults d past stop.0) stop.1 (not-fused d past a stop.0 (fuseless d past stop.0 (unset-rest a past u))) in
       let none : faults d (a ∷ past) stop.0 ≤ 0 = f stop.0 in
       grind (arith, more, none)
@@ -220,30 +216,30 @@ calm-past d (a ∷ past) u f = rw (calm-one d a past u f) (calm-past d past (uns
 
 calm-before : (past acts : List Act) → are_calm (after past acts) ≡ true → are_calm past ≡ true
 calm-before past [] e = e
-calm-before past (a ∷ acts) e = rest-true (is_calm a) (are_calm past) (calm-before (a ∷ past) acts e)
+calm-before past (a ∷ acts) e = (and_parts (is_calm a) (are_calm past) (calm-before (a ∷ past) acts e)).1
 
 calm-acts : (past acts : List Act) → are_calm (after past acts) ≡ true → are_calm acts ≡ true
 calm-acts past [] e = refl
-calm-acts past (a ∷ acts) e = rw (first-true (is_calm a) (are_calm past) (calm-before (a ∷ past) acts e)) (calm-acts (a ∷ past) acts e)
+calm-acts past (a ∷ acts) e = rw (and_parts (is_calm a) (are_calm past) (calm-before (a ∷ past) acts e)).0 (calm-acts (a ∷ past) acts e)
 
 unset-after : (past acts : List Act) → are_unset past ≡ true → are_unset acts ≡ true → are_unset (after past acts) ≡ true
 unset-after past [] p q = p
-unset-after past (a ∷ acts) p q = unset-after (a ∷ past) acts (rw (first-true (is_unset a) (are_unset acts) q) p) (rest-true (is_unset a) (are_unset acts) q)
+unset-after past (a ∷ acts) p q = unset-after (a ∷ past) acts (rw (and_parts (is_unset a) (are_unset acts) q).0 p) (and_parts (is_unset a) (are_unset acts) q).1
 
 calm-first : (xs ys : List Act) → are_calm (xs ++ ys) ≡ true → are_calm xs ≡ true
 calm-first [] ys e = refl
-calm-first (x ∷ xs) ys e = rw (first-true (is_calm x) (are_calm (xs ++ ys)) e) (calm-first xs ys (rest-true (is_calm x) (are_calm (xs ++ ys)) e))
+calm-first (x ∷ xs) ys e = rw (and_parts (is_calm x) (are_calm (xs ++ ys)) e).0 (calm-first xs ys (and_parts (is_calm x) (are_calm (xs ++ ys)) e).1)
 
 calm-second : (xs ys : List Act) → are_calm (xs ++ ys) ≡ true → are_calm ys ≡ true
 calm-second [] ys e = e
-calm-second (x ∷ xs) ys e = calm-second xs ys (rest-true (is_calm x) (are_calm (xs ++ ys)) e)
+calm-second (x ∷ xs) ys e = calm-second xs ys (and_parts (is_calm x) (are_calm (xs ++ ys)) e).1
 
 -- ---- the rows
 
 rows-unset : (d : DocumentData) (past : List Act) (es : List Item) (h : List Act) → list_all is_unfused es ≡ true → Rows d past es h → are_unset h ≡ true
 unfolding Rows
 rows-unset d past [] h e r = rw r refl
-rows-unset d past (x ∷ es) h e (c, rest, is, more) = rw is (unset-append (row d past x c) rest (one-row d past x c (first-true (is_unfused x) (list_all is_unfused es) e)).unset (rows-unset d (after past (row d past x c)) es rest (rest-true (is_unfused x) (list_all is_unfused es) e) more))
+rows-unset d past (x ∷ es) h e (c, rest, is, more) = rw is (unset-append (row d past x c) rest (one-row d past x c (and_parts (is_unfused x) (list_all is_unfused es) e).0).unset (rows-unset d (after past (row d past x c)) es rest (and_parts (is_unfused x) (list_all is_unfused es) e).1 more))
 
 rows-one : (d : DocumentData) (past : List Act) (es : List Item) (h : List Act) → list_all is_unfused es ≡ true → Rows d past es h → are_calm past ≡ true → are_calm h ≡ true → h ≡ plays d past es
 unfolding Rows
@@ -251,8 +247,8 @@ rows-one d past [] h e r before quiet = r
 rows-one d past (x ∷ es) h e (c, rest, is, more) before quiet =
     let both : are_calm (row d past x c ++ rest) ≡ true = subst (λ z. are_calm z ≡ true) is quiet in
     let now : are_calm (row d past x c) ≡ true = calm-first (row d past x c) rest both in
-    let here : row d past x c ≡ played d past x = (one-row d past x c (first-true (is_unfused x) (list_all is_unfused es) e)).same before now in
-    let behind : rest ≡ plays d (after past (row d past x c)) es = rows-one d (after past (row d past x c)) es rest (rest-true (is_unfused x) (list_all is_unfused es) e) more (calm-after past (row d past x c) before now) (calm-second (row d past x c) rest both) in
+    let here : row d past x c ≡ played d past x = (one-row d past x c (and_parts (is_unfused x) (list_all is_unfused es) e).0).same before now in
+    let behind : rest ≡ plays d (after past (row d past x c)) es = rows-one d (after past (row d past x c)) es rest (and_parts (is_unfused x) (list_all is_unfused es) e).1 more (calm-after past (row d past x c) before now) (calm-second (row d past x c) rest both) in
     is ∙ ap (λ z. row d past x c ++ z) behind ∙ ap (λ z. z ++ plays d (after past z) es) here
 
 -- ---- the start

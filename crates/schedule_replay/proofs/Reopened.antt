@@ -1,6 +1,7 @@
 -- A node that is opened where no record in doubt is found: its journal is as before, and so are its open transactions.
 use Rattle.std.proofs.Common.{◌≡◌, ℕ, ◌==◌, ◌&&◌, Bool, true, false, List, [], ◌∷◌, ◌++◌, refl, ap, ◌∙◌, Option, Some, None, if◌then◌else◌}
 use Rattle.std.specs.List.{flat_map}
+use Rattle.std.proofs.lemmas.Bool.{and_parts}
 use Rattle.score_base.specs.declared.records.Record.{Record}
 use Rattle.score_base.specs.declared.records.Record.TheVariants as record'
 use Rattle.script_lang.specs.Scripts.{ScriptData}
@@ -14,6 +15,7 @@ use Rattle.grid_model.specs.Nodes.{Node, node, got, Change, Writes, Stops, Start
 use Rattle.grid_model.specs.Stories.{story, phase, phase_by, is_open}
 use Rattle.grid_model.specs.Schedules.{flag_of, lost_at, losses}
 use Rattle.schedule_replay.proofs.Posts.{posts, holdings}
+use Rattle.schedule_replay.proofs.Shorts.{freed-doubt}
 
 not-kept : (o : Option Record) → is_kept (flag_of o false) ≡ false
 not-kept None = refl
@@ -92,10 +94,6 @@ doubt-same : (b : Bool) (c : Change) (x : Node) → (changed c x).doubt ≡ x.do
 doubt-same true c x e n = e ∙ n
 doubt-same false c x e n = n
 
-doubt-freed : (b : Bool) (t op : ℕ) (k : List ℕ) (sid : ℕ) (x : Node) → (changed (freed b t op k sid) x).doubt ≡ x.doubt
-doubt-freed true t op k sid x = refl
-doubt-freed false t op k sid x = refl
-
 doubt-gone : (b : Bool) (c : Change) (x : Node) → (changed c x).doubt ≡ None → x.doubt ≡ None → (changed (where_at b c) x).doubt ≡ None
 doubt-gone true c x e n = e
 doubt-gone false c x e n = n
@@ -108,22 +106,14 @@ doubt-one d e (act.Decided t f) n x q none = doubt-same (is_home d t n) (Writes 
 doubt-one d e (act.Closed t) n x q none = doubt-same (is_home d t n) (Writes (Some (record'.Closed t))) x refl none
 doubt-one d e (act.Raised m sid) n x q none = doubt-same (m == n) (Raises sid) x refl none
 doubt-one d e (act.Held m t op sid) n x q none = doubt-same (m == n) (Holds (held_by e t op sid)) x refl none
-doubt-one d e (act.Served m t op k sid vn v) n x q none = doubt-same (m == n) (freed (is_request (said_by e)) t op k sid) x (doubt-freed (is_request (said_by e)) t op k sid x) none
+doubt-one d e (act.Served m t op k sid vn v) n x q none = doubt-same (m == n) (freed (is_request (said_by e)) t op k sid) x (freed-doubt (is_request (said_by e)) t op k sid x) none
 doubt-one d e (act.Down m None) n x q none = doubt-gone (m == n) (Stops None) x refl none
 doubt-one d e (act.Down m (Some h)) n x q none = cc
 doubt-one d e (act.Up m f) n x q none = doubt-gone (m == n) (Starts (is_kept f)) x refl none
 doubt-one d e (act.StillDown m) n x q none = cc
 doubt-one d e a n x q none = none
 
-both-first : (b c : Bool) → (b && c) ≡ true → b ≡ true
-both-first true c e = refl
-both-first false c e = e
-
-both-second : (b c : Bool) → (b && c) ≡ true → c ≡ true
-both-second true c e = e
-both-second false c e = cc
-
 -- where no disk failed no record is in doubt
 pub undoubted : (d : DocumentData) (past : List Act) (n : ℕ) → are_calm past ≡ true → (node d past n).doubt ≡ None
 undoubted d [] n q = refl
-undoubted d (a ∷ past) n q = doubt-one d (got past) a n (node d past n) (both-first (is_calm a) (are_calm past) q) (undoubted d past n (both-second (is_calm a) (are_calm past) q))
+undoubted d (a ∷ past) n q = doubt-one d (got past) a n (node d past n) (and_parts (is_calm a) (are_calm past) q).0 (undoubted d past n (and_parts (is_calm a) (are_calm past) q).1)

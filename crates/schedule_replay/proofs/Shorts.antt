@@ -88,7 +88,7 @@ freed-journal : (b : Bool) (t op : ℕ) (k : List ℕ) (sid : ℕ) (x : Node) �
 freed-journal true t op k sid x = refl
 freed-journal false t op k sid x = refl
 
-freed-doubt : (b : Bool) (t op : ℕ) (k : List ℕ) (sid : ℕ) (x : Node) → (changed (freed b t op k sid) x).doubt ≡ x.doubt
+pub freed-doubt : (b : Bool) (t op : ℕ) (k : List ℕ) (sid : ℕ) (x : Node) → (changed (freed b t op k sid) x).doubt ≡ x.doubt
 freed-doubt true t op k sid x = refl
 freed-doubt false t op k sid x = refl
 

@@ -1,5 +1,5 @@
 -- What a function of several calls gives, where each call gives its part.
-use Rattle.std.proofs.Common.{◌≡◌, ◌==◌, ℕ, true, arith, List, [], ◌∷◌, ◌++◌, filter, map, Result, IfOk, Some, sym, ap, subst, ◌∙◌, if◌then◌else◌}
+use Rattle.std.proofs.Common.{◌≡◌, ◌==◌, ◌≤◌, ℕ, true, arith, List, [], ◌∷◌, ◌++◌, filter, map, Result, Ok, Err, IfOk, Some, sym, ap, subst, ◌∙◌, if◌then◌else◌}
 use Rattle.std.proofs.lemmas.Bool.Decides.{nat_tests}
 use Rattle.score_base.specs.declared.keys.Key.{Key}
 use Rattle.score_base.specs.declared.ids.NodeId.{NodeId}
@@ -8,6 +8,7 @@ use Rattle.script_lang.specs.Scripts.{ScriptData}
 use Rattle.script_lang.specs.Reads.{remote_keys, written_keys}
 use Rattle.placement.specs.Places.{parts, holds}
 use Rattle.placement.specs.Clusters.{ClusterData}
+use Rattle.grid_model.specs.declared.acts.Act.{Act}
 use Rattle.grid_model.specs.declared.acts.Act.TheVariants as act
 use Rattle.grid_model.specs.declared.events.Out.{Out}
 use Rattle.grid_model.specs.declared.events.Out.TheVariants as out
@@ -18,6 +19,8 @@ use Rattle.grid_model.specs.Stories.{first_sid, with_value}
 use Rattle.grid_model.specs.Views.{Open, open_of, Reads}
 use Rattle.grid_model.specs.Advances.{own_map, parts_now, prepare_for, advance}
 use Rattle.grid_model.specs.Rows.{reply_row}
+use Rattle.schedule_replay.specs.Numbering.{sends}
+use Rattle.schedule_replay.proofs.Counts.{counts-advance}
 
 -- the parts of the same places and keys
 pub parts-told : {E : Type 0} (r : Result (List NodeId) E) (p q : List (List NodeId)) (ks ls : List Key) → p ≡ q → ks ≡ ls → IfOk r (λ ns. ns ≡ parts p ks) → IfOk r (λ ns. ns ≡ parts q ls)
@@ -41,3 +44,12 @@ taken-told c q s story more x outs front rest same m f r o =
     ∙ ap (λ (y : List Out). out.Act (act.Taken q.t q.op q.sid q.value) ∷ y) (r ∙ ap (λ (y : Story). advance c (open_of s y) q.op) m)
     ∙ taken-here c q (open_of s story)
     ∙ ap (λ (y : Open). reply_row c q (Reads y q.op)) same
+
+-- outs that are a row have as many messages
+pub few-told : {A E : Type 0} (r : Result A E) (items : A → List Out) (row : List Out) (k : ℕ) → IfOk r (λ o. items o ≡ row) → sends row ≤ k → IfOk r (λ o. sends (items o) ≤ k)
+few-told (Ok o) items row k is few = subst (λ (y : List Out). sends y ≤ k) (sym is) few
+few-told (Err e) items row k is few = tt
+
+-- an act, and then Advance
+pub begin-told : (c : ClusterData) (x : Open) (a : Act) (outs front rest : List Out) → front ≡ out.Act a ∷ [] → rest ≡ advance c x 0 → outs ≡ front ++ rest → sends outs ≤ 16
+begin-told c x a outs front rest f r o = subst (λ (y : List Out). sends y ≤ 16) (sym (o ∙ ap (λ (y : List Out). y ++ rest) f)) (subst (λ (y : List Out). sends y ≤ 16) (sym r) (counts-advance c x 0).sent)

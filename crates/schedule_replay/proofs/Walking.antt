@@ -1,6 +1,7 @@
 -- One operation more of a walk over a script.
 use Rattle.std.proofs.Common.{◌≡◌, ℕ, ◌+◌, ◌<◌, Bool, true, false, cond, ◌&&◌, ◌||◌, is_none, is_some, IsTrue, List, [], ◌∷◌, ◌++◌, length, drop, get_or, Option, Some, None, refl, sym, ap, ◌∙◌}
 use Rattle.std.proofs.Math.Path.{fun_ext}
+use Rattle.std.proofs.lemmas.Bool.{and_parts, and_from}
 use Rattle.std.proofs.lemmas.List.{append_assoc, append-nil, drop_more}
 use Rattle.std.specs.Option.{unwrap_or}
 use Rattle.std.specs.Ordering.{nat_cmp}
@@ -24,6 +25,7 @@ use Rattle.script_lang.specs.Values.{ReadValues, value_in}
 use Rattle.grid_model.specs.Serials.{put, zeros}
 use Rattle.grid_model.specs.Stories.{value_taken, waiting, waiting_from}
 use Rattle.grid_model.specs.Advances.{Walk, unread, read_step, taken_step, write_step, own_reads, walked, own_map}
+use Rattle.grid_model.proofs.KeyLists.{same_key-turned}
 use Rattle.schedule_replay.specs.declared.trails.Trail.{Trail}
 use Rattle.schedule_replay.specs.Walks.{read_by, stepped, stops, is_ready}
 
@@ -44,11 +46,8 @@ has_either : (b : Bool) (v : Value) (o : Option Value) → is_some (cond b (Some
 has_either true v o = refl
 has_either false v o = refl
 
-turned : (k q : Key) → same_key k q ≡ same_key q k
-turned k q = texts_ties k q ∙ (eq_by_cmp_equiv nat_list_cmp_total).symm k q ∙ sym (texts_ties q k)
-
 has_more : (m : ReadValues) (k : Key) (v : Value) (q : Key) → map.contains_key (map.insert m k v) q ≡ (same_key q k || map.contains_key m q)
-has_more m k v q = ap is_some (got m k v q) ∙ has_either (same_key k q) v (map.get m q) ∙ ap (λ b. b || map.contains_key m q) (turned k q)
+has_more m k v q = ap is_some (got m k v q) ∙ has_either (same_key k q) v (map.get m q) ∙ ap (λ b. b || map.contains_key m q) (same_key-turned k q)
 
 -- ---- what a walk keeps
 
@@ -86,19 +85,6 @@ comes-first values ops x body e = rw e (record {
 
 -- ---- the keys of an expression
 
-and-left : (a b : Bool) → (a && b) ≡ true → a ≡ true
-and-left true b e = refl
-and-left false b e = cc
-
-and-right : (a b : Bool) → (a && b) ≡ true → b ≡ true
-and-right true b e = e
-and-right false b e = cc
-
-and-both : (a b : Bool) → a ≡ true → b ≡ true → (a && b) ≡ true
-and-both true true p q = refl
-and-both true false p q = cc
-and-both false b p q = cc
-
 atom-in : (known : List Key) (p : Key → Bool) (a : Atom) → ((q : Key) → is_key_among q known ≡ true → p q ≡ true) → is_atom_among known a ≡ true → all_in_atom p a ≡ true
 atom-in known p (atom.Number v) h e = refl
 atom-in known p (atom.Key k) h e = h k e
@@ -109,19 +95,19 @@ step-in known p (step.Sub a) h e = atom-in known p a h e
 step-in known p (step.Mul a) h e = atom-in known p a h e
 step-in known p (step.Min a) h e = atom-in known p a h e
 step-in known p (step.Max a) h e = atom-in known p a h e
-step-in known p (step.Pick a b) h e = and-both _ _ (atom-in known p a h (and-left _ _ e)) (atom-in known p b h (and-right _ _ e))
+step-in known p (step.Pick a b) h e = and_from _ _ (atom-in known p a h (and_parts _ _ e).0) (atom-in known p b h (and_parts _ _ e).1)
 
 steps-in : (known : List Key) (p : Key → Bool) (ss : List Step) → ((q : Key) → is_key_among q known ≡ true → p q ≡ true) → are_steps_among known ss ≡ true → all_in_steps p ss ≡ true
 steps-in known p [] h e = refl
-steps-in known p (s ∷ ss) h e = and-both _ _ (step-in known p s h (and-left _ _ e)) (steps-in known p ss h (and-right _ _ e))
+steps-in known p (s ∷ ss) h e = and_from _ _ (step-in known p s h (and_parts _ _ e).0) (steps-in known p ss h (and_parts _ _ e).1)
 
 expr-in : (known : List Key) (p : Key → Bool) (e : Expr) → ((q : Key) → is_key_among q known ≡ true → p q ≡ true) → is_expr_among known e ≡ true → all_in_expr p e ≡ true
-expr-in known p e h a = and-both _ _ (atom-in known p e.first h (and-left _ _ (and-left _ _ a))) (steps-in known p e.steps h (and-right _ _ a))
+expr-in known p e h a = and_from _ _ (atom-in known p e.first h (and_parts _ _ (and_parts _ _ a).0).0) (steps-in known p e.steps h (and_parts _ _ a).1)
 
 -- the keys of a write's expression were read
 pub comes-ready : (values : List (ℕ × Value)) (ops rest : List Op) (o : Op) (j : ℕ) (x : Trail) → Comes values ops j (o ∷ rest) x → is_ready o x ≡ true
 comes-ready values ops rest (op.Read k) j x at = refl
-comes-ready values ops rest (op.Write k e) j x at = expr-in at.known (map.contains_key x.latest) e at.has (and-left _ _ at.sound)
+comes-ready values ops rest (op.Write k e) j x at = expr-in at.known (map.contains_key x.latest) e at.has (and_parts _ _ at.sound).0
 
 -- ---- one operation more
 
@@ -179,7 +165,7 @@ comes-write values ops rest k e j x at =
       known = at.known;
       among = λ q. ap (λ b. same_key q k || b) (at.among q) ∙ sym (has_more x.mine k (expr_value (value_in x.latest) e) q);
       has = at.has;
-      sound = and-right _ _ at.sound;
+      sound = (and_parts _ _ at.sound).1;
       own = ap (λ w. x.own ++ own_reads (j + 1) (k ∷ at.seen) w values rest) more ∙ at.own;
       map = ap (λ w. walked (j + 1) (k ∷ at.seen) w values rest) more ∙ at.map;
       waits = at.waits;

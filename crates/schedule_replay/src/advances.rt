@@ -28,7 +28,7 @@ fn date_by(sid0: Ident, sid: Option<Ident>) -> Date
 }
 
 /// The snapshot identifier, or else this one.
-pub fn first_sid(snapshot: Option<Ident>, sid: Ident) -> Ident
+fn first_sid(snapshot: Option<Ident>, sid: Ident) -> Ident
     ensures { result ≡ first_sid snapshot sid }
 {
     match snapshot {

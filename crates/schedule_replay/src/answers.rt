@@ -4,7 +4,6 @@ ghost use Rattle.std.specs.Prelude.{◌≡◌, ◌≤◌, ◌+◌, IfOk, IsTrue,
 ghost use Rattle.std.specs.Option.{option_copied};
 ghost use Rattle.grid_model.specs.Fitness.{is_fit_at, tx_in};
 ghost use Rattle.grid_model.specs.Rows.{row_of, answer_at, begin_outs, retry_row, ask_outs};
-ghost use Rattle.grid_model.specs.Stories.{begun};
 ghost use Rattle.grid_model.specs.Views.{stage_at, view_of};
 ghost use Rattle.schedule_replay.specs.Numbering.{sends};
 ghost use Rattle.schedule_replay.specs.Stages.{shown, node_view, parts_left};
@@ -19,8 +18,8 @@ use crate::voters::prepare_outs;
 use grid_model::records::{commit_id, home_of, pending};
 use grid_model::{Act, Document, Message, Out, Story};
 use placement::Cluster;
-use run_state::PlainNode;
-use score_base::{Ident, Members, Memory, NodeId, NodeList, Outcome, TxId, append, push};
+use run_state::{PlainNode, begun};
+use score_base::{Memory, NodeId, Outcome, TxId, append, push};
 use script_lang::Script;
 use std::alloc::Global;
 
@@ -84,23 +83,6 @@ pub fn answer(
         return Ok(Vec::new(alloc));
     }
     row_of(alloc, doc, n, node, &stage, from, message)
-}
-
-/// The story of a transaction that begins at this commit identifier.
-fn begun(alloc: Global, sid0: Ident) -> Story
-    ensures { result ≡ begun sid0 }
-{
-    Story {
-        sid0,
-        turn: 0,
-        sid: None,
-        values: Members::new(alloc),
-        votes: Members::new(alloc),
-        acks: NodeList::new(alloc),
-        finished: false,
-        aborted: false,
-        lost: false,
-    }
 }
 
 /// What node `n` gives where a transaction of its own begins.

@@ -2,7 +2,6 @@
 
 ghost use Rattle.std.specs.Prelude.{◌≡◌, ◌++◌, ◌∷◌, [], IfOk, OnOk};
 ghost use Rattle.placement.specs.Places.{others};
-ghost use Rattle.grid_model.specs.Stories.{has_voted};
 ghost use Rattle.grid_model.specs.Rows.{tells, greatest_vote, have_voted, decides, full_row, ballot_row, vote_row, are_all_among, ack_row, ask_row, not_voted, not_among};
 ghost use Rattle.grid_model.specs.Advances.{parts_now};
 ghost use Rattle.schedule_replay.specs.Stages.{shown};
@@ -11,15 +10,9 @@ use crate::stages::{Open, Stage, parts_now};
 use grid_model::records::is_among;
 use grid_model::{Act, Message, Out, Voted};
 use placement::Cluster;
+use run_state::has_voted;
 use score_base::{Ballot, Cause, Ident, Memory, NodeId, NodeList, Outcome, TryCopy, TxId, push};
 use std::alloc::Global;
-
-/// Whether a yes of the node was taken.
-fn has_voted(node: NodeId, votes: &[Voted]) -> bool
-    ensures { result ≡ has_voted node votes.now }
-{
-    votes.iter().any(|vote| vote.from == node)
-}
 
 /// Whether a yes of each of these nodes was taken.
 fn have_voted(nodes: &[NodeId], votes: &[Voted]) -> bool

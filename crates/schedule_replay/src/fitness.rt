@@ -1,31 +1,17 @@
 //! Which messages are fit at a node. One that is not changes nothing.
 
 ghost use Rattle.std.specs.Prelude.{◌≡◌, IfOk};
-ghost use Rattle.grid_model.specs.Stories.{is_small, is_small_node, is_small_cause, is_fit_ballot};
+ghost use Rattle.grid_model.specs.Stories.{is_small_cause, is_fit_ballot};
 ghost use Rattle.grid_model.specs.Fitness.{date_ident, is_fit_request, is_same_ident, is_fit_reply, is_rising, is_fit_prepare, is_part_at, is_at_least, is_fit_outcome, is_fit_content, is_fit_at};
 ghost use Rattle.schedule_replay.specs.Stages.{shown, node_view};
 
 use crate::stages::{Stage, parts_now};
-use grid_model::records::{are_own_keys, floor, is_among, keys_in, pending};
+use grid_model::records::{are_own_keys, is_among, keys_in, pending};
 use grid_model::{Document, Message, Prepare, ReadRep, ReadReq};
 use placement::Cluster;
-use run_state::PlainNode;
+use run_state::{PlainNode, is_small, is_small_node};
 use score_base::{Ballot, Cause, Date, Ident, Memory, NodeId, Outcome};
 use std::alloc::Global;
-
-/// Whether an identifier is below 2^22.
-fn is_small(ident: Ident) -> bool
-    ensures { result ≡ is_small ident }
-{
-    ident.0 < 1 << 22
-}
-
-/// Whether the floor and the clock of a node are small.
-fn is_small_node(node: &PlainNode) -> bool
-    ensures { result ≡ is_small_node node.now.journal node.now.next }
-{
-    is_small(floor(node.records.as_slice())) && is_small(node.next)
-}
 
 /// The identifier of a date.
 fn date_ident(date: Date) -> Ident

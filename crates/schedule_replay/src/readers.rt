@@ -2,20 +2,20 @@
 
 ghost use Rattle.std.specs.Prelude.{◌≡◌, ◌<◌, ◌+◌, ◌^◌, ◌++◌, ◌∷◌, [], IfOk, OnOk, IsTrue, reverse};
 ghost use Rattle.grid_model.specs.Journals.{commit_id, floor, is_clear};
-ghost use Rattle.grid_model.specs.Stories.{is_small, is_small_node, with_value};
+ghost use Rattle.grid_model.specs.Stories.{is_small, is_small_node};
 ghost use Rattle.grid_model.specs.Fitness.{date_ident};
 ghost use Rattle.grid_model.specs.Rows.{served, version_for, release, dated, ceiling_of, ceilings, raises, answered, read_row, reply_row};
 ghost use Rattle.grid_model.specs.Views.{Reads};
 ghost use Rattle.grid_model.specs.declared.messages.ReadReq.{ReadReq};
 ghost use Rattle.schedule_replay.specs.Stages.{shown, node_view};
 
-use crate::advances::{advance, first_sid};
+use crate::advances::advance;
 use crate::stages::{Open, Stage};
 use grid_model::records::{commit_id, floor, is_clear, version_at};
-use grid_model::{Act, Document, HeldRead, Message, Out, ReadRep, ReadReq, Story, Version};
+use grid_model::{Act, Document, HeldRead, Message, Out, ReadRep, ReadReq, Version};
 use placement::Cluster;
-use run_state::PlainNode;
-use score_base::{Date, Ident, Key, Memory, NodeId, Record, TryCopy, append, push};
+use run_state::{PlainNode, with_value};
+use score_base::{Date, Ident, Key, Memory, NodeId, Record, append, push};
 use std::alloc::Global;
 
 /// The version of a key that the records give at an identifier.
@@ -173,30 +173,11 @@ pub fn read_outs(
     Ok(outs)
 }
 
-/// The story of a transaction behind a reply that is taken: the first fixes the snapshot.
-fn with_reply(story: &Story, q: &ReadRep) -> Result<Story, Memory>
-    ensures { IfOk result (λ x. x ≡ with_value q.now.op q.now.sid q.now.value story.now) }
-{
-    let mut values = story.values.copy()?;
-    values.push((q.op, q.value))?;
-    Ok(Story {
-        sid0: story.sid0,
-        turn: 0,
-        sid: Some(first_sid(story.sid, q.sid)),
-        values,
-        votes: story.votes.copy()?,
-        acks: story.acks.copy()?,
-        finished: story.finished,
-        aborted: story.aborted,
-        lost: story.lost,
-    })
-}
-
 /// What the home gives where a reply comes for the operation that is read.
 fn taken_row(alloc: Global, cluster: &Cluster, tx: &Open, q: &ReadRep) -> Result<Vec<Out>, Memory>
     ensures { IfOk result (λ outs. outs.items ≡ reply_row cluster.now q.now (Reads tx.now q.now.op)) }
 {
-    let story = with_reply(tx.story, q)?;
+    let story = with_value(q.op, q.sid, q.value, tx.story)?;
     let next = Open {
         script: tx.script,
         story: &story,

@@ -2,8 +2,6 @@
 
 ghost use Rattle.std.specs.Prelude.{◌≡◌, [], IfOk, Some, is_some, true};
 ghost use Rattle.std.specs.Option.{option_copied};
-ghost use Rattle.placement.specs.Places.{parts};
-ghost use Rattle.script_lang.specs.Reads.{keys_of};
 ghost use Rattle.grid_model.specs.Stories.{is_open, phase_at, waiting};
 ghost use Rattle.grid_model.specs.Advances.{parts_now};
 ghost use Rattle.grid_model.specs.Views.{open_at, acks_at, stage_at, open_stage};
@@ -14,9 +12,9 @@ use crate::trails::walk;
 use grid_model::Story;
 use grid_model::records::{Decided, decision, undone};
 use placement::Cluster;
-use run_state::PlainNode;
+use run_state::{PlainNode, parts_at};
 use score_base::{Memory, NodeId, NodeList, TxId};
-use script_lang::{Script, is_update, keys};
+use script_lang::{Script, is_update};
 use std::alloc::Global;
 use std::marker::Model;
 
@@ -48,19 +46,11 @@ pub enum Stage<'a> {
     Commits(Decided<'a>, &'a [NodeId]),
 }
 
-/// All nodes that hold a key of a script, rising.
-fn parts_of(alloc: Global, cluster: &Cluster, script: &Script) -> Result<NodeList, Memory>
-    ensures { IfOk result (λ ns. ns ≡ parts cluster.now.places (keys_of script.now.ops)) }
-{
-    let keys = keys(alloc, script)?;
-    cluster.places.parts(alloc, keys.as_slice())
-}
-
 /// All nodes that hold a key of an open transaction, rising.
 pub fn parts_now(alloc: Global, cluster: &Cluster, tx: &Open) -> Result<NodeList, Memory>
     ensures { IfOk result (λ ns. ns ≡ parts_now cluster.now tx.now) }
 {
-    parts_of(alloc, cluster, tx.script)
+    parts_at(alloc, cluster, tx.script)
 }
 
 /// Whether a transaction is reading or collecting.

@@ -2,7 +2,7 @@ use Rattle.std.proofs.Common.{◌++◌, ◌∷◌, [], ◌∙◌, ap}
 use Rattle.grid_model.specs.declared.acts.Act.TheVariants as act
 use Rattle.grid_model.specs.declared.events.Out.TheVariants as out
 use Rattle.grid_model.specs.Views.{open_of}
-use Rattle.schedule_replay.proofs.Sending.{begin-told}
+use Rattle.schedule_replay.proofs.Told.{begin-told}
 use Rattle.schedule_replay.proofs.answers.begin_outs.Goals as goal
 
 pub returns-clause-few : goal.returns-clause-few

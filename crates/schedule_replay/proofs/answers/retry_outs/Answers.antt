@@ -3,7 +3,8 @@ use Rattle.grid_model.specs.Rows.{retry_row}
 use Rattle.grid_model.specs.Views.{Stage}
 use Rattle.schedule_replay.specs.Numbering.{sends}
 use Rattle.schedule_replay.specs.Stages.{shown, parts_left}
-use Rattle.schedule_replay.proofs.Sending.{retry-few, few-told}
+use Rattle.schedule_replay.proofs.Counts.{retry-few}
+use Rattle.schedule_replay.proofs.Told.{few-told}
 use Rattle.schedule_replay.proofs.answers.retry_outs.Goals as goal
 
 pub returns-clause-few : goal.returns-clause-few
