@@ -10,7 +10,7 @@ use Rattle.grid_model.specs.Histories.{after}
 use Rattle.grid_model.specs.Journals.{Decision, decision, is_closed}
 use Rattle.grid_model.specs.Nodes.{node}
 use Rattle.grid_model.specs.Stories.{Phase, Unbegun, Lost, Closed, Decided, Aborted, Answered, Reading, Collecting, decided_phase, is_open, open_phase, phase, phase_by, story, waiting}
-use Rattle.grid_model.specs.Claims.{Accounted, Excused, is_settled}
+use Rattle.grid_model.specs.Excuses.{Accounted, Excused, is_settled}
 
 -- what was begun is settled or open
 either : (p : Phase) → (p ≡ Unbegun → ⊥) → (is_settled p ≡ true) ⊎ (is_open p ≡ true)

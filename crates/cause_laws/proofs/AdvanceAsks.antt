@@ -6,7 +6,7 @@ use Rattle.grid_laws.proofs.Frames.{same-number}
 use Rattle.grid_laws.proofs.Snapshots.{OfStory}
 use Rattle.grid_model.proofs.Walks.{waiting-read}
 use Rattle.grid_model.specs.Advances.{advance, advance_end, date_by, op_at, own_reads, owns, prepares, request, request_of, to_node, unread}
-use Rattle.grid_model.specs.Claims.{has_sent, is_prepare_of, is_request_of}
+use Rattle.grid_model.specs.Excuses.{has_sent, is_prepare_of, is_request_of}
 use Rattle.grid_model.specs.Documents.{DocumentData, IsOne}
 use Rattle.grid_model.specs.Histories.{after}
 use Rattle.grid_model.specs.Journals.{later}

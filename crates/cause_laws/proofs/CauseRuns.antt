@@ -17,7 +17,7 @@ use Rattle.grid_model.specs.Documents.{DocumentData}
 use Rattle.grid_model.specs.Histories.{after}
 use Rattle.grid_model.specs.Acts.{EachBehind}
 use Rattle.grid_model.specs.Claims.{Caused, IsCausedAct}
-use Rattle.cause_laws.specs.Refusals.{RefusedWhereAsked}
+use Rattle.grid_model.specs.Claims.{RefusedWhereAsked}
 use Rattle.cause_laws.proofs.RefusalsAsked.{refused-asked}
 use Rattle.grid_laws.proofs.WorkedDocuments.{write_conflict-worked}
 use Rattle.grid_model.specs.declared.messages.Envelope.{Envelope}

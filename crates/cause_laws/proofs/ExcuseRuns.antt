@@ -1,4 +1,4 @@
--- The claim on excuses is not empty: to collect with all votes, to read what was answered, or to ask who neither holds nor answers is no excuse.
+-- The claim on excuses is not empty: to collect with all votes, to read what was answered, or to ask who neither holds nor answers the home is no excuse.
 use Rattle.cause_laws.proofs.CauseRuns.{both_prepare}
 use Rattle.std.proofs.Common.{inl, inr, ◌≡◌, ℕ, true, false, IsTrue, List, [], ◌∷◌, ◌++◌, refl, ap, sym, subst, arith, drop, ◌==◌, ◌&&◌}
 use Rattle.std.proofs.lemmas.Bool.{false≢true}
@@ -18,7 +18,7 @@ use Rattle.grid_model.specs.declared.messages.Message.TheVariants as message
 use Rattle.grid_model.specs.Histories.{after}
 use Rattle.grid_model.specs.Nodes.{node}
 use Rattle.grid_model.specs.Stories.{Phase, phase, Reading, Collecting}
-use Rattle.grid_model.specs.Claims.{Accounted, Excused, ExcusedOf, home_is_down, reads, collects, WaitsForVote, WaitsForRead, has_got, is_vote_of, is_reply_of}
+use Rattle.grid_model.specs.Excuses.{Accounted, Excused, ExcusedOf, home_is_down, reads, collects, WaitsForVote, WaitsForRead, has_got, is_vote_of, is_reply_of}
 use Rattle.grid_model.proofs.Plays.{a, request, reply}
 use Rattle.grid_model.proofs.RunsWithReads.{first_read, first_read_acts}
 use Rattle.grid_model.proofs.RunsWithConflicts.{write_conflict, write_conflict_acts}
@@ -147,3 +147,26 @@ not_answered (collects collecting w) = (let e : Reading 1 ≡ Collecting = colle
 -- the request came to a node that is up, holds no read and sent no reply: refuted
 pub unanswered-refuted : Excused first_read unanswered_acts → ⊥
 unanswered-refuted excused = not_answered (excused reading_script 1 refl refl)
+
+-- ---- a reply that the server sends to itself
+
+-- the acts up to the Served, and a reply from the server to itself
+abbrev pub misaddressed_acts : List Act
+misaddressed_acts = unanswered_acts ++ act.Sent 2 2 2 (reply 1 1 0 10) ∷ []
+
+abbrev pub misaddressed : List Act
+misaddressed = after [] misaddressed_acts
+
+not_misaddressed : ExcusedOf first_read misaddressed reading_script → ⊥
+not_misaddressed (home_is_down down) = (let e : true ≡ false = down in false≢true (sym e))
+not_misaddressed (reads j reading w) =
+    let at : 1 ≡ j = ap op_read reading in
+    let P : ℕ → Type 0 = λ i. WaitsForRead first_read misaddressed 1 i in
+    let wait : WaitsForRead first_read misaddressed 1 1 = subst P (sym at) w in
+    let answered : false ≡ true = wait.each 2 (act.Sent 2 2 2 (reply 1 1 0 10) ∷ act.Served 2 1 1 a 0 0 10 ∷ []) (record { m = 1; before = drop 3 misaddressed; there = refl; said = refl }) in
+    false≢true answered
+not_misaddressed (collects collecting w) = (let e : Reading 1 ≡ Collecting = collecting in cc)
+
+-- the reply went to the server and not to the home: refuted
+pub misaddressed-refuted : Excused first_read misaddressed_acts → ⊥
+misaddressed-refuted excused = not_misaddressed (excused reading_script 1 refl refl)

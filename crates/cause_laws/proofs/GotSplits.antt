@@ -1,6 +1,6 @@
 -- Where a message that an event leaves got was got: before the event, or by it.
 use Rattle.cause_laws.proofs.OpenStages.{is_ungot}
-use Rattle.grid_model.specs.Claims.{GotAt, has_got, passes}
+use Rattle.grid_model.specs.Excuses.{GotAt, has_got, passes}
 use Rattle.grid_model.specs.Histories.{after, sent, sent_at}
 use Rattle.grid_model.specs.declared.acts.Act.TheVariants as act
 use Rattle.grid_model.specs.declared.acts.Act.{Act}

@@ -14,7 +14,7 @@ use Rattle.grid_laws.proofs.Snapshots.{OfStory}
 use Rattle.grid_laws.proofs.Stages.{among-get}
 use Rattle.grid_model.proofs.Decisions.{decided-here}
 use Rattle.grid_model.specs.Advances.{op_at}
-use Rattle.grid_model.specs.Claims.{is_vote_of}
+use Rattle.grid_model.specs.Excuses.{is_vote_of}
 use Rattle.grid_model.specs.Documents.{DocumentData, IsOne, is_body}
 use Rattle.grid_model.specs.Fitness.{is_fit}
 use Rattle.grid_model.specs.Histories.{after, sent, sent_at}

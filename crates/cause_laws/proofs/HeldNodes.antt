@@ -1,7 +1,7 @@
 -- What acts leave of the held reads of a node: each is held by a pending proposal, and a node that is down holds none.
 use Rattle.cause_laws.proofs.UnheldOuts.{is_unheld}
 use Rattle.grid_laws.proofs.Frames.{held-stays, is_still}
-use Rattle.grid_model.specs.Claims.{is_reply_of}
+use Rattle.grid_model.specs.Excuses.{is_reply_of}
 use Rattle.grid_model.specs.Documents.{DocumentData}
 use Rattle.grid_model.specs.Histories.{after}
 use Rattle.grid_model.specs.Journals.{is_clear, later}

@@ -7,7 +7,7 @@ use Rattle.cause_laws.proofs.HeldNodes.{HoldsWaiting, IsKeptRead, has_read, is_s
 use Rattle.cause_laws.proofs.OpenStages.{IsGetting, event-getting, none_got, one_got}
 use Rattle.cause_laws.proofs.Starts.{behind-start, start-none}
 use Rattle.cause_laws.proofs.VotesSent.{no-got-at}
-use Rattle.grid_model.specs.Claims.{GotAt, has_sent, has_stopped, is_reply_of, is_request_of}
+use Rattle.grid_model.specs.Excuses.{GotAt, has_sent, has_stopped, is_reply_of, is_request_of}
 use Rattle.grid_model.specs.Documents.{DocumentData, IsOne}
 use Rattle.grid_model.specs.Histories.{after}
 use Rattle.grid_model.specs.Nodes.{Node, Starts, Stays, changed, node, where_at}

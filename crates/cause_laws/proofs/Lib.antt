@@ -24,6 +24,7 @@ pub mod VoteRows
 pub mod GotVotes
 pub mod VoteMissing
 pub mod VotesCounted
+pub mod SentHomes
 pub mod VoteExcuses
 pub mod UnheldOuts
 pub mod HeldNodes

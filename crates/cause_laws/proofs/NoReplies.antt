@@ -13,7 +13,7 @@ use Rattle.grid_laws.proofs.Snapshots.{OfStory}
 use Rattle.grid_laws.proofs.Stages.{story-quiet}
 use Rattle.grid_model.proofs.Walks.{taken-new, waiting-open}
 use Rattle.grid_model.specs.Advances.{advance}
-use Rattle.grid_model.specs.Claims.{has_got, is_reply_of, passes}
+use Rattle.grid_model.specs.Excuses.{has_got, is_reply_of, passes}
 use Rattle.grid_model.specs.Documents.{DocumentData, IsOne}
 use Rattle.grid_model.specs.Fitness.{is_fit, is_fit_at}
 use Rattle.grid_model.specs.Histories.{after, sent, sent_at}

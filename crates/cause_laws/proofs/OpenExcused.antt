@@ -4,15 +4,17 @@ use Rattle.cause_laws.proofs.Askings.{all-asked}
 use Rattle.cause_laws.proofs.HeldNodes.{has_read, is_waiting_read}
 use Rattle.cause_laws.proofs.HeldRequests.{ReadsHeld, reads-held}
 use Rattle.cause_laws.proofs.NoReplies.{quiet-read}
+use Rattle.cause_laws.proofs.SentHomes.{replies-sent, requests-sent}
 use Rattle.cause_laws.proofs.VoteExcuses.{OpenTold, open-told, unsettled-phase, waits-vote}
+use Rattle.grid_laws.proofs.Causes.{AllDue}
 use Rattle.grid_laws.proofs.OpenNotEnded.{open-not-ended}
 use Rattle.grid_laws.proofs.RunsDue.{due-run}
 use Rattle.grid_model.proofs.Undecided.{script-number}
-use Rattle.grid_model.specs.Claims.{Excused, ExcusedOf, WaitsForRead, collects, has_sent, has_stopped, home_is_down, is_held_at, is_reply_of, reads}
+use Rattle.grid_model.specs.Excuses.{Excused, ExcusedOf, WaitsForRead, collects, has_sent, has_stopped, home_is_down, is_held_at, is_reply_of, is_request_of, reads}
 use Rattle.grid_model.specs.Documents.{DocumentData, IsOne}
 use Rattle.grid_model.specs.Histories.{after}
 use Rattle.grid_model.specs.Journals.{is_clear, later}
-use Rattle.grid_model.specs.Nodes.{journal, node, script_of}
+use Rattle.grid_model.specs.Nodes.{is_home, journal, node, script_of}
 use Rattle.grid_model.specs.Runs.{IsRun}
 use Rattle.grid_model.specs.Stories.{is_open, open_phase, phase, waiting}
 use Rattle.grid_model.specs.declared.acts.Act.{Act}
@@ -37,22 +39,25 @@ read-held r t j (y ∷ hs) w h =
       | inr later ↦ or_right (y.t == t && (y.op == j && not (is_clear y.sid r))) (list_any (λ h. h.t == t && (h.op == j && not (is_clear h.sid r))) hs) (read-held r t j hs both.1 later)
     ]
 
-turned : (a b c d : Bool) → (c ≡ true → d ≡ true) → ((a || b) || c) ≡ true → (a || (b || d)) ≡ true
-turned true b c d go h = refl
-turned false true c d go h = refl
-turned false false c d go h = go h
+turned : (a e b c d : Bool) → (a ≡ true → e ≡ true) → (c ≡ true → d ≡ true) → ((a || b) || c) ≡ true → (e || (b || d)) ≡ true
+turned true e b c d home go h = or_left e (b || d) (home refl)
+turned false e true c d home go h = or_right e true refl
+turned false e false c d home go h = or_right e d (go h)
 
 -- the read that it waits for
 waits-read : (d : DocumentData) (h : List Act) (s : ScriptData) (j : ℕ) → IsOne d → IsRun d d.items h → script_of s.number d.scripts ≡ Some s → (w : OpenTold d (after [] h) s) → waiting s.ops w.tale.values ≡ Some j → WaitsForRead d (after [] h) s.number j
 waits-read d h s j one run is w waits =
     record {
-      asked = asked_for;
+      asked = requests-sent d past s.number j one due asked_for;
       quiet = quiet-read d h s w.tale j one run is w.told w.unsettled waits;
-      each = λ n later g. turned (has_sent (λ x y said. x == n && is_reply_of s.number j said) later) (has_stopped n later) (has_read s.number j (node d past n).held) (is_held_at (node d past n) s.number j) (λ r. read-held (journal d past n) s.number j (node d past n).held (all.holds n).waits r) (all.served s.number j n later g);
+      each = λ n later g. turned (has_sent (λ x y said. x == n && is_reply_of s.number j said) later) (has_sent (λ x y said. x == n && (is_home d s.number y && is_reply_of s.number j said)) later) (has_stopped n later) (has_read s.number j (node d past n).held) (is_held_at (node d past n) s.number j) (λ v. replies-sent d (λ x y said. is_request_of s.number j said) past s.number j n n later one due g v) (λ r. read-held (journal d past n) s.number j (node d past n).held (all.holds n).waits r) (all.served s.number j n later g);
     }
   where
     past : List Act
     past = after [] h
+
+    due : AllDue d past
+    due = due-run d d.items h run
 
     all : ReadsHeld d past
     all = reads-held d h one run

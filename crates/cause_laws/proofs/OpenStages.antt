@@ -5,7 +5,7 @@ use Rattle.cause_laws.proofs.Outcomes.{IsKind, event-kind, failed, got_first, op
 use Rattle.cause_laws.proofs.OutsToEnds.{is_middle}
 use Rattle.cause_laws.proofs.Settled.{is_settled, is_shut, unsettled-open}
 use Rattle.grid_model.proofs.Undecided.{script-number}
-use Rattle.grid_model.specs.Claims.{has_got}
+use Rattle.grid_model.specs.Excuses.{has_got}
 use Rattle.grid_model.specs.Documents.{DocumentData, IsOne, number_order, script_numbers}
 use Rattle.grid_model.specs.Facts.{AllFit, GotIsFit, IsFitAt}
 use Rattle.grid_model.specs.Fitness.{is_fit}

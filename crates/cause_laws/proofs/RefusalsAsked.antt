@@ -8,7 +8,7 @@ use Rattle.grid_model.specs.Runs.{IsRun}
 use Rattle.grid_model.specs.Acts.{EachBehind}
 use Rattle.grid_laws.proofs.Causes.{AllDue, IsDue}
 use Rattle.grid_laws.proofs.RunsDue.{due-run}
-use Rattle.cause_laws.specs.Refusals.{IsAskedAct, RefusedWhereAsked}
+use Rattle.grid_model.specs.Claims.{IsAskedAct, RefusedWhereAsked}
 
 act-asked : (d : DocumentData) (past : List Act) (a : Act) → IsDue d past a → IsAskedAct a past
 act-asked d past (act.Refused n t why) due = record { from = due.0; prepare = due.1.prepare; got = due.1.got; of = sym due.1.is }

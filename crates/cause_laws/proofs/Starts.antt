@@ -1,5 +1,5 @@
 -- What each opening of a start leaves as it is holds behind the start: nothing is told there, and nothing is got.
-use Rattle.grid_model.specs.Claims.{has_got}
+use Rattle.grid_model.specs.Excuses.{has_got}
 use Rattle.grid_model.specs.Documents.{DocumentData}
 use Rattle.grid_model.specs.Histories.{after}
 use Rattle.grid_model.specs.Schedules.{start_act, start_row}

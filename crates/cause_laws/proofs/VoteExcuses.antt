@@ -2,6 +2,7 @@
 use Rattle.cause_laws.proofs.AdvanceAsks.{AskedBy, IsAsked}
 use Rattle.cause_laws.proofs.Askings.{all-asked}
 use Rattle.cause_laws.proofs.Events.{run-holds}
+use Rattle.cause_laws.proofs.SentHomes.{prepares-sent, votes-sent}
 use Rattle.cause_laws.proofs.Settled.{is_settled, is_shut, settled-closed}
 use Rattle.cause_laws.proofs.Starts.{start-untold}
 use Rattle.cause_laws.proofs.VoteMissing.{never-full}
@@ -9,12 +10,14 @@ use Rattle.cause_laws.proofs.VoteStories.{Counted, is_counted_in, is_done, is_do
 use Rattle.cause_laws.proofs.VotesCounted.{votes-taken}
 use Rattle.cause_laws.proofs.VotesSent.{is_voted, prepares-answered}
 use Rattle.grid_laws.proofs.Answered.{AllTold, is_told}
+use Rattle.grid_laws.proofs.Causes.{AllDue}
 use Rattle.grid_laws.proofs.Frames.{same-number}
-use Rattle.grid_model.specs.Claims.{WaitsForVote, has_got, is_vote_of}
+use Rattle.grid_laws.proofs.RunsDue.{due-run}
+use Rattle.grid_model.specs.Excuses.{WaitsForVote, began_down, has_got, has_sent, is_prepare_of, is_vote_of}
 use Rattle.grid_model.specs.Documents.{DocumentData, IsOne}
 use Rattle.grid_model.specs.Histories.{after}
 use Rattle.grid_model.specs.Journals.{Decision, decision, ended, is_closed}
-use Rattle.grid_model.specs.Nodes.{journal, node, parts_of, script_of}
+use Rattle.grid_model.specs.Nodes.{is_home, journal, node, parts_of, script_of}
 use Rattle.grid_model.specs.Rows.{have_voted}
 use Rattle.grid_model.specs.Runs.{IsRun}
 use Rattle.grid_model.specs.Stories.{Collecting, Reading, has_voted, is_open, open_phase, phase, phase_at, phase_by, story, told, waiting}
@@ -123,19 +126,26 @@ not-true : (a : Bool) → not a ≡ true → a ≡ false
 not-true true h = cc
 not-true false h = refl
 
+homed : (a b c : Bool) → (b ≡ true → c ≡ true) → (a || b) ≡ true → (a || c) ≡ true
+homed true b c go h = refl
+homed false b c go h = go h
+
 -- where the home is up: the vote that it waits for
 pub waits-vote : (d : DocumentData) (h : List Act) (s : ScriptData) → IsOne d → IsRun d d.items h → script_of s.number d.scripts ≡ Some s → ((n : NodeId) → ended s.number (journal d (after [] h) n) ≡ None) → (node d (after [] h) s.home).up ≡ true → (w : OpenTold d (after [] h) s) → waiting s.ops w.tale.values ≡ None → WaitsForVote d (after [] h) s.number
 waits-vote d h s one run is unended up w full =
     record {
       part = part.0;
       is_part = rw is part.1;
-      asked = asks update part.0 part.1;
+      asked = prepares-sent d past s.number part.0 one due (asks update part.0 part.1);
       quiet = quiet (has_got (λ x y said. x == part.0 && is_vote_of s.number said) past) refl;
-      each = λ later g. answers later (prepares-answered d h one run s.number part.0 later g);
+      each = λ later g. homed (began_down part.0 later) (has_sent (λ x y said. x == part.0 && is_vote_of s.number said) later) (has_sent (λ x y said. x == part.0 && (is_home d s.number y && is_vote_of s.number said)) later) (λ v. votes-sent d (λ x y said. is_prepare_of s.number said) past s.number part.0 part.0 later one due g v) (answers later (prepares-answered d h one run s.number part.0 later g));
     }
   where
     past : List Act
     past = after [] h
+
+    due : AllDue d past
+    due = due-run d d.items h run
 
     not_all : have_voted (parts_of d s) w.tale.votes ≡ false
     not_all = elim (never-full d h one run s is) [

@@ -6,7 +6,7 @@ use Rattle.cause_laws.proofs.Settled.{settled-later, settled-more}
 use Rattle.cause_laws.proofs.Starts.{start-untold}
 use Rattle.cause_laws.proofs.VoteStories.{if-unvoted, is_unvoted, unvoted-later}
 use Rattle.grid_laws.proofs.Causes.{AllDue}
-use Rattle.grid_model.specs.Claims.{is_vote_of}
+use Rattle.grid_model.specs.Excuses.{is_vote_of}
 use Rattle.grid_model.specs.Documents.{DocumentData, IsOne}
 use Rattle.grid_model.specs.Histories.{after, sent, sent_at}
 use Rattle.grid_model.specs.Nodes.{Node, got, node, parts_of, script_of}

@@ -12,7 +12,7 @@ use Rattle.cause_laws.proofs.VoteRows.{vote-full}
 use Rattle.cause_laws.proofs.VoteStories.{Counted, counted-later, is_counted_in, is_done, is_down, is_unopened, opened-other, voted-more}
 use Rattle.grid_laws.proofs.Causes.{AllDue}
 use Rattle.grid_laws.proofs.Snapshots.{OfStory}
-use Rattle.grid_model.specs.Claims.{has_got, is_vote_of, passes}
+use Rattle.grid_model.specs.Excuses.{has_got, is_vote_of, passes}
 use Rattle.grid_model.specs.Documents.{DocumentData, IsOne, number_order, script_numbers}
 use Rattle.grid_model.specs.Facts.{AllFit}
 use Rattle.grid_model.specs.Histories.{after, sent, sent_at}

@@ -13,9 +13,9 @@ use Rattle.grid_model.specs.declared.messages.Envelope.{Envelope}
 use Rattle.grid_model.specs.declared.messages.Message.{Message}
 use Rattle.grid_model.specs.Documents.{DocumentData}
 use Rattle.grid_model.specs.Histories.{after, sent, sent_at}
-use Rattle.grid_model.specs.Nodes.{node, script_of}
+use Rattle.grid_model.specs.Nodes.{node, script_of, is_home}
 use Rattle.grid_model.specs.Stories.{phase, is_open}
-use Rattle.grid_model.specs.Claims.{Excused, ExcusedOf, home_is_down, reads, collects, WaitsForVote, WaitsForRead, GotAt, passes, has_sent, has_stopped, is_held_at, began_down, is_request_of, is_reply_of, is_prepare_of, is_vote_of}
+use Rattle.grid_model.specs.Excuses.{Excused, ExcusedOf, home_is_down, reads, collects, WaitsForVote, WaitsForRead, GotAt, passes, has_sent, has_stopped, is_held_at, began_down, is_request_of, is_reply_of, is_prepare_of, is_vote_of}
 use Rattle.grid_model.proofs.TransferActs.{asks, votes}
 use Rattle.grid_model.proofs.RunsThatStop.{presumed_abort}
 use Rattle.grid_model.proofs.RunsWithReads.{ceiling_after_crash, ceiling_after_crash_acts, held_read, held_read_front}
@@ -99,11 +99,11 @@ each-excused d h each s t here = script-each (IsExcused d (after [] h)) d.script
 
 -- what is owed for a read request of operation j of t that n got
 abbrev owed_read : DocumentData → List Act → TxId → ℕ → NodeId → List Act → Bool
-owed_read d past t j n later = has_sent (λ x y said. x == n && is_reply_of t j said) later || (has_stopped n later || is_held_at (node d past n) t j)
+owed_read d past t j n later = has_sent (λ x y said. x == n && (is_home d t y && is_reply_of t j said)) later || (has_stopped n later || is_held_at (node d past n) t j)
 
 -- what is owed for a Prepare of t that its part n got
-abbrev owed_vote : TxId → NodeId → List Act → Bool
-owed_vote t n later = began_down n later || has_sent (λ x y said. x == n && is_vote_of t said) later
+abbrev owed_vote : DocumentData → TxId → NodeId → List Act → Bool
+owed_vote d t n later = began_down n later || has_sent (λ x y said. x == n && (is_home d t y && is_vote_of t said)) later
 
 -- of two that write one key, the first waits for the vote of n2, which was sent and not got
 abbrev conflict : List Act
@@ -115,7 +115,7 @@ conflict-waits = record {
   is_part = refl;
   asked = refl;
   quiet = refl;
-  each = each-got (λ x y said. is_prepare_of 1 said) (owed_vote 1) conflict refl 2;
+  each = each-got (λ x y said. is_prepare_of 1 said) (owed_vote write_conflict 1) conflict refl 2;
 }
 
 -- and the second is aborted
@@ -139,7 +139,7 @@ crashed-waits = record {
   is_part = refl;
   asked = refl;
   quiet = refl;
-  each = each-got (λ x y said. is_prepare_of 3 said) (owed_vote 3) crashed refl 2;
+  each = each-got (λ x y said. is_prepare_of 3 said) (owed_vote ceiling_after_crash 3) crashed refl 2;
 }
 
 -- and the first is closed

@@ -4,8 +4,9 @@ ghost use Rattle.std.specs.Prelude.{List};
 ghost use Rattle.grid_model.specs.declared.acts.Act.{Act};
 ghost use Rattle.grid_model.specs.Documents.{DocumentData, IsOne};
 ghost use Rattle.grid_model.specs.Runs.{IsRun};
-ghost use Rattle.grid_model.specs.Claims.{Accounted, Caused, Excused, Genuine};
-ghost use Rattle.cause_laws.specs.Refusals.{RefusedWhereAsked};
+ghost use Rattle.grid_model.specs.Claims.{Caused, Genuine};
+ghost use Rattle.grid_model.specs.Excuses.{Accounted, Excused};
+ghost use Rattle.grid_model.specs.Claims.{RefusedWhereAsked};
 
 /// Only the home of a transaction and the holders of its keys send and get its messages.
 pub fn law_genuine()

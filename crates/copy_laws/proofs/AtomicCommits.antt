@@ -14,7 +14,7 @@ use Rattle.grid_model.specs.Facts.{IsDecided, is_given_up}
 use Rattle.grid_laws.proofs.EndsMeant.{commit-decided}
 use Rattle.grid_laws.proofs.DecidedNotGivenUp.{decided-commits, given-up-undecided}
 use Rattle.grid_laws.proofs.DecisionsOnce.{decided-same}
-use Rattle.copy_laws.specs.Atomic.{AtomicOf, IsFirm}
+use Rattle.grid_model.specs.Claims.{AtomicOf, IsFirm}
 use Rattle.copy_laws.proofs.Footing.{Rests}
 use Rattle.copy_laws.proofs.OrderMembers.{decided-order}
 use Rattle.copy_laws.proofs.AllTaken.{decided-member}

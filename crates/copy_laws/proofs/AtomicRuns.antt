@@ -11,7 +11,7 @@ use Rattle.grid_model.proofs.TransferActs.{asks, decides, votes}
 use Rattle.grid_model.proofs.RunsThatCommit.{read_then_write, read_then_write_acts}
 use Rattle.grid_model.proofs.RunsWithConflicts.{write_conflict, write_conflict_acts}
 use Rattle.grid_laws.proofs.WorkedDocuments.{read_then_write-worked}
-use Rattle.copy_laws.specs.Atomic.{Atomic, IsFirm}
+use Rattle.grid_model.specs.Claims.{Atomic, IsFirm}
 use Rattle.copy_laws.proofs.OneCopies.{atomic, one-copy}
 
 -- ---- a run that commits

@@ -11,7 +11,7 @@ use Rattle.grid_laws.proofs.RunsDue.{due-run}
 use Rattle.grid_laws.proofs.FinishedSay.{finished-reader}
 use Rattle.copy_laws.proofs.Footing.{Rests}
 use Rattle.copy_laws.proofs.CopyReads.{reader-shown, replies-copy, update-shown, versions-copy}
-use Rattle.copy_laws.specs.Atomic.{Atomic}
+use Rattle.grid_model.specs.Claims.{Atomic}
 use Rattle.copy_laws.proofs.AtomicCommits.{atomic-past}
 use Rattle.copy_laws.proofs.KeptCommits.{finished-kept}
 

@@ -5,7 +5,7 @@ ghost use Rattle.grid_model.specs.Documents.{DocumentData, IsOne};
 ghost use Rattle.grid_model.specs.Runs.{IsRun};
 ghost use Rattle.grid_model.specs.Copies.{OneCopy};
 ghost use Rattle.grid_model.specs.Claims.{Kept};
-ghost use Rattle.copy_laws.specs.Atomic.{Atomic};
+ghost use Rattle.grid_model.specs.Claims.{Atomic};
 
 /// Each committed update and each finished read-only transaction was shown what one serial copy gives,
 /// and each node has the copy's versions up to its commit identifier.

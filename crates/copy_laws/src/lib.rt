@@ -4,7 +4,7 @@
 //! Each law is a public function without parameters and with an empty body, whose contract is the law:
 //! it speaks of every document and of every history of the rows and the free choices of the disks,
 //! stops and restarts included, with no fuse and no count of faults. What is claimed is defined in
-//! `grid_model/specs/Copies.antt` and `grid_model/specs/Claims.antt`, and in `specs/Atomic.antt`.
+//! `grid_model/specs/Copies.antt` and `grid_model/specs/Claims.antt`.
 #![tactic(auto)]
 
 mod copies;

@@ -16,7 +16,7 @@ use Rattle.grid_model.specs.Histories.{after, sent, sent_at}
 use Rattle.grid_model.specs.Views.{view}
 use Rattle.grid_model.specs.Journals.{is_locking, commit_id, prepared_of, floor, is_clear, all_fit}
 use Rattle.grid_model.specs.Nodes.{journal}
-use Rattle.grid_model.specs.Claims.{has_sent}
+use Rattle.grid_model.specs.Excuses.{has_sent}
 use Rattle.grid_model.specs.Copies.{snapshot}
 use Rattle.grid_model.specs.Facts.{has_prepared, has_decided, has_commit, has_served, is_given_up, is_over, are_apart}
 use Rattle.grid_model.proofs.Plays.{a}

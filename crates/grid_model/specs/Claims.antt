@@ -1,7 +1,6 @@
--- What is claimed of every lawful run beside one copy: its footprint, the causes of its aborts, what an
--- unfinished transaction waits for, and that acknowledged commits are kept.
-use Rattle.std.specs.Prelude.{◌≡◌, ◌⊎◌, ℕ, Bool, true, false, ◌&&◌, ◌||◌, ◌==◌, not, filter, map, reverse, IsTrue, List, [], ◌∷◌, ◌++◌, Option, Some, None, is_some, if◌then◌else◌}
-use Rattle.std.specs.List.{list_any}
+-- What is claimed of every lawful run beside one copy: its footprint, the causes of its aborts, and that
+-- commits are atomic and, where they were acknowledged, kept. What waits is in `Excuses`.
+use Rattle.std.specs.Prelude.{◌≡◌, Bool, false, ◌&&◌, ◌||◌, ◌==◌, filter, map, reverse, IsTrue, List, [], ◌∷◌, ◌++◌, Option, Some, None, if◌then◌else◌}
 use Rattle.score_base.specs.declared.ids.TxId.{TxId}
 use Rattle.score_base.specs.declared.ids.NodeId.{NodeId}
 use Rattle.score_base.specs.declared.ids.Ident.{Ident}
@@ -9,22 +8,23 @@ use Rattle.score_base.specs.declared.ids.Value.{Value}
 use Rattle.score_base.specs.declared.keys.Key.{Key}
 use Rattle.score_base.specs.declared.causes.Cause.{Cause}
 use Rattle.score_base.specs.declared.causes.Cause.TheVariants as cause
+use Rattle.score_base.specs.declared.causes.Outcome.{Outcome}
+use Rattle.score_base.specs.declared.causes.Outcome.TheVariants as outcome
 use Rattle.score_base.specs.declared.records.Record.{Record}
 use Rattle.script_lang.specs.Scripts.{ScriptData}
 use Rattle.script_lang.specs.Reads.{is_update, written_keys}
 use Rattle.placement.specs.Places.{is_among, holds}
 use Rattle.grid_model.specs.declared.acts.Act.{Act}
 use Rattle.grid_model.specs.declared.acts.Act.TheVariants as act
-use Rattle.grid_model.specs.declared.messages.Envelope.{Envelope}
 use Rattle.grid_model.specs.declared.messages.Message.{Message}
 use Rattle.grid_model.specs.declared.messages.Message.TheVariants as message
 use Rattle.grid_model.specs.declared.messages.Prepare.{Prepare}
 use Rattle.grid_model.specs.Documents.{DocumentData}
-use Rattle.grid_model.specs.Histories.{after, sent, sent_at}
-use Rattle.grid_model.specs.Journals.{Prepared, is_clear, holder, newer, prepared_of}
-use Rattle.grid_model.specs.Facts.{has_decided}
+use Rattle.grid_model.specs.Histories.{after}
+use Rattle.grid_model.specs.Journals.{ended, Prepared, holder, newer, prepared_of}
+use Rattle.grid_model.specs.Facts.{has_decided, is_given_up}
 use Rattle.grid_model.specs.Nodes.{Node, node, journal, got, said_by, is_home, script_of, parts_in}
-use Rattle.grid_model.specs.Stories.{Phase, phase, is_open, Reading, Collecting, Answered, Aborted, Lost, Decided, Closed, story}
+use Rattle.grid_model.specs.Stories.{phase, is_open}
 use Rattle.grid_model.specs.Serials.{Map, map_behind}
 use Rattle.grid_model.specs.Fitness.{tx_in}
 use Rattle.grid_model.specs.Acts.{EachAct, EachBehind, has_refused}
@@ -89,108 +89,45 @@ IsCausedAct d a past = Unit {0}
 abbrev pub Caused : DocumentData → List Act → Type 0
 Caused d h = EachBehind (IsCausedAct d) (after [] h)
 
--- ---- what an unfinished transaction waits for
+-- the message that was got last is a Prepare of t, and it came to n
+pub record IsAskedFor (past : List Act) (n : NodeId) (t : TxId) : Type 0 where
+  pub from : NodeId
+  pub prepare : Prepare
+  pub got : got past ≡ Some (record { from = from; to = n; message = message.Prepare prepare })
+  pub of : prepare.t ≡ t
 
--- a read request of operation j of t
-abbrev pub is_request_of : TxId → ℕ → Message → Bool
-is_request_of t j (message.ReadReq q) = q.t == t && q.op == j
-is_request_of t j said = false
+-- an act that refuses refuses what its own node was asked for
+abbrev pub IsAskedAct : Act → List Act → Type 0
+IsAskedAct (act.Refused n t why) past = IsAskedFor past n t
+IsAskedAct a past = Unit {0}
 
--- a read reply for operation j of t
-abbrev pub is_reply_of : TxId → ℕ → Message → Bool
-is_reply_of t j (message.ReadRep q) = q.t == t && q.op == j
-is_reply_of t j said = false
+-- RefusedWhereAsked: each refusal is of the Prepare that its own node got last
+abbrev pub RefusedWhereAsked : List Act → Type 0
+RefusedWhereAsked h = EachBehind IsAskedAct (after [] h)
 
--- a Prepare of t
-abbrev pub is_prepare_of : TxId → Message → Bool
-is_prepare_of t (message.Prepare q) = q.t == t
-is_prepare_of t said = false
+-- ---- atomic commits
 
--- a vote on t
-abbrev pub is_vote_of : TxId → Message → Bool
-is_vote_of t (message.Vote u b) = u == t
-is_vote_of t said = false
+-- the pair of a final identifier and a transaction is a member of the serial order
+pub record IsMember (d : DocumentData) (past : List Act) (f : Ident) (t : TxId) : Type 0 where
+  pub later : List (Ident × TxId)
+  pub before : List (Ident × TxId)
+  pub there : order d past ≡ later ++ (f, t) ∷ before
 
--- a message that passes the test was sent, by its sender and receiver
-abbrev pub has_sent : (NodeId → NodeId → Message → Bool) → List Act → Bool
-has_sent p [] = false
-has_sent p (act.Sent m x y said ∷ past) = p x y said || has_sent p past
-has_sent p (a ∷ past) = has_sent p past
+-- a transaction that is committed with f was neither aborted nor lost, and each node that ended it ended
+-- it with commit and f
+pub record IsFirm (d : DocumentData) (past : List Act) (f : Ident) (t : TxId) : Type 0 where
+  pub kept : is_given_up t past ≡ false
+  pub ends : (n : NodeId) (o : Outcome) → ended t (journal d past n) ≡ Some o → o ≡ outcome.Commit f
 
--- there is an envelope, and it passes the test
-abbrev pub passes : (NodeId → NodeId → Message → Bool) → Option Envelope → Bool
-passes p None = false
-passes p (Some e) = p e.from e.to e.message
+-- Atomic: each member of the serial order is firm, and whatever a node ended with commit is a member, with
+-- that final identifier
+pub record AtomicOf (d : DocumentData) (past : List Act) : Type 0 where
+  pub firm : (f : Ident) (t : TxId) → IsMember d past f t → IsFirm d past f t
+  pub member : (n : NodeId) (f : Ident) (t : TxId) → ended t (journal d past n) ≡ Some (outcome.Commit f) → IsMember d past f t
 
--- a message that passes the test was got
-abbrev pub has_got : (NodeId → NodeId → Message → Bool) → List Act → Bool
-has_got p [] = false
-has_got p (act.Got m ∷ past) = passes p (sent_at m (sent past)) || has_got p past
-has_got p (a ∷ past) = has_got p past
-
--- n went down
-abbrev pub has_stopped : NodeId → List Act → Bool
-has_stopped n [] = false
-has_stopped n (act.Down m h ∷ past) = (m == n) || has_stopped n past
-has_stopped n (a ∷ past) = has_stopped n past
-
--- the first of these acts, in the order of time, is that n stopped in a record
-abbrev pub began_down : NodeId → List Act → Bool
-began_down n [] = false
-began_down n (act.Down m (Some h) ∷ []) = m == n
-began_down n (a ∷ []) = false
-began_down n (a ∷ (b ∷ past)) = began_down n (b ∷ past)
-
--- n holds a read of t for operation j, and a pending proposal at n is at most its identifier
-abbrev pub is_held_at : Node → TxId → ℕ → Bool
-is_held_at x t j = list_any (λ h. h.t == t && (h.op == j && not (is_clear h.sid x.journal))) x.held
-
--- a message that passes the test was got at n, and these acts came behind
-pub record GotAt (p : NodeId → NodeId → Message → Bool) (past : List Act) (n : NodeId) (later : List Act) : Type 0 where
-  pub m : ℕ
-  pub before : List Act
-  pub there : past ≡ later ++ act.Got m ∷ before
-  pub said : IsTrue (passes (λ x y said. y == n && p x y said) (sent_at m (sent before)))
-
--- the read of operation j: a request was sent, no reply was got, and each request that was got was
--- answered, or its server went down, or it is held there
-pub record WaitsForRead (d : DocumentData) (past : List Act) (t : TxId) (j : ℕ) : Type 0 where
-  pub asked : IsTrue (has_sent (λ x y said. is_request_of t j said) past)
-  pub quiet : has_got (λ x y said. is_reply_of t j said) past ≡ false
-  pub each : (n : NodeId) (later : List Act) → GotAt (λ x y said. is_request_of t j said) past n later → IsTrue (has_sent (λ x y said. x == n && is_reply_of t j said) later || (has_stopped n later || is_held_at (node d past n) t j))
-
--- the vote of a part: a Prepare was sent to it, no vote of it was got, and each Prepare that it got was
--- answered, or it went down in that step
-pub record WaitsForVote (d : DocumentData) (past : List Act) (t : TxId) : Type 0 where
-  pub part : NodeId
-  pub is_part : IsTrue (is_among part (parts_in d (script_of t d.scripts)))
-  pub asked : IsTrue (has_sent (λ x y said. y == part && is_prepare_of t said) past)
-  pub quiet : has_got (λ x y said. x == part && is_vote_of t said) past ≡ false
-  pub each : (later : List Act) → GotAt (λ x y said. is_prepare_of t said) past part later → IsTrue (began_down part later || has_sent (λ x y said. x == part && is_vote_of t said) later)
-
--- an open transaction is excused: its home is down, or it waits for a read or for a vote
-pub data ExcusedOf (d : DocumentData) (past : List Act) (s : ScriptData) : Type 0 where
-  home_is_down : (node d past s.home).up ≡ false → ExcusedOf d past s
-  reads : (j : ℕ) → phase d past s ≡ Reading j → WaitsForRead d past s.number j → ExcusedOf d past s
-  collects : phase d past s ≡ Collecting → WaitsForVote d past s.number → ExcusedOf d past s
-
--- Excused: each transaction of the document that is reading or collecting at the end is excused
-abbrev pub Excused : DocumentData → List Act → Type 0
-Excused d h = (s : ScriptData) (t : TxId) → script_of t d.scripts ≡ Some s → IsTrue (is_open (phase d (after [] h) s)) → ExcusedOf d (after [] h) s
-
--- answered, aborted, lost, decided or closed
-abbrev pub is_settled : Phase → Bool
-is_settled Answered = true
-is_settled Aborted = true
-is_settled Lost = true
-is_settled (Decided y) = true
-is_settled (Closed f) = true
-is_settled p = false
-
--- Accounted: each transaction of the document that was begun is answered, aborted, lost, decided or
--- closed at the end, or it is excused
-abbrev pub Accounted : DocumentData → List Act → Type 0
-Accounted d h = (s : ScriptData) (t : TxId) → script_of t d.scripts ≡ Some s → IsTrue (is_some (story d (after [] h) s.number)) → IsTrue (is_settled (phase d (after [] h) s)) ⊎ ExcusedOf d (after [] h) s
+-- atomic, of acts in the order of time
+abbrev pub Atomic : DocumentData → List Act → Type 0
+Atomic d h = AtomicOf d (after [] h)
 
 -- ---- acknowledged commits
 

@@ -86,7 +86,7 @@ Says d past n (message.Ack t) = IsTrue (has_commit t (journal d past n))
 Says d past n (message.ReadRep q) = IsTrue (has_served n q.t q.op q.sid q.value past)
 Says d past n said = Unit {0}
 
--- each message that was sent is backed
+-- each vote, commit, acknowledgement and read reply that was sent is backed
 abbrev pub MessagesBacked : DocumentData → List Act → Type 0
 MessagesBacked d past = EachSent (Says d past) past
 

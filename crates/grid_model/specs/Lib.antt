@@ -16,4 +16,5 @@ pub mod Acts
 pub mod Copies
 pub mod Facts
 pub mod Claims
+pub mod Excuses
 pub mod Waits

@@ -4,9 +4,10 @@ use Rattle.grid_model.specs.declared.acts.Act.{Act}
 use Rattle.grid_model.specs.Documents.{DocumentData}
 use Rattle.grid_model.specs.Runs.{Lawful}
 use Rattle.grid_model.specs.Copies.{OneCopy}
-use Rattle.grid_model.specs.Claims.{Accounted, Caused, Genuine, Kept}
-use Rattle.copy_laws.specs.Atomic.{Atomic}
-use Rattle.cause_laws.specs.Refusals.{RefusedWhereAsked}
+use Rattle.grid_model.specs.Claims.{Caused, Genuine, Kept}
+use Rattle.grid_model.specs.Excuses.{Accounted}
+use Rattle.grid_model.specs.Claims.{Atomic}
+use Rattle.grid_model.specs.Claims.{RefusedWhereAsked}
 
 -- The headline of these acts: they are a lawful run of the document in which no disk failed; committed
 -- updates, by final identifier and then by number, and finished read-only transactions, at their snapshot,
