@@ -7,9 +7,10 @@ use Rattle.grid_model.specs.declared.acts.Act.{Act}
 use Rattle.grid_model.specs.declared.stories.Story.{Story}
 use Rattle.grid_model.specs.Documents.{DocumentData}
 use Rattle.grid_model.specs.Histories.{after}
-use Rattle.grid_model.specs.Journals.{Decision, decision, is_closed}
+use Rattle.journal_words.specs.Journals.{Decision, decision, is_closed}
 use Rattle.grid_model.specs.Nodes.{node}
-use Rattle.grid_model.specs.Stories.{Phase, Unbegun, Lost, Closed, Decided, Aborted, Answered, Reading, Collecting, decided_phase, is_open, open_phase, phase, phase_by, story, waiting}
+use Rattle.grid_model.specs.Stories.{Phase, Unbegun, Lost, Closed, Decided, Aborted, Answered, Reading, Collecting, decided_phase, is_open, open_phase, phase, phase_by, story}
+use Rattle.script_runs.specs.Waits.{waiting}
 use Rattle.grid_model.specs.Excuses.{Accounted, Excused, is_settled}
 
 -- what was begun is settled or open

@@ -4,15 +4,17 @@ use Rattle.cause_laws.proofs.KeyHolders.{preferred-some}
 use Rattle.grid_laws.proofs.Answered.{all_calm}
 use Rattle.grid_laws.proofs.Frames.{same-number}
 use Rattle.grid_laws.proofs.Snapshots.{OfStory}
-use Rattle.grid_model.proofs.Walks.{waiting-read}
-use Rattle.grid_model.specs.Advances.{advance, advance_end, date_by, op_at, own_reads, owns, prepares, request, request_of, to_node, unread}
+use Rattle.script_runs.proofs.Walks.{waiting-read}
+use Rattle.grid_model.specs.Advances.{advance, advance_end, date_by, owns, prepares, request, request_of, to_node}
+use Rattle.script_runs.specs.Walks.{op_at, own_reads, unread}
 use Rattle.grid_model.specs.Excuses.{has_sent, is_prepare_of, is_request_of}
 use Rattle.grid_model.specs.Documents.{DocumentData, IsOne}
 use Rattle.grid_model.specs.Histories.{after}
-use Rattle.grid_model.specs.Journals.{later}
+use Rattle.journal_words.specs.Journals.{later}
 use Rattle.grid_model.specs.Nodes.{parts_of, script_of}
 use Rattle.grid_model.specs.Schedules.{kept, numbered}
-use Rattle.grid_model.specs.Stories.{story, told, waiting}
+use Rattle.grid_model.specs.Stories.{story, told}
+use Rattle.script_runs.specs.Waits.{waiting}
 use Rattle.grid_model.specs.Views.{open_of}
 use Rattle.grid_model.specs.declared.acts.Act.TheVariants as act
 use Rattle.grid_model.specs.declared.acts.Act.{Act}

@@ -13,7 +13,7 @@ use Rattle.grid_model.specs.Advances.{advance}
 use Rattle.grid_model.specs.Documents.{DocumentData, IsOne}
 use Rattle.grid_model.specs.Fitness.{is_fit_at}
 use Rattle.grid_model.specs.Histories.{after, sent, sent_at}
-use Rattle.grid_model.specs.Journals.{commit_id}
+use Rattle.journal_words.specs.Journals.{commit_id}
 use Rattle.grid_model.specs.Nodes.{journal, script_of}
 use Rattle.grid_model.specs.Rows.{answer, begin_outs, reply_row}
 use Rattle.grid_model.specs.Runs.{IsRun}

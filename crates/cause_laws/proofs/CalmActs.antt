@@ -2,16 +2,17 @@
 use Rattle.cause_laws.proofs.Events.{IsAgain, IsEvent, again, asks, begins, crashes, delivers, fails, idle, is_idle, opens, retries}
 use Rattle.grid_laws.proofs.Answered.{all_calm, is_calm}
 use Rattle.grid_laws.proofs.AnsweredRows.{is_plain, kept-plain}
-use Rattle.grid_laws.proofs.CalmOuts.{calm-acts, calm-answer, calm-asks, calm-retry, calm_outs, is_calm_out, is_reply}
-use Rattle.grid_laws.proofs.CalmOuts.{calm-losses}
+use Rattle.grid_laws.proofs.CalmOuts.{calm-acts, calm-answer, calm-asks, calm-retry, calm_outs, is_calm_out, is_reply, calm-losses}
 use Rattle.grid_laws.proofs.Snapshots.{OfStory, asked-of, got-of, if-of}
-use Rattle.grid_model.specs.Advances.{advance, advance_end, op_at, own_reads, parts_now, prepares, request_of, to_node, unread}
+use Rattle.grid_model.specs.Advances.{advance, advance_end, parts_now, prepares, request_of, to_node}
+use Rattle.script_runs.specs.Walks.{op_at, own_reads, unread}
 use Rattle.grid_model.specs.Documents.{DocumentData, number_order, script_numbers}
 use Rattle.grid_model.specs.Histories.{after, sent, sent_at}
 use Rattle.grid_model.specs.Nodes.{is_home, node, script_of}
 use Rattle.grid_model.specs.Rows.{answer, begin_outs}
 use Rattle.grid_model.specs.Schedules.{kept, next_number, numbered}
-use Rattle.grid_model.specs.Stories.{story, waiting}
+use Rattle.grid_model.specs.Stories.{story}
+use Rattle.script_runs.specs.Waits.{waiting}
 use Rattle.grid_model.specs.Views.{Open, stage, view}
 use Rattle.grid_model.specs.declared.acts.Act.TheVariants as act
 use Rattle.grid_model.specs.declared.acts.Act.{Act}

@@ -16,13 +16,13 @@ use Rattle.grid_model.specs.declared.messages.Message.TheVariants as message
 use Rattle.grid_model.specs.Documents.{DocumentData}
 use Rattle.grid_model.specs.Histories.{after}
 use Rattle.grid_model.specs.Acts.{EachBehind}
-use Rattle.grid_model.specs.Claims.{Caused, IsCausedAct}
-use Rattle.grid_model.specs.Claims.{RefusedWhereAsked}
+use Rattle.grid_model.specs.Claims.{Caused, IsCausedAct, RefusedWhereAsked}
 use Rattle.cause_laws.proofs.RefusalsAsked.{refused-asked}
 use Rattle.grid_laws.proofs.WorkedDocuments.{write_conflict-worked}
 use Rattle.grid_model.specs.declared.messages.Envelope.{Envelope}
 use Rattle.score_base.specs.declared.ids.NodeId.{NodeId}
-use Rattle.grid_model.proofs.Plays.{a, prepare}
+use Rattle.journal_words.proofs.TwoNodes.{a}
+use Rattle.grid_model.proofs.Plays.{prepare}
 use Rattle.grid_model.proofs.RunsWithReads.{first_read, first_read_acts}
 use Rattle.grid_model.proofs.RunsThatStop.{presumed_abort, presumed_abort_acts}
 use Rattle.grid_model.proofs.RunsWithConflicts.{write_conflict, write_conflict_acts, stale_read_refused, stale_read_refused_acts}

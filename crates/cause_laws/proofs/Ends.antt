@@ -5,11 +5,11 @@ use Rattle.grid_laws.proofs.DueAnswers.{home-is}
 use Rattle.grid_laws.proofs.Frames.{in-append}
 use Rattle.grid_laws.proofs.Holds.{got-hold, sent-hold}
 use Rattle.grid_laws.proofs.PreparesSay.{PrepareSays, first-prepared, prepare-got, prepared-say}
-use Rattle.grid_model.proofs.Plays.{a, b}
+use Rattle.journal_words.proofs.TwoNodes.{a, b}
 use Rattle.grid_model.specs.Documents.{DocumentData, IsOne}
 use Rattle.grid_model.specs.Facts.{parts_at}
 use Rattle.grid_model.specs.Histories.{sent, sent_at}
-use Rattle.grid_model.specs.Journals.{Prepared, home_in, home_of, prepared_of}
+use Rattle.journal_words.specs.Journals.{Prepared, home_in, home_of, prepared_of}
 use Rattle.grid_model.specs.Nodes.{got, held_by, is_home, journal, parts_in, parts_of, with_held}
 use Rattle.grid_model.specs.Stories.{asked}
 use Rattle.grid_model.specs.declared.acts.Act.TheVariants as act

@@ -19,7 +19,8 @@ use Rattle.grid_model.specs.Histories.{after}
 use Rattle.grid_model.specs.Nodes.{node}
 use Rattle.grid_model.specs.Stories.{Phase, phase, Reading, Collecting}
 use Rattle.grid_model.specs.Excuses.{Accounted, Excused, ExcusedOf, home_is_down, reads, collects, WaitsForVote, WaitsForRead, has_got, is_vote_of, is_reply_of}
-use Rattle.grid_model.proofs.Plays.{a, request, reply}
+use Rattle.journal_words.proofs.TwoNodes.{a}
+use Rattle.grid_model.proofs.Plays.{request, reply}
 use Rattle.grid_model.proofs.RunsWithReads.{first_read, first_read_acts}
 use Rattle.grid_model.proofs.RunsWithConflicts.{write_conflict, write_conflict_acts}
 

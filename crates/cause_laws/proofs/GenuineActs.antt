@@ -5,7 +5,7 @@ use Rattle.cause_laws.proofs.OutsToEnds.{is_told_well, is_well_act}
 use Rattle.grid_laws.proofs.EachActs.{each-timed}
 use Rattle.grid_laws.proofs.Causes.{AllDue, IsDue}
 use Rattle.grid_laws.proofs.RunsDue.{due-run}
-use Rattle.grid_model.proofs.Plays.{a, b}
+use Rattle.journal_words.proofs.TwoNodes.{a, b}
 use Rattle.grid_model.specs.Acts.{EachAct}
 use Rattle.grid_model.specs.Claims.{Genuine, IsGenuineAct, is_end}
 use Rattle.grid_model.specs.Documents.{DocumentData, IsOne}

@@ -12,17 +12,18 @@ use Rattle.grid_laws.proofs.NodesNumbered.{script-all}
 use Rattle.grid_laws.proofs.Frames.{same-number}
 use Rattle.grid_laws.proofs.Snapshots.{OfStory}
 use Rattle.grid_laws.proofs.Stages.{among-get}
-use Rattle.grid_model.proofs.Decisions.{decided-here}
-use Rattle.grid_model.specs.Advances.{op_at}
+use Rattle.journal_words.proofs.Decisions.{decided-here}
+use Rattle.script_runs.specs.Walks.{op_at}
 use Rattle.grid_model.specs.Excuses.{is_vote_of}
 use Rattle.grid_model.specs.Documents.{DocumentData, IsOne, is_body}
 use Rattle.grid_model.specs.Fitness.{is_fit}
 use Rattle.grid_model.specs.Histories.{after, sent, sent_at}
-use Rattle.grid_model.specs.Journals.{Decision, decision}
+use Rattle.journal_words.specs.Journals.{Decision, decision}
 use Rattle.grid_model.specs.Nodes.{Writes, changed, got, is_home, journal, node, parts_in, parts_of, script_of, where_at}
 use Rattle.grid_model.specs.Rows.{answer, have_voted}
 use Rattle.grid_model.specs.Schedules.{kept, next_number, numbered}
-use Rattle.grid_model.specs.Stories.{begun, if_told, story, told, waiting, without_answers}
+use Rattle.grid_model.specs.Stories.{begun, if_told, story, told, without_answers}
+use Rattle.script_runs.specs.Waits.{waiting}
 use Rattle.grid_model.specs.Views.{view}
 use Rattle.grid_model.specs.declared.acts.Act.TheVariants as act
 use Rattle.grid_model.specs.declared.acts.Act.{Act}

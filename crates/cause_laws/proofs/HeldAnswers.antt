@@ -6,7 +6,7 @@ use Rattle.grid_laws.proofs.Frames.{same-number, up-stays}
 use Rattle.grid_model.specs.Advances.{to_node}
 use Rattle.grid_model.specs.Documents.{DocumentData}
 use Rattle.grid_model.specs.Histories.{after, sent, sent_at}
-use Rattle.grid_model.specs.Journals.{ended, home_of, is_clear, is_commit, pending}
+use Rattle.journal_words.specs.Journals.{ended, home_of, is_clear, is_commit, pending}
 use Rattle.grid_model.specs.Nodes.{Holds, Node, Raises, Writes, changed, got, is_request, journal, node, said_by, where_at}
 use Rattle.grid_model.specs.Rows.{abort_row, answered, commit_row, release, served, tell_outs}
 use Rattle.grid_model.specs.Schedules.{broken, kept, numbered, row}
@@ -20,7 +20,7 @@ use Rattle.grid_model.specs.declared.events.Out.{Out}
 use Rattle.grid_model.specs.declared.messages.Message.TheVariants as message
 use Rattle.grid_model.specs.declared.messages.ReadReq.{ReadReq}
 use Rattle.grid_model.specs.declared.stories.HeldRead.{HeldRead}
-use Rattle.grid_model.specs.declared.versions.Version.{Version}
+use Rattle.journal_words.specs.declared.versions.Version.{Version}
 use Rattle.score_base.specs.declared.causes.Outcome.TheVariants as outcome
 use Rattle.score_base.specs.declared.causes.Outcome.{Outcome}
 use Rattle.score_base.specs.declared.ids.Ident.{Ident}

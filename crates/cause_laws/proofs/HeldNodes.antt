@@ -4,7 +4,7 @@ use Rattle.grid_laws.proofs.Frames.{held-stays, is_still}
 use Rattle.grid_model.specs.Excuses.{is_reply_of}
 use Rattle.grid_model.specs.Documents.{DocumentData}
 use Rattle.grid_model.specs.Histories.{after}
-use Rattle.grid_model.specs.Journals.{is_clear, later}
+use Rattle.journal_words.specs.Journals.{is_clear, later}
 use Rattle.grid_model.specs.Nodes.{Change, Frees, Holds, Node, Nothing, Raises, Starts, Stays, Stops, Writes, change, changed, doubt_of, got, is_home, node, parts_in, prepared_by, prepared_from, script_of, where_at}
 use Rattle.grid_model.specs.declared.acts.Act.TheVariants as act
 use Rattle.grid_model.specs.declared.acts.Act.{Act}

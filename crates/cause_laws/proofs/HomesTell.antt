@@ -7,12 +7,13 @@ use Rattle.grid_laws.proofs.DueAnswers.{home-is}
 use Rattle.grid_laws.proofs.Frames.{same-number}
 use Rattle.grid_laws.proofs.NodesFitActs.{decision-home, nodes-fit, undone-decision}
 use Rattle.grid_laws.proofs.Stages.{among-filter, opens-collects, stage-commits}
-use Rattle.grid_model.specs.Advances.{op_at, parts_now, to_node}
+use Rattle.script_runs.specs.Walks.{op_at}
+use Rattle.grid_model.specs.Advances.{parts_now, to_node}
 use Rattle.grid_model.specs.Claims.{is_end}
 use Rattle.grid_model.specs.Documents.{DocumentData}
 use Rattle.grid_model.specs.Facts.{parts_at}
 use Rattle.grid_model.specs.Fitness.{is_fit_at, tx_in}
-use Rattle.grid_model.specs.Journals.{Decision, home_of, pending}
+use Rattle.journal_words.specs.Journals.{Decision, home_of, pending}
 use Rattle.grid_model.specs.Nodes.{is_home, journal, node, parts_in, parts_of}
 use Rattle.grid_model.specs.Rows.{answer, ask_row, ballot_row, decides, full_row, greatest_vote, have_voted, not_among, not_voted, retry_row, row_of, tells, vote_row}
 use Rattle.grid_model.specs.Stories.{has_voted}

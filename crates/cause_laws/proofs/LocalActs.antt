@@ -5,7 +5,7 @@ use Rattle.grid_model.specs.Advances.{to_node}
 use Rattle.grid_model.specs.Documents.{DocumentData}
 use Rattle.grid_model.specs.Fitness.{is_fit_at, tx_in}
 use Rattle.grid_model.specs.Histories.{after}
-use Rattle.grid_model.specs.Journals.{commit_id, ended, floor, home_of, is_clear, is_commit, pending}
+use Rattle.journal_words.specs.Journals.{commit_id, ended, floor, home_of, is_clear, is_commit, pending}
 use Rattle.grid_model.specs.Nodes.{Change, Holds, Node, Raises, Stops, Writes, changed, doubt_of, freed, got, held_by, is_request, node, said_by, where_at}
 use Rattle.grid_model.specs.Rows.{abort_row, answer, answered, ceiling_of, ceilings, commit_row, dated, freed_by, raises, release, row_of, served, version_for}
 use Rattle.grid_model.specs.Schedules.{broken, head_at, kept, numbered, stopped}
@@ -19,7 +19,7 @@ use Rattle.grid_model.specs.declared.messages.Message.TheVariants as message
 use Rattle.grid_model.specs.declared.messages.Message.{Message}
 use Rattle.grid_model.specs.declared.messages.ReadReq.{ReadReq}
 use Rattle.grid_model.specs.declared.stories.HeldRead.{HeldRead}
-use Rattle.grid_model.specs.declared.versions.Version.{Version}
+use Rattle.journal_words.specs.declared.versions.Version.{Version}
 use Rattle.placement.specs.Clusters.{ClusterData}
 use Rattle.score_base.specs.declared.causes.Outcome.TheVariants as outcome
 use Rattle.score_base.specs.declared.ids.Ident.{Ident}

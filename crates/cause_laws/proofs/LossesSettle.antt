@@ -6,7 +6,7 @@ use Rattle.grid_laws.proofs.Frames.{same-number}
 use Rattle.grid_laws.proofs.Snapshots.{OfStory, of-more}
 use Rattle.grid_model.specs.Documents.{DocumentData, number_order, script_numbers}
 use Rattle.grid_model.specs.Histories.{after}
-use Rattle.grid_model.specs.Journals.{decision, later}
+use Rattle.journal_words.specs.Journals.{decision, later}
 use Rattle.grid_model.specs.Nodes.{journal, script_of}
 use Rattle.grid_model.specs.Schedules.{losses, lost_at, opened_row}
 use Rattle.grid_model.specs.Stories.{begun, if_told, is_open, phase, story, told}

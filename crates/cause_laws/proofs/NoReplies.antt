@@ -11,7 +11,7 @@ use Rattle.grid_laws.proofs.AnsweredRuns.{numbered-taken}
 use Rattle.grid_laws.proofs.Frames.{same-number}
 use Rattle.grid_laws.proofs.Snapshots.{OfStory}
 use Rattle.grid_laws.proofs.Stages.{story-quiet}
-use Rattle.grid_model.proofs.Walks.{taken-new, waiting-open}
+use Rattle.script_runs.proofs.Walks.{taken-new, waiting-open}
 use Rattle.grid_model.specs.Advances.{advance}
 use Rattle.grid_model.specs.Excuses.{has_got, is_reply_of, passes}
 use Rattle.grid_model.specs.Documents.{DocumentData, IsOne}
@@ -21,7 +21,8 @@ use Rattle.grid_model.specs.Nodes.{is_home_in, script_of}
 use Rattle.grid_model.specs.Rows.{answer, reply_row}
 use Rattle.grid_model.specs.Runs.{IsRun}
 use Rattle.grid_model.specs.Schedules.{kept, next_number, numbered}
-use Rattle.grid_model.specs.Stories.{story, told, value_taken, waiting}
+use Rattle.grid_model.specs.Stories.{story, told}
+use Rattle.script_runs.specs.Waits.{value_taken, waiting}
 use Rattle.grid_model.specs.Views.{Open, Reads, View, open_of, open_stage, stage, view}
 use Rattle.grid_model.specs.declared.acts.Act.TheVariants as act
 use Rattle.grid_model.specs.declared.acts.Act.{Act}

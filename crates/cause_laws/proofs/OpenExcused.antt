@@ -13,10 +13,11 @@ use Rattle.grid_model.proofs.Undecided.{script-number}
 use Rattle.grid_model.specs.Excuses.{Excused, ExcusedOf, WaitsForRead, collects, has_sent, has_stopped, home_is_down, is_held_at, is_reply_of, is_request_of, reads}
 use Rattle.grid_model.specs.Documents.{DocumentData, IsOne}
 use Rattle.grid_model.specs.Histories.{after}
-use Rattle.grid_model.specs.Journals.{is_clear, later}
+use Rattle.journal_words.specs.Journals.{is_clear, later}
 use Rattle.grid_model.specs.Nodes.{is_home, journal, node, script_of}
 use Rattle.grid_model.specs.Runs.{IsRun}
-use Rattle.grid_model.specs.Stories.{is_open, open_phase, phase, waiting}
+use Rattle.grid_model.specs.Stories.{is_open, open_phase, phase}
+use Rattle.script_runs.specs.Waits.{waiting}
 use Rattle.grid_model.specs.declared.acts.Act.{Act}
 use Rattle.grid_model.specs.declared.stories.HeldRead.{HeldRead}
 use Rattle.grid_model.specs.declared.stories.Story.{Story}

@@ -10,11 +10,12 @@ use Rattle.grid_model.specs.Documents.{DocumentData, IsOne, number_order, script
 use Rattle.grid_model.specs.Facts.{AllFit, GotIsFit, IsFitAt}
 use Rattle.grid_model.specs.Fitness.{is_fit}
 use Rattle.grid_model.specs.Histories.{after, sent, sent_at}
-use Rattle.grid_model.specs.Journals.{Decision, decision, is_closed, undone}
+use Rattle.journal_words.specs.Journals.{Decision, decision, is_closed, undone}
 use Rattle.grid_model.specs.Nodes.{Node, journal, node, script_of}
 use Rattle.grid_model.specs.Rows.{answer}
 use Rattle.grid_model.specs.Schedules.{kept, next_number, numbered}
-use Rattle.grid_model.specs.Stories.{is_open, phase, phase_at, story, told, waiting}
+use Rattle.grid_model.specs.Stories.{is_open, phase, phase_at, story, told}
+use Rattle.script_runs.specs.Waits.{waiting}
 use Rattle.grid_model.specs.Views.{acks_at, open_at, open_of, open_stage, stage, stage_by, view}
 use Rattle.grid_model.specs.declared.acts.Act.TheVariants as act
 use Rattle.grid_model.specs.declared.acts.Act.{Act}

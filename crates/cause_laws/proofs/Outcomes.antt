@@ -8,7 +8,7 @@ use Rattle.cause_laws.proofs.OutsToEnds.{AreWell, is_middle, is_well_act, middle
 use Rattle.grid_laws.proofs.Causes.{AllDue}
 use Rattle.grid_model.specs.Documents.{DocumentData, IsOne, number_order, script_numbers}
 use Rattle.grid_model.specs.Histories.{after, sent, sent_at}
-use Rattle.grid_model.specs.Journals.{commit_id}
+use Rattle.journal_words.specs.Journals.{commit_id}
 use Rattle.grid_model.specs.Nodes.{journal, node}
 use Rattle.grid_model.specs.Rows.{answer, begin_outs, begun_at}
 use Rattle.grid_model.specs.Runs.{IsRun}

@@ -1,13 +1,14 @@
 -- Outs tell outcomes to the ends of their transaction alone: those that tell no outcome do.
 use Rattle.grid_laws.proofs.DueAnswers.{with_reply}
-use Rattle.grid_model.specs.Advances.{advance, advance_end, op_at, own_reads, owns, parts_now, prepares, request_of, to_node, unread}
+use Rattle.grid_model.specs.Advances.{advance, advance_end, owns, parts_now, prepares, request_of, to_node}
+use Rattle.script_runs.specs.Walks.{op_at, own_reads, unread}
 use Rattle.grid_model.specs.Claims.{is_end}
 use Rattle.grid_model.specs.Documents.{DocumentData}
 use Rattle.grid_model.specs.Histories.{after}
-use Rattle.grid_model.specs.Journals.{ended, floor, home_of, is_clear, is_commit, pending}
+use Rattle.journal_words.specs.Journals.{ended, floor, home_of, is_clear, is_commit, pending}
 use Rattle.grid_model.specs.Rows.{abort_row, ack_row, answered, are_all_among, ceiling_of, ceilings, commit_row, freed_by, judged, prepare_row, raises, read_row, release, reply_row, served, tell_outs, version_for}
 use Rattle.grid_model.specs.Schedules.{broken, head_at, kept, numbered, stopped}
-use Rattle.grid_model.specs.Stories.{waiting}
+use Rattle.script_runs.specs.Waits.{waiting}
 use Rattle.grid_model.specs.Views.{Apart, Collects, Commits, Open, Reads, Stage, View}
 use Rattle.grid_model.specs.declared.acts.Act.TheVariants as act
 use Rattle.grid_model.specs.declared.acts.Act.{Act}
@@ -19,7 +20,7 @@ use Rattle.grid_model.specs.declared.messages.Message.{Message}
 use Rattle.grid_model.specs.declared.messages.ReadRep.{ReadRep}
 use Rattle.grid_model.specs.declared.messages.ReadReq.{ReadReq}
 use Rattle.grid_model.specs.declared.stories.HeldRead.{HeldRead}
-use Rattle.grid_model.specs.declared.versions.Version.{Version}
+use Rattle.journal_words.specs.declared.versions.Version.{Version}
 use Rattle.placement.specs.Clusters.{ClusterData}
 use Rattle.placement.specs.Places.{is_among, preferred}
 use Rattle.score_base.specs.declared.causes.Outcome.TheVariants as outcome

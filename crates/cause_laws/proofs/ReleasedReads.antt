@@ -1,10 +1,10 @@
 -- A release serves each held read that is clear, and the others stay held and wait.
 use Rattle.cause_laws.proofs.HeldNodes.{IsKeptRead, has_read, is_serving, is_waiting_read}
 use Rattle.grid_laws.proofs.Frames.{same-number}
-use Rattle.grid_model.proofs.KeyLists.{same_key-self}
+use Rattle.script_lang.proofs.KeyLists.{same_key-self}
 use Rattle.grid_model.specs.Documents.{DocumentData}
 use Rattle.grid_model.specs.Histories.{after}
-use Rattle.grid_model.specs.Journals.{is_clear, later}
+use Rattle.journal_words.specs.Journals.{is_clear, later}
 use Rattle.grid_model.specs.Nodes.{Frees, Node, changed, got, is_read, is_request, journal, node, said_by, without_read}
 use Rattle.grid_model.specs.Rows.{release, served, version_for}
 use Rattle.grid_model.specs.Schedules.{numbered}
@@ -12,7 +12,7 @@ use Rattle.grid_model.specs.declared.acts.Act.TheVariants as act
 use Rattle.grid_model.specs.declared.acts.Act.{Act}
 use Rattle.grid_model.specs.declared.messages.Message.TheVariants as message
 use Rattle.grid_model.specs.declared.stories.HeldRead.{HeldRead}
-use Rattle.grid_model.specs.declared.versions.Version.{Version}
+use Rattle.journal_words.specs.declared.versions.Version.{Version}
 use Rattle.score_base.specs.Keys.{same_key}
 use Rattle.score_base.specs.declared.ids.Ident.{Ident}
 use Rattle.score_base.specs.declared.ids.NodeId.{NodeId}

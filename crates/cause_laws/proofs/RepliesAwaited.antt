@@ -4,11 +4,12 @@ use Rattle.cause_laws.proofs.HeldClaims.{reply-hold}
 use Rattle.grid_laws.proofs.Causes.{AllDue, RequestDue, Requested, SendDue, TakenDue}
 use Rattle.grid_laws.proofs.Holds.{got-hold, sent-hold}
 use Rattle.grid_laws.proofs.Snapshots.{OfStory, of-more}
-use Rattle.grid_model.proofs.Walks.{taken-new, taken-stays, waiting-open}
+use Rattle.script_runs.proofs.Walks.{taken-new, taken-stays, waiting-open}
 use Rattle.grid_model.specs.Documents.{DocumentData}
 use Rattle.grid_model.specs.Histories.{after, sent, sent_at}
 use Rattle.grid_model.specs.Nodes.{script_of}
-use Rattle.grid_model.specs.Stories.{asked, story, value_taken, waiting}
+use Rattle.grid_model.specs.Stories.{asked, story}
+use Rattle.script_runs.specs.Waits.{value_taken, waiting}
 use Rattle.grid_model.specs.declared.acts.Act.{Act}
 use Rattle.grid_model.specs.declared.messages.Message.TheVariants as message
 use Rattle.grid_model.specs.declared.messages.Message.{Message}

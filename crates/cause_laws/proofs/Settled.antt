@@ -5,9 +5,10 @@ use Rattle.grid_laws.proofs.Causes.{AllDue, IsDue}
 use Rattle.grid_laws.proofs.Frames.{journal-more}
 use Rattle.grid_model.specs.Documents.{DocumentData}
 use Rattle.grid_model.specs.Histories.{after, sent, sent_at}
-use Rattle.grid_model.specs.Journals.{Decision, decision, is_closed}
+use Rattle.journal_words.specs.Journals.{Decision, decision, is_closed}
 use Rattle.grid_model.specs.Nodes.{is_home, journal, script_of}
-use Rattle.grid_model.specs.Stories.{Aborted, Answered, Lost, Phase, asked, begun, decided_phase, has_voted, is_open, open_phase, phase, phase_by, story, told, undecided_phase, waiting}
+use Rattle.grid_model.specs.Stories.{Aborted, Answered, Lost, Phase, asked, begun, decided_phase, has_voted, is_open, open_phase, phase, phase_by, story, told, undecided_phase}
+use Rattle.script_runs.specs.Waits.{waiting}
 use Rattle.grid_model.specs.declared.acts.Act.TheVariants as act
 use Rattle.grid_model.specs.declared.acts.Act.{Act}
 use Rattle.grid_model.specs.declared.messages.Message.TheVariants as message

@@ -1,14 +1,16 @@
 -- Which rows neither hold nor serve a read and end nothing: all but those of requests and outcomes.
 use Rattle.cause_laws.proofs.Events.{IsAgain, asks, is_idle, retries}
 use Rattle.grid_laws.proofs.DueAnswers.{with_reply}
-use Rattle.grid_model.specs.Advances.{advance, advance_end, op_at, own_reads, owns, parts_now, prepares, request_of, to_node, unread}
+use Rattle.grid_model.specs.Advances.{advance, advance_end, owns, parts_now, prepares, request_of, to_node}
+use Rattle.script_runs.specs.Walks.{op_at, own_reads, unread}
 use Rattle.grid_model.specs.Documents.{DocumentData}
 use Rattle.grid_model.specs.Fitness.{is_fit_at, tx_in}
-use Rattle.grid_model.specs.Journals.{home_of, pending}
+use Rattle.journal_words.specs.Journals.{home_of, pending}
 use Rattle.grid_model.specs.Nodes.{journal}
 use Rattle.grid_model.specs.Rows.{ack_row, answer, are_all_among, ask_row, ballot_row, closed_row, decides, greatest_vote, have_voted, judged, not_among, not_voted, prepare_row, reply_row, retry_row, row_of, tells, vote_row}
 use Rattle.grid_model.specs.Schedules.{broken, head_at, kept, numbered, stopped}
-use Rattle.grid_model.specs.Stories.{has_voted, waiting}
+use Rattle.grid_model.specs.Stories.{has_voted}
+use Rattle.script_runs.specs.Waits.{waiting}
 use Rattle.grid_model.specs.Views.{Apart, Collects, Commits, Open, Reads, Stage, View, stage, view}
 use Rattle.grid_model.specs.declared.acts.Act.TheVariants as act
 use Rattle.grid_model.specs.declared.acts.Act.{Act}

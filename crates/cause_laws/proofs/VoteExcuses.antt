@@ -16,11 +16,12 @@ use Rattle.grid_laws.proofs.RunsDue.{due-run}
 use Rattle.grid_model.specs.Excuses.{WaitsForVote, began_down, has_got, has_sent, is_prepare_of, is_vote_of}
 use Rattle.grid_model.specs.Documents.{DocumentData, IsOne}
 use Rattle.grid_model.specs.Histories.{after}
-use Rattle.grid_model.specs.Journals.{Decision, decision, ended, is_closed}
+use Rattle.journal_words.specs.Journals.{Decision, decision, ended, is_closed}
 use Rattle.grid_model.specs.Nodes.{is_home, journal, node, parts_of, script_of}
 use Rattle.grid_model.specs.Rows.{have_voted}
 use Rattle.grid_model.specs.Runs.{IsRun}
-use Rattle.grid_model.specs.Stories.{Collecting, Reading, has_voted, is_open, open_phase, phase, phase_at, phase_by, story, told, waiting}
+use Rattle.grid_model.specs.Stories.{Collecting, Reading, has_voted, is_open, open_phase, phase, phase_at, phase_by, story, told}
+use Rattle.script_runs.specs.Waits.{waiting}
 use Rattle.grid_model.specs.declared.acts.Act.{Act}
 use Rattle.grid_model.specs.declared.stories.Story.{Story}
 use Rattle.grid_model.specs.declared.stories.Voted.{Voted}

@@ -14,7 +14,8 @@ use Rattle.grid_model.specs.Histories.{sent, sent_at}
 use Rattle.grid_model.specs.Nodes.{got, journal, node, parts_of, script_of}
 use Rattle.grid_model.specs.Rows.{answer, ballot_row, decides, full_row, greatest_vote, have_voted, tells, vote_row}
 use Rattle.grid_model.specs.Schedules.{kept, next_number, numbered}
-use Rattle.grid_model.specs.Stories.{Collecting, has_voted, heard_at, if_told, is_counted_vote, is_fit_ballot, is_open, is_small_node, phase_at, story, told, waiting, with_vote}
+use Rattle.grid_model.specs.Stories.{Collecting, has_voted, heard_at, if_told, is_counted_vote, is_fit_ballot, is_open, is_small_node, phase_at, story, told, with_vote}
+use Rattle.script_runs.specs.Waits.{waiting}
 use Rattle.grid_model.specs.Views.{Collects, Stage, View, open_of, open_stage, stage, view}
 use Rattle.grid_model.specs.declared.acts.Act.TheVariants as act
 use Rattle.grid_model.specs.declared.acts.Act.{Act}

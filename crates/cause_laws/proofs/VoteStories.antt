@@ -9,7 +9,8 @@ use Rattle.grid_model.specs.Documents.{DocumentData}
 use Rattle.grid_model.specs.Histories.{after, sent, sent_at}
 use Rattle.grid_model.specs.Nodes.{Node, Starts, Stays, Stops, changed, doubt_of, got, is_home, is_home_in, is_kept, node, parts_of, script_of, where_at}
 use Rattle.grid_model.specs.Rows.{have_voted}
-use Rattle.grid_model.specs.Stories.{asked, begun, has_voted, if_told, story, told, waiting, with_request, with_value, without_answers}
+use Rattle.grid_model.specs.Stories.{asked, begun, has_voted, if_told, story, told, with_request, with_value, without_answers}
+use Rattle.script_runs.specs.Waits.{waiting}
 use Rattle.grid_model.specs.declared.acts.Act.TheVariants as act
 use Rattle.grid_model.specs.declared.acts.Act.{Act}
 use Rattle.grid_model.specs.declared.acts.Flag.{Flag}

@@ -9,7 +9,7 @@ use Rattle.grid_model.specs.Excuses.{GotAt, began_down, has_got, has_sent, is_pr
 use Rattle.grid_model.specs.Documents.{DocumentData, IsOne}
 use Rattle.grid_model.specs.Fitness.{is_fit, is_fit_at, tx_in}
 use Rattle.grid_model.specs.Histories.{after}
-use Rattle.grid_model.specs.Journals.{ended}
+use Rattle.journal_words.specs.Journals.{ended}
 use Rattle.grid_model.specs.Nodes.{journal}
 use Rattle.grid_model.specs.Rows.{answer, judged, prepare_row, row_of}
 use Rattle.grid_model.specs.Runs.{IsRun}

@@ -14,14 +14,16 @@ use Rattle.grid_model.specs.declared.acts.Act.{Act}
 use Rattle.grid_model.specs.declared.stories.Story.{Story}
 use Rattle.grid_model.specs.Documents.{DocumentData}
 use Rattle.grid_model.specs.Nodes.{journal, script_of}
-use Rattle.grid_model.specs.Stories.{story, waiting, first_sid}
-use Rattle.grid_model.specs.Advances.{own_map}
-use Rattle.grid_model.specs.Copies.{is_before, key_at, members_to, op_key, order, snapshot, snapshot_in}
+use Rattle.grid_model.specs.Stories.{story, first_sid}
+use Rattle.script_runs.specs.Waits.{waiting}
+use Rattle.script_runs.specs.Walks.{own_map, op_key}
+use Rattle.journal_words.specs.Orders.{is_before, members_to}
+use Rattle.grid_model.specs.Copies.{key_at, order, snapshot, snapshot_in}
 use Rattle.grid_model.specs.Facts.{IsDecided}
-use Rattle.grid_model.proofs.Orders.{AreFalling, has_member, member-append}
-use Rattle.grid_model.proofs.LastWrites.{all-up_to}
-use Rattle.grid_model.proofs.RemoteReads.{IsRemote, order-remote}
-use Rattle.grid_model.proofs.SerialWalks.{AreOf, AreOfKeys, keys-of}
+use Rattle.journal_words.proofs.Orders.{AreFalling, has_member, member-append}
+use Rattle.journal_words.proofs.LastWrites.{all-up_to}
+use Rattle.script_runs.proofs.RemoteReads.{IsRemote, order-remote}
+use Rattle.script_runs.proofs.SerialWalks.{AreOf, AreOfKeys, keys-of}
 use Rattle.grid_model.proofs.SerialCopies.{AllTake, Takes, falling-rest, last_map, last-skips, script_write, write_by}
 use Rattle.grid_laws.proofs.DecisionsRest.{DecisionSays, decided-say, decision-stands, decisions-rest}
 use Rattle.grid_laws.proofs.NodesFitActs.{nodes-fit}

@@ -7,7 +7,7 @@ use Rattle.score_base.specs.declared.causes.Outcome.{Outcome}
 use Rattle.score_base.specs.declared.causes.Outcome.TheVariants as outcome
 use Rattle.grid_model.specs.declared.acts.Act.{Act}
 use Rattle.grid_model.specs.Documents.{DocumentData}
-use Rattle.grid_model.specs.Journals.{ended}
+use Rattle.journal_words.specs.Journals.{ended}
 use Rattle.grid_model.specs.Nodes.{journal}
 use Rattle.grid_model.specs.Copies.{order}
 use Rattle.grid_model.specs.Facts.{IsDecided, is_given_up}

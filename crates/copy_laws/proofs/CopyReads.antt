@@ -14,14 +14,16 @@ use Rattle.grid_model.specs.declared.acts.Act.TheVariants as act
 use Rattle.grid_model.specs.declared.stories.Story.{Story}
 use Rattle.grid_model.specs.Documents.{DocumentData}
 use Rattle.grid_model.specs.Histories.{after}
-use Rattle.grid_model.specs.Journals.{commit_id, version_at}
+use Rattle.journal_words.specs.Journals.{commit_id, version_at}
 use Rattle.grid_model.specs.Nodes.{journal, script_of}
-use Rattle.grid_model.specs.Stories.{story, waiting, first_sid}
+use Rattle.grid_model.specs.Stories.{story, first_sid}
+use Rattle.script_runs.specs.Waits.{waiting}
 use Rattle.grid_model.specs.Runs.{IsRun}
 use Rattle.grid_model.specs.Acts.{EachAct}
-use Rattle.grid_model.specs.Copies.{copy, copy_of, IsShown, key_at, members_to, order, ReadsCopy, script_reads, shown, snapshot, snapshot_in, TakesCopy}
-use Rattle.grid_model.proofs.AllReads.{reads_by}
-use Rattle.grid_model.proofs.SerialWalks.{AreOfKeys, keys-of}
+use Rattle.grid_model.specs.Copies.{copy, copy_of, IsShown, key_at, order, ReadsCopy, script_reads, shown, snapshot, snapshot_in, TakesCopy}
+use Rattle.journal_words.specs.Orders.{members_to}
+use Rattle.script_runs.proofs.AllReads.{reads_by}
+use Rattle.script_runs.proofs.SerialWalks.{AreOfKeys, keys-of}
 use Rattle.grid_model.proofs.SerialCopies.{AllTake, copy-last, copy-reads, last_map, members-rest, take-rest}
 use Rattle.grid_laws.proofs.EachActs.{each-act-more}
 use Rattle.copy_laws.proofs.Footing.{IsServed, Rests, story_values, values_in}

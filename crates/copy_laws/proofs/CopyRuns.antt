@@ -13,10 +13,11 @@ use Rattle.grid_model.specs.declared.acts.Flag.TheVariants as flag
 use Rattle.grid_model.specs.declared.messages.Message.TheVariants as message
 use Rattle.grid_model.specs.Documents.{DocumentData}
 use Rattle.grid_model.specs.Histories.{after}
-use Rattle.grid_model.specs.Journals.{commit_id, version_at}
+use Rattle.journal_words.specs.Journals.{commit_id, version_at}
 use Rattle.grid_model.specs.Nodes.{journal}
 use Rattle.grid_model.specs.Copies.{OneCopy, IsShown, TakesCopy, order, copy, copy_of, snapshot}
-use Rattle.grid_model.proofs.Plays.{a, b, two_nodes, request, reply, prepare}
+use Rattle.journal_words.proofs.TwoNodes.{a, b, two_nodes}
+use Rattle.grid_model.proofs.Plays.{request, reply, prepare}
 use Rattle.grid_model.proofs.TransferActs.{copy_script, opened, begins, votes, decides, ends, closes}
 use Rattle.grid_model.proofs.RunsWithReads.{equal_finals, equal_finals_acts}
 use Rattle.grid_model.proofs.RunsThatCommit.{read_then_write, read_then_write_acts}

@@ -7,12 +7,13 @@ use Rattle.grid_model.specs.declared.stories.Story.{Story}
 use Rattle.grid_model.specs.Documents.{DocumentData}
 use Rattle.grid_model.specs.Histories.{after}
 use Rattle.grid_model.specs.Nodes.{script_of}
-use Rattle.grid_model.specs.Stories.{story, waiting}
-use Rattle.grid_model.specs.Serials.{Map}
+use Rattle.grid_model.specs.Stories.{story}
+use Rattle.script_runs.specs.Waits.{waiting}
+use Rattle.script_runs.specs.Serials.{Map}
 use Rattle.grid_model.specs.Runs.{IsRun}
 use Rattle.grid_model.specs.Copies.{IsShown, script_reads, shown}
-use Rattle.grid_model.proofs.AllReads.{reads_by}
-use Rattle.grid_model.proofs.SerialWalks.{AreOf, reads-serial}
+use Rattle.script_runs.proofs.AllReads.{reads_by}
+use Rattle.script_runs.proofs.SerialWalks.{AreOf, reads-serial}
 use Rattle.copy_laws.proofs.ShownSteps.{Says}
 use Rattle.copy_laws.proofs.ShownRuns.{shown-reads}
 

@@ -15,27 +15,27 @@ use Rattle.script_lang.specs.Reads.{is_key_among, is_update, written_keys}
 use Rattle.placement.specs.Places.{holds, is_among}
 use Rattle.grid_model.specs.declared.acts.Act.{Act}
 use Rattle.grid_model.specs.Documents.{DocumentData}
-use Rattle.grid_model.specs.Serials.{Map, map_behind}
-use Rattle.grid_model.specs.Journals.{Prepared, prepared_of}
+use Rattle.script_runs.specs.Serials.{Map, map_behind}
+use Rattle.journal_words.specs.Journals.{Prepared, prepared_of, has_decided}
 use Rattle.grid_model.specs.Nodes.{is_home_in, journal, node, parts_in, script_of}
-use Rattle.grid_model.specs.Stories.{waiting}
-use Rattle.grid_model.specs.Advances.{own_map}
+use Rattle.script_runs.specs.Waits.{waiting}
+use Rattle.script_runs.specs.Walks.{own_map}
 use Rattle.grid_model.specs.Copies.{copy_of, is_finished, order}
-use Rattle.grid_model.specs.Facts.{has_decided, IsDecided, RestsOnParts}
+use Rattle.grid_model.specs.Facts.{IsDecided, RestsOnParts}
 use Rattle.grid_model.specs.Claims.{AreLogs, IsKept, IsLog, in_doubt, standing, writes_at, writes_on}
-use Rattle.grid_model.proofs.KeyLists.{among-here, among-later}
-use Rattle.grid_model.proofs.Decisions.{has_decided-grows}
-use Rattle.grid_model.proofs.Once.{prepared-stays}
-use Rattle.grid_model.proofs.Stands.{has_prepared-says}
+use Rattle.script_lang.proofs.KeyLists.{among-here, among-later}
+use Rattle.journal_words.proofs.Decisions.{has_decided-grows}
+use Rattle.journal_words.proofs.Once.{prepared-stays}
+use Rattle.journal_words.proofs.Stands.{has_prepared-says}
 use Rattle.grid_model.proofs.Undecided.{script-number}
 use Rattle.grid_model.proofs.Written.{among-filter, with_values}
-use Rattle.grid_model.proofs.SerialWalks.{AreOf, map-serial}
+use Rattle.script_runs.proofs.SerialWalks.{AreOf, map-serial}
 use Rattle.grid_model.proofs.SerialCopies.{AllTake, Takes, copy-last, last_map, take-rest}
 use Rattle.grid_laws.proofs.DecisionsRest.{decisions-rest}
 use Rattle.grid_laws.proofs.NodesFitActs.{nodes-fit}
 use Rattle.grid_laws.proofs.FinishedSay.{finished-update}
 use Rattle.copy_laws.proofs.OrderMembers.{decided-order}
-use Rattle.grid_model.proofs.Orders.{has_member}
+use Rattle.journal_words.proofs.Orders.{has_member}
 use Rattle.copy_laws.proofs.Footing.{Rests, values_in}
 use Rattle.copy_laws.proofs.PreparedFields.{PreparedOf, prepared-fields}
 use Rattle.copy_laws.proofs.AllTaken.{all-taken, Decided, decided-member}

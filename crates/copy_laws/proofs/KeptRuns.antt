@@ -24,12 +24,13 @@ use Rattle.grid_model.specs.declared.items.Item.TheVariants as item
 use Rattle.grid_model.specs.declared.messages.Message.TheVariants as message
 use Rattle.grid_model.specs.Documents.{DocumentData}
 use Rattle.grid_model.specs.Histories.{after}
-use Rattle.grid_model.specs.Journals.{prepared_of}
+use Rattle.journal_words.specs.Journals.{prepared_of}
 use Rattle.grid_model.specs.Nodes.{journal, node, script_of}
 use Rattle.grid_model.specs.Runs.{IsRun}
 use Rattle.grid_model.specs.Copies.{order, copy_of, is_finished}
 use Rattle.grid_model.specs.Claims.{Kept, IsKept, AreLogs, IsLog, standing, in_doubt, writes_at, writes_on}
-use Rattle.grid_model.proofs.Plays.{b, two_nodes, usually, broken, all_open, played-run}
+use Rattle.journal_words.proofs.TwoNodes.{b, two_nodes}
+use Rattle.grid_model.proofs.Plays.{usually, broken, all_open, played-run}
 use Rattle.grid_model.proofs.TransferActs.{copy_script, asks, votes, decides, ends, closes}
 use Rattle.grid_model.proofs.RunsWithReads.{equal_finals}
 use Rattle.grid_model.proofs.RunsThatCommit.{read_then_write, read_then_write_acts}

@@ -16,19 +16,20 @@ use Rattle.placement.specs.Places.{is_among, holds}
 use Rattle.placement.specs.Clusters.{init}
 use Rattle.grid_model.specs.declared.acts.Act.{Act}
 use Rattle.grid_model.specs.Documents.{DocumentData}
-use Rattle.grid_model.specs.Journals.{all_fit, commit_id, ended, is_clear, version_at}
+use Rattle.journal_words.specs.Journals.{all_fit, commit_id, ended, is_clear, version_at}
 use Rattle.grid_model.specs.Nodes.{journal, script_of}
-use Rattle.grid_model.specs.Advances.{own_map}
-use Rattle.grid_model.specs.Copies.{members_to, order}
+use Rattle.script_runs.specs.Walks.{own_map}
+use Rattle.journal_words.specs.Orders.{members_to}
+use Rattle.grid_model.specs.Copies.{order}
 use Rattle.grid_model.specs.Facts.{IsDecided, RestsOnParts, parts_at}
-use Rattle.grid_model.proofs.Applied.{IsApplied, applied-says, clear-applied, commit_id-clear}
-use Rattle.grid_model.proofs.LastWrites.{version-last}
-use Rattle.grid_model.proofs.Once.{ended-prepared}
-use Rattle.grid_model.proofs.Orders.{AreFalling, has_member, members_to-member}
-use Rattle.grid_model.proofs.Pendings.{clear-below, clear-ended}
-use Rattle.grid_model.proofs.Readable.{IsVersion}
+use Rattle.journal_words.proofs.Applied.{IsApplied, applied-says, clear-applied, commit_id-clear}
+use Rattle.journal_words.proofs.LastWrites.{version-last}
+use Rattle.journal_words.proofs.Once.{ended-prepared}
+use Rattle.journal_words.proofs.Orders.{AreFalling, has_member, members_to-member}
+use Rattle.journal_words.proofs.Pendings.{clear-below, clear-ended}
+use Rattle.journal_words.proofs.Readable.{IsVersion}
 use Rattle.grid_model.proofs.SerialCopies.{falling-rest, last_map, members-rest, script_write, write_by}
-use Rattle.grid_model.proofs.Stands.{has_prepared-says}
+use Rattle.journal_words.proofs.Stands.{has_prepared-says}
 use Rattle.grid_laws.proofs.DecisionsRest.{decisions-rest}
 use Rattle.grid_laws.proofs.NodesFitActs.{nodes-fit}
 use Rattle.grid_laws.proofs.Promises.{served-promised}

@@ -4,8 +4,8 @@ use Rattle.std.proofs.lemmas.Bool.Decides.{nat_tests}
 use Rattle.std.specs.Prelude.{nat_le}
 use Rattle.score_base.specs.declared.ids.TxId.{TxId}
 use Rattle.score_base.specs.declared.ids.Ident.{Ident}
-use Rattle.grid_model.specs.Copies.{is_before, members_to}
-use Rattle.grid_model.proofs.Orders.{AllUpTo, AreFalling}
+use Rattle.journal_words.specs.Orders.{is_before, members_to}
+use Rattle.journal_words.proofs.Orders.{AllUpTo, AreFalling}
 
 up_to-behind : (y : Ident × TxId) (ys : List (Ident × TxId)) (x : Ident × TxId) (xs : List (Ident × TxId)) → AllUpTo y (ys ++ x ∷ xs) → is_before y x ≡ false
 up_to-behind y [] x xs all = all.0

@@ -11,9 +11,11 @@ use Rattle.script_lang.specs.Scripts.{ScriptData}
 use Rattle.grid_model.specs.declared.acts.Act.{Act}
 use Rattle.grid_model.specs.Documents.{DocumentData, IsOne}
 use Rattle.grid_model.specs.Nodes.{journal, script_of, is_home, is_home_in}
-use Rattle.grid_model.specs.Copies.{decisions, all_decisions, order}
-use Rattle.grid_model.specs.Facts.{has_decided, IsDecided, DecisionsRest}
-use Rattle.grid_model.proofs.Orders.{has_member, fold-member, member-append, decisions-member, nodes-member, AreFalling, fold-falling}
+use Rattle.journal_words.specs.Orders.{decisions}
+use Rattle.grid_model.specs.Copies.{all_decisions, order}
+use Rattle.journal_words.specs.Journals.{has_decided}
+use Rattle.grid_model.specs.Facts.{IsDecided, DecisionsRest}
+use Rattle.journal_words.proofs.Orders.{has_member, fold-member, member-append, decisions-member, nodes-member, AreFalling, fold-falling}
 use Rattle.grid_laws.proofs.NodesNumbered.{home-least, home-most}
 
 -- ---- the decisions of all nodes

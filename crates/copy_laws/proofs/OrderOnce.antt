@@ -10,13 +10,14 @@ use Rattle.score_base.specs.declared.ids.Ident.{Ident}
 use Rattle.grid_model.specs.declared.acts.Act.{Act}
 use Rattle.grid_model.specs.Documents.{DocumentData}
 use Rattle.grid_model.specs.Nodes.{is_home, journal, script_of}
-use Rattle.grid_model.specs.Copies.{all_decisions, decisions, insert_last, is_before, order}
+use Rattle.grid_model.specs.Copies.{all_decisions, order}
+use Rattle.journal_words.specs.Orders.{decisions, insert_last, is_before}
 use Rattle.grid_laws.proofs.Causes.{AllDue}
 use Rattle.grid_laws.proofs.NodesFit.{home-one}
 use Rattle.grid_laws.proofs.KnownDecisions.{has_tx}
 use Rattle.grid_laws.proofs.DecisionsOnce.{AreOnce, decided-once, member-has}
 use Rattle.grid_laws.proofs.DecisionsRest.{decisions-rest}
-use Rattle.grid_model.proofs.Orders.{decisions-member, has_member}
+use Rattle.journal_words.proofs.Orders.{decisions-member, has_member}
 
 -- a transaction of the one list is not among the other
 abbrev AreApart : List (Ident × TxId) → List (Ident × TxId) → Type 0

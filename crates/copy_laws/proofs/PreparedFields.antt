@@ -9,10 +9,10 @@ use Rattle.placement.specs.Places.{holds}
 use Rattle.grid_model.specs.declared.acts.Act.{Act}
 use Rattle.grid_model.specs.declared.messages.Prepare.{Prepare}
 use Rattle.grid_model.specs.Documents.{DocumentData}
-use Rattle.grid_model.specs.Journals.{Prepared, prepared_of}
+use Rattle.journal_words.specs.Journals.{Prepared, prepared_of}
 use Rattle.grid_model.specs.Nodes.{journal, script_of}
-use Rattle.grid_model.specs.Stories.{waiting}
-use Rattle.grid_model.specs.Advances.{own_map}
+use Rattle.script_runs.specs.Waits.{waiting}
+use Rattle.script_runs.specs.Walks.{own_map}
 use Rattle.grid_model.specs.Copies.{snapshot}
 use Rattle.grid_laws.proofs.Causes.{AllDue}
 use Rattle.grid_laws.proofs.FullStories.{full-snapshot}

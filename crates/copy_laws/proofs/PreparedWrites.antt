@@ -15,9 +15,9 @@ use Rattle.placement.specs.Places.{holds}
 use Rattle.grid_model.specs.declared.acts.Act.{Act}
 use Rattle.grid_model.specs.declared.messages.Prepare.{Prepare}
 use Rattle.grid_model.specs.Documents.{DocumentData}
-use Rattle.grid_model.specs.Journals.{Prepared, older, prepared_of, wrote_in, written_value}
+use Rattle.journal_words.specs.Journals.{Prepared, older, prepared_of, wrote_in, written_value}
 use Rattle.grid_model.specs.Nodes.{journal}
-use Rattle.grid_model.specs.Advances.{own_map}
+use Rattle.script_runs.specs.Walks.{own_map}
 use Rattle.grid_model.proofs.Written.{prepare-value}
 use Rattle.grid_model.proofs.SerialCopies.{script_write, write_by}
 use Rattle.grid_laws.proofs.Causes.{AllDue}

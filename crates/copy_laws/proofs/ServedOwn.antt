@@ -16,7 +16,8 @@ use Rattle.grid_model.specs.declared.messages.ReadReq.{ReadReq}
 use Rattle.grid_model.specs.declared.stories.HeldRead.{HeldRead}
 use Rattle.grid_model.specs.Documents.{DocumentData}
 use Rattle.grid_model.specs.Nodes.{got, held_by, with_held, script_of}
-use Rattle.grid_model.specs.Copies.{key_at, op_key}
+use Rattle.grid_model.specs.Copies.{key_at}
+use Rattle.script_runs.specs.Walks.{op_key}
 use Rattle.grid_laws.proofs.Causes.{AllDue, IsDue, IsIn, SendDue, RequestDue, Requested, MayServe, at_once, held, held_ever}
 use Rattle.grid_laws.proofs.Frames.{in-append}
 use Rattle.grid_laws.proofs.Holds.{got-hold}

@@ -8,12 +8,12 @@ use Rattle.score_base.specs.declared.keys.Key.{Key}
 use Rattle.score_base.specs.declared.records.Record.{Record}
 use Rattle.grid_model.specs.declared.acts.Act.{Act}
 use Rattle.grid_model.specs.declared.acts.Act.TheVariants as act
-use Rattle.grid_model.specs.declared.versions.Version.{Version}
+use Rattle.journal_words.specs.declared.versions.Version.{Version}
 use Rattle.grid_model.specs.Documents.{DocumentData}
-use Rattle.grid_model.specs.Journals.{all_fit, is_clear}
+use Rattle.journal_words.specs.Journals.{all_fit, is_clear}
 use Rattle.grid_model.specs.Nodes.{got, node, journal, Node, Change, Nothing, Writes, Raises, Holds, Frees, Stops, Starts, Stays, change, changed, found}
 use Rattle.grid_model.specs.Rows.{version_for}
-use Rattle.grid_model.proofs.Readable.{version-stays}
+use Rattle.journal_words.proofs.Readable.{version-stays}
 use Rattle.grid_laws.proofs.Causes.{AllDue}
 use Rattle.grid_laws.proofs.Frames.{journal-stays}
 use Rattle.grid_laws.proofs.NodesFitActs.{nodes-fit}

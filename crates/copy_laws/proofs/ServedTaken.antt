@@ -16,7 +16,8 @@ use Rattle.grid_model.specs.Documents.{DocumentData}
 use Rattle.grid_model.specs.Acts.{EachAct}
 use Rattle.grid_model.specs.Facts.{has_served, Says}
 use Rattle.grid_model.specs.Fitness.{is_same_ident}
-use Rattle.grid_model.specs.Stories.{story, value_taken, first_sid}
+use Rattle.grid_model.specs.Stories.{story, first_sid}
+use Rattle.script_runs.specs.Waits.{value_taken}
 use Rattle.grid_laws.proofs.EachActs.{each-act-more}
 use Rattle.grid_laws.proofs.Causes.{AllDue, TakenDue}
 use Rattle.grid_laws.proofs.Holds.{got-hold}

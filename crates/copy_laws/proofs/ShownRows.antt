@@ -15,12 +15,14 @@ use Rattle.grid_model.specs.declared.stories.Story.{Story}
 use Rattle.grid_model.specs.Documents.{DocumentData}
 use Rattle.grid_model.specs.Histories.{after}
 use Rattle.grid_model.specs.Nodes.{script_of}
-use Rattle.grid_model.specs.Stories.{story, waiting}
+use Rattle.grid_model.specs.Stories.{story}
+use Rattle.script_runs.specs.Waits.{waiting}
 use Rattle.grid_model.specs.Views.{open_of}
-use Rattle.grid_model.specs.Advances.{advance, advance_end, own_reads, unread}
+use Rattle.grid_model.specs.Advances.{advance, advance_end}
+use Rattle.script_runs.specs.Walks.{own_reads, unread}
 use Rattle.grid_model.specs.Schedules.{numbered, kept}
 use Rattle.grid_model.specs.Copies.{shown}
-use Rattle.grid_model.proofs.AllReads.{reads_by}
+use Rattle.script_runs.proofs.AllReads.{reads_by}
 use Rattle.grid_laws.proofs.Frames.{same-number}
 use Rattle.grid_laws.proofs.SilentOuts.{silent-acts, silent-end}
 use Rattle.copy_laws.proofs.ShownSteps.{Says, ShownBy, AllShown, OthersShown, other-own, silent-all}

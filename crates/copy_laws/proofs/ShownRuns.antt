@@ -23,18 +23,20 @@ use Rattle.grid_model.specs.declared.messages.ReadRep.{ReadRep}
 use Rattle.grid_model.specs.declared.stories.Story.{Story}
 use Rattle.grid_model.specs.Documents.{DocumentData, number_order, script_numbers}
 use Rattle.grid_model.specs.Histories.{after, sent, sent_at}
-use Rattle.grid_model.specs.Journals.{commit_id}
+use Rattle.journal_words.specs.Journals.{commit_id}
 use Rattle.grid_model.specs.Nodes.{node, journal, script_of}
-use Rattle.grid_model.specs.Stories.{begun, story, with_value, waiting}
+use Rattle.grid_model.specs.Stories.{begun, story, with_value}
+use Rattle.script_runs.specs.Waits.{waiting}
 use Rattle.grid_model.specs.Views.{view, stage, Stage, Open, Reads, Collects, Commits, Apart, open_of}
-use Rattle.grid_model.specs.Advances.{advance, own_reads, unread}
+use Rattle.grid_model.specs.Advances.{advance}
+use Rattle.script_runs.specs.Walks.{own_reads, unread}
 use Rattle.grid_model.specs.Fitness.{is_fit_at}
 use Rattle.grid_model.specs.Rows.{answer, ask_outs, begin_outs, reply_row, retry_row}
 use Rattle.grid_model.specs.Schedules.{Choice, acts_of, ask_row, begin_row, crash_row, deliver_row, drop_row, events_in, flag_of, kept, next_left, next_number, next_row, numbered, opened_row, or_void, restart_row, retry_at, row, start_row}
 use Rattle.grid_model.specs.Runs.{Rows, IsRun}
 use Rattle.grid_model.specs.Copies.{shown}
 use Rattle.grid_model.proofs.Undecided.{script-number}
-use Rattle.grid_model.proofs.AllReads.{reads_by, first-reads, reads-next}
+use Rattle.script_runs.proofs.AllReads.{reads_by, first-reads, reads-next}
 use Rattle.grid_laws.proofs.Causes.{AllDue}
 use Rattle.grid_laws.proofs.Frames.{same-number}
 use Rattle.grid_laws.proofs.Stages.{Opens, opens-reads}

@@ -11,14 +11,14 @@ use Rattle.script_lang.specs.Reads.{is_key_among, keys_named, remote_keys, writt
 use Rattle.placement.specs.Places.{is_among, holds}
 use Rattle.grid_model.specs.declared.acts.Act.{Act}
 use Rattle.grid_model.specs.Documents.{DocumentData}
-use Rattle.grid_model.specs.Journals.{Prepared, prepared_of, keys_in, conflict, ended}
+use Rattle.journal_words.specs.Journals.{Prepared, prepared_of, keys_in, conflict, ended}
 use Rattle.grid_model.specs.Nodes.{journal, script_of}
-use Rattle.grid_model.specs.Advances.{own_map}
+use Rattle.script_runs.specs.Walks.{own_map}
 use Rattle.grid_model.specs.Copies.{snapshot}
 use Rattle.grid_model.specs.Facts.{IsDecided, RestsOnParts, parts_at}
-use Rattle.grid_model.proofs.KeyLists.{conflict-read}
-use Rattle.grid_model.proofs.Conflicts.{IsBefore, aborted, committed, conflicts-ordered}
-use Rattle.grid_model.proofs.Stands.{has_prepared-says}
+use Rattle.journal_words.proofs.KeyLists.{conflict-read}
+use Rattle.journal_words.proofs.Conflicts.{IsBefore, aborted, committed, conflicts-ordered}
+use Rattle.journal_words.proofs.Stands.{has_prepared-says}
 use Rattle.grid_model.proofs.Written.{with_values-keys, among-filter}
 use Rattle.grid_laws.proofs.NodesFitActs.{nodes-fit}
 use Rattle.grid_laws.proofs.DecisionsRest.{decisions-rest}

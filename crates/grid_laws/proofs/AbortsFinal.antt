@@ -20,9 +20,10 @@ use Rattle.grid_model.specs.declared.messages.Prepare.{Prepare}
 use Rattle.grid_model.specs.declared.stories.Story.{Story}
 use Rattle.grid_model.specs.Documents.{DocumentData}
 use Rattle.grid_model.specs.Histories.{sent, sent_at}
-use Rattle.grid_model.specs.Journals.{Decision, Prepared, decision, home_in, is_closed, prepared_of, undone}
+use Rattle.journal_words.specs.Journals.{Decision, Prepared, decision, home_in, is_closed, prepared_of, undone}
 use Rattle.grid_model.specs.Nodes.{Node, got, journal, node, script_of, is_home}
-use Rattle.grid_model.specs.Stories.{story, asked, heard, heard_at, if_told, phase_at, is_open, waiting, with_vote, with_ack, has_voted, begun, Phase}
+use Rattle.grid_model.specs.Stories.{story, asked, heard, heard_at, if_told, phase_at, is_open, with_vote, with_ack, has_voted, begun, Phase}
+use Rattle.script_runs.specs.Waits.{waiting}
 use Rattle.grid_model.specs.Views.{Open, Apart, acks_at, open_at, open_of, open_stage, stage, stage_by, view}
 use Rattle.grid_model.specs.Facts.{is_given_up, is_over, MeansNever, AbortsFinal}
 use Rattle.grid_model.proofs.Undecided.{script-number}

@@ -23,9 +23,9 @@ use Rattle.grid_model.specs.declared.messages.Message.TheVariants as message
 use Rattle.grid_model.specs.declared.messages.Prepare.{Prepare}
 use Rattle.grid_model.specs.declared.stories.HeldRead.{HeldRead}
 use Rattle.grid_model.specs.declared.stories.Story.{Story}
-use Rattle.grid_model.specs.declared.versions.Version.{Version}
+use Rattle.journal_words.specs.declared.versions.Version.{Version}
 use Rattle.grid_model.specs.Documents.{DocumentData}
-use Rattle.grid_model.specs.Journals.{applied, best, commit_id, floor, greatest, is_behind, later, newer, newest, up_to, wrote_in, prepared_of}
+use Rattle.journal_words.specs.Journals.{applied, best, commit_id, floor, greatest, is_behind, later, newer, newest, up_to, wrote_in, prepared_of}
 use Rattle.grid_model.specs.Nodes.{journal, node}
 use Rattle.grid_model.specs.Stories.{story}
 use Rattle.grid_model.specs.Advances.{date_by}
@@ -34,8 +34,8 @@ use Rattle.grid_model.specs.Acts.{EachAct}
 use Rattle.grid_model.specs.Facts.{IsAtMost, act_ident, cause_ident, head_ident, message_ident, outcome_ident}
 use Rattle.grid_model.specs.Rows.{ceiling_of, dated, greatest_vote, version_for}
 use Rattle.grid_laws.proofs.Causes.{AllDue, IsDue, SendDue, RecordDue, StopDue, Requested, MayServe, at_once, held, RefusedFor}
-use Rattle.grid_model.proofs.Floors.{pending-floor}
-use Rattle.grid_model.proofs.Applied.{commit_id-floor}
+use Rattle.journal_words.proofs.Floors.{pending-floor}
+use Rattle.journal_words.proofs.Applied.{commit_id-floor}
 use Rattle.grid_laws.proofs.NodesFitActs.{undone-decision}
 use Rattle.grid_laws.proofs.Promises.{ever-covered}
 use Rattle.grid_laws.proofs.LowWords.{IsLowStory, floor-low, nodes-low, decision-low, got-low, stories-low, snapshot-low}

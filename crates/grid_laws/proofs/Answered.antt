@@ -19,7 +19,8 @@ use Rattle.grid_model.specs.declared.stories.Story.{Story}
 use Rattle.grid_model.specs.Documents.{DocumentData}
 use Rattle.grid_model.specs.Histories.{after, sent, sent_at}
 use Rattle.grid_model.specs.Nodes.{Node, node, script_of, parts_of, is_home}
-use Rattle.grid_model.specs.Stories.{Phase, story, told, asked, heard, heard_at, if_told, waiting, with_vote, with_ack}
+use Rattle.grid_model.specs.Stories.{Phase, story, told, asked, heard, heard_at, if_told, with_vote, with_ack}
+use Rattle.script_runs.specs.Waits.{waiting}
 
 -- reads are left, it writes, or it was answered
 abbrev pub is_told : ScriptData → Option Story → Bool

@@ -18,9 +18,11 @@ use Rattle.grid_model.specs.declared.stories.Story.{Story}
 use Rattle.grid_model.specs.Documents.{DocumentData}
 use Rattle.grid_model.specs.Histories.{after}
 use Rattle.grid_model.specs.Nodes.{script_of, parts_of}
-use Rattle.grid_model.specs.Stories.{story, waiting}
+use Rattle.grid_model.specs.Stories.{story}
+use Rattle.script_runs.specs.Waits.{waiting}
 use Rattle.grid_model.specs.Views.{open_of, Open}
-use Rattle.grid_model.specs.Advances.{advance, advance_end, op_at, own_reads, prepares, request_of, to_node, unread}
+use Rattle.grid_model.specs.Advances.{advance, advance_end, prepares, request_of, to_node}
+use Rattle.script_runs.specs.Walks.{op_at, own_reads, unread}
 use Rattle.grid_model.specs.Schedules.{numbered, kept, broken, head_at}
 use Rattle.grid_laws.proofs.Frames.{same-number}
 use Rattle.grid_laws.proofs.CalmOuts.{calm-end, calm-numbered}

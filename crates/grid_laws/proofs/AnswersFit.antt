@@ -18,13 +18,13 @@ use Rattle.grid_model.specs.declared.messages.Message.TheVariants as message
 use Rattle.grid_model.specs.declared.messages.Prepare.{Prepare}
 use Rattle.grid_model.specs.Documents.{DocumentData}
 use Rattle.grid_model.specs.Histories.{sent, sent_at}
-use Rattle.grid_model.specs.Journals.{Prepared, ended, is_commit, pending, prepared_of}
+use Rattle.journal_words.specs.Journals.{Prepared, ended, is_commit, pending, prepared_of}
 use Rattle.grid_model.specs.Nodes.{journal, node, parts_in, parts_of}
 use Rattle.grid_model.specs.Views.{Open, Stage, Apart, Reads, Collects, Commits, stage, view}
 use Rattle.grid_model.specs.Facts.{IsDecided, parts_at}
 use Rattle.grid_model.specs.Fitness.{is_at_least, is_part_at}
-use Rattle.grid_model.proofs.Once.{pending-prepared, ended-prepared}
-use Rattle.grid_model.proofs.Stands.{has_prepared-says, prepared-once, prepared-sound}
+use Rattle.journal_words.proofs.Once.{pending-prepared, ended-prepared}
+use Rattle.journal_words.proofs.Stands.{has_prepared-says, prepared-once, prepared-sound}
 use Rattle.grid_laws.proofs.Causes.{AllDue, SendDue, Asked}
 use Rattle.grid_laws.proofs.Stages.{opens-collects, stage-commits}
 use Rattle.grid_laws.proofs.NodesFitActs.{decision-home, nodes-fit, undone-decision}

@@ -24,9 +24,10 @@ use Rattle.grid_model.specs.declared.stories.HeldRead.{HeldRead}
 use Rattle.grid_model.specs.declared.stories.Story.{Story}
 use Rattle.grid_model.specs.Documents.{DocumentData}
 use Rattle.grid_model.specs.Histories.{sent, sent_at}
-use Rattle.grid_model.specs.Journals.{Decision, commit_id, ended, floor, holder, is_clear, newer, pending, undone, fits_outcome}
+use Rattle.journal_words.specs.Journals.{Decision, commit_id, ended, floor, holder, is_clear, newer, pending, undone, fits_outcome}
 use Rattle.grid_model.specs.Nodes.{node, journal, script_of, parts_of}
-use Rattle.grid_model.specs.Stories.{phase, is_open, story, waiting}
+use Rattle.grid_model.specs.Stories.{phase, is_open, story}
+use Rattle.script_runs.specs.Waits.{waiting}
 use Rattle.grid_model.specs.Views.{Commits, view, stage}
 use Rattle.grid_model.specs.Fitness.{is_same_ident}
 use Rattle.grid_model.specs.Rows.{are_all_among, ceiling_of, greatest_vote, have_voted}

@@ -16,7 +16,7 @@ use Rattle.grid_model.specs.declared.items.Item.{Item}
 use Rattle.grid_model.specs.Documents.{DocumentData}
 use Rattle.grid_model.specs.Histories.{after}
 use Rattle.grid_model.specs.Runs.{IsRun}
-use Rattle.grid_model.specs.Journals.{holder, newer}
+use Rattle.journal_words.specs.Journals.{holder, newer}
 use Rattle.grid_model.specs.Nodes.{got, journal, said_by, script_of}
 use Rattle.grid_model.specs.Acts.{EachBehind, has_refused}
 use Rattle.grid_model.specs.Claims.{Caused, IsCausedAct, cause_by, is_update_in, refusal_of}

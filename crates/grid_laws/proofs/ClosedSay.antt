@@ -17,11 +17,12 @@ use Rattle.grid_model.specs.declared.acts.Head.TheVariants as head
 use Rattle.grid_model.specs.declared.messages.Message.TheVariants as message
 use Rattle.grid_model.specs.declared.stories.Story.{Story}
 use Rattle.grid_model.specs.Documents.{DocumentData}
-use Rattle.grid_model.specs.Journals.{Decision, is_closed, undone}
+use Rattle.journal_words.specs.Journals.{Decision, is_closed, undone, has_commit}
 use Rattle.grid_model.specs.Nodes.{Node, got, journal, node, script_of, record_of}
-use Rattle.grid_model.specs.Stories.{story, waiting}
+use Rattle.grid_model.specs.Stories.{story}
+use Rattle.script_runs.specs.Waits.{waiting}
 use Rattle.grid_model.specs.Views.{Open, Commits, acks_at, acks_by, open_at, open_stage, stage_by}
-use Rattle.grid_model.specs.Facts.{has_commit, is_over, parts_at}
+use Rattle.grid_model.specs.Facts.{is_over, parts_at}
 use Rattle.grid_model.specs.Rows.{are_all_among}
 use Rattle.grid_laws.proofs.Causes.{AllDue, ClosedDue, RecordDue}
 use Rattle.grid_laws.proofs.Stages.{stage-commits}

@@ -14,9 +14,9 @@ use Rattle.grid_model.specs.declared.acts.Act.{Act}
 use Rattle.grid_model.specs.declared.acts.Act.TheVariants as act
 use Rattle.grid_model.specs.declared.messages.Envelope.{Envelope}
 use Rattle.grid_model.specs.Documents.{DocumentData}
-use Rattle.grid_model.specs.Journals.{decision, ended}
+use Rattle.journal_words.specs.Journals.{decision, ended}
 use Rattle.grid_model.specs.Nodes.{Node, change, got, is_home, is_home_in, journal, node, script_of, written}
-use Rattle.grid_model.specs.Copies.{decisions}
+use Rattle.journal_words.specs.Orders.{decisions}
 use Rattle.grid_model.specs.Stories.{is_open, phase, story}
 use Rattle.grid_model.specs.Facts.{IsDecided, is_given_up}
 use Rattle.grid_model.proofs.Undecided.{script-number}

@@ -11,9 +11,10 @@ use Rattle.score_base.specs.declared.records.Record.TheVariants as record'
 use Rattle.grid_model.specs.declared.acts.Act.{Act}
 use Rattle.grid_model.specs.Documents.{DocumentData}
 use Rattle.grid_model.specs.Nodes.{Node, Change, Nothing, Writes, Raises, Holds, Frees, Stops, Starts, Stays, change, changed, got, journal, node, script_of, written}
-use Rattle.grid_model.specs.Copies.{decisions}
-use Rattle.grid_model.specs.Facts.{IsDecided, has_decided}
-use Rattle.grid_model.proofs.Orders.{has_member}
+use Rattle.journal_words.specs.Orders.{decisions}
+use Rattle.grid_model.specs.Facts.{IsDecided}
+use Rattle.journal_words.specs.Journals.{has_decided}
+use Rattle.journal_words.proofs.Orders.{has_member}
 use Rattle.grid_model.proofs.DecisionsKept.{is_decided_in}
 use Rattle.grid_laws.proofs.Frames.{same-number}
 use Rattle.grid_laws.proofs.Causes.{AllDue, IsUp}

@@ -18,10 +18,11 @@ use Rattle.grid_model.specs.Documents.{DocumentData}
 use Rattle.grid_model.specs.Nodes.{got, journal, node, parts_in, parts_of, record_of, is_home}
 use Rattle.grid_model.specs.Stories.{first_sid}
 use Rattle.grid_model.specs.Copies.{snapshot}
-use Rattle.grid_model.specs.Facts.{has_prepared, has_decided, parts_at, DecisionsRest}
+use Rattle.journal_words.specs.Journals.{has_prepared, has_decided}
+use Rattle.grid_model.specs.Facts.{parts_at, DecisionsRest}
 use Rattle.grid_model.specs.Rows.{greatest_vote}
 use Rattle.grid_laws.proofs.Causes.{AllDue, RecordDue, DecidedDue}
-use Rattle.grid_model.proofs.Stands.{has_prepared-says, prepared-sound}
+use Rattle.journal_words.proofs.Stands.{has_prepared-says, prepared-sound}
 use Rattle.grid_laws.proofs.NodesFit.{AllAtHome}
 use Rattle.grid_laws.proofs.NodesFitActs.{nodes-fit, prepared-is}
 use Rattle.grid_laws.proofs.MessagesBacked.{prepared-more}

@@ -25,9 +25,10 @@ use Rattle.grid_model.specs.declared.stories.Story.{Story}
 use Rattle.grid_model.specs.declared.stories.Voted.{Voted}
 use Rattle.grid_model.specs.Documents.{DocumentData}
 use Rattle.grid_model.specs.Histories.{sent, sent_at}
-use Rattle.grid_model.specs.Journals.{Decision, commit_id, undone}
+use Rattle.journal_words.specs.Journals.{Decision, commit_id, undone}
 use Rattle.grid_model.specs.Nodes.{node, journal, script_of, parts_of, parts_in, is_home}
-use Rattle.grid_model.specs.Stories.{Collecting, phase_at, is_open, is_fit_ballot, is_small_node, story, waiting, first_sid, has_voted, heard_at, with_value}
+use Rattle.grid_model.specs.Stories.{Collecting, phase_at, is_open, is_fit_ballot, is_small_node, story, first_sid, has_voted, heard_at, with_value}
+use Rattle.script_runs.specs.Waits.{waiting}
 use Rattle.grid_model.specs.Views.{Open, Stage, Apart, Reads, Collects, Commits, stage, stage_at, view, View}
 use Rattle.grid_model.specs.Advances.{advance, parts_now}
 use Rattle.grid_model.specs.Fitness.{is_fit_at, is_same_ident, tx_in}

@@ -19,11 +19,13 @@ use Rattle.grid_model.specs.declared.messages.Message.{Message}
 use Rattle.grid_model.specs.declared.messages.Message.TheVariants as message
 use Rattle.grid_model.specs.declared.stories.Story.{Story}
 use Rattle.grid_model.specs.Documents.{DocumentData}
-use Rattle.grid_model.specs.Journals.{Decision, commit_id, decision, undone}
+use Rattle.journal_words.specs.Journals.{Decision, commit_id, decision, undone}
 use Rattle.grid_model.specs.Nodes.{node, journal, script_of, parts_of}
-use Rattle.grid_model.specs.Stories.{phase_at, is_open, story, waiting, begun}
+use Rattle.grid_model.specs.Stories.{phase_at, is_open, story, begun}
+use Rattle.script_runs.specs.Waits.{waiting}
 use Rattle.grid_model.specs.Views.{Stage, Apart, Reads, Collects, Commits, open_of, stage, view}
-use Rattle.grid_model.specs.Advances.{advance, advance_end, op_at, own_reads, prepare_for, prepares, request, request_of, to_node, unread}
+use Rattle.grid_model.specs.Advances.{advance, advance_end, prepare_for, prepares, request, request_of, to_node}
+use Rattle.script_runs.specs.Walks.{op_at, own_reads, unread}
 use Rattle.grid_model.specs.Rows.{begin_outs, not_voted, not_among, retry_row, tells}
 use Rattle.grid_model.proofs.Undecided.{script-number}
 use Rattle.grid_laws.proofs.Causes.{IsUp, AtHome, SendDue, by_reads}

@@ -15,7 +15,7 @@ use Rattle.grid_model.specs.declared.acts.Act.TheVariants as act
 use Rattle.grid_model.specs.declared.acts.Flag.{Flag}
 use Rattle.grid_model.specs.declared.stories.Story.{Story}
 use Rattle.grid_model.specs.Documents.{DocumentData, number_order, script_numbers}
-use Rattle.grid_model.specs.Journals.{decision}
+use Rattle.journal_words.specs.Journals.{decision}
 use Rattle.grid_model.specs.Nodes.{Node, node, script_of, got, change}
 use Rattle.grid_model.specs.Stories.{story, phase, is_open, if_told}
 use Rattle.grid_model.specs.Schedules.{lost_at, losses}

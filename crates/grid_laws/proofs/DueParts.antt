@@ -13,7 +13,7 @@ use Rattle.grid_model.specs.declared.acts.Act.TheVariants as act
 use Rattle.grid_model.specs.declared.messages.Message.TheVariants as message
 use Rattle.grid_model.specs.declared.messages.Prepare.{Prepare}
 use Rattle.grid_model.specs.Documents.{DocumentData}
-use Rattle.grid_model.specs.Journals.{ended, holder, home_of, is_commit, newer, pending}
+use Rattle.journal_words.specs.Journals.{ended, holder, home_of, is_commit, newer, pending}
 use Rattle.grid_model.specs.Nodes.{node, journal}
 use Rattle.grid_model.specs.Views.{View}
 use Rattle.grid_model.specs.Advances.{to_node}

@@ -16,9 +16,9 @@ use Rattle.grid_model.specs.declared.events.Out.TheVariants as out
 use Rattle.grid_model.specs.declared.messages.Message.TheVariants as message
 use Rattle.grid_model.specs.declared.messages.ReadReq.{ReadReq}
 use Rattle.grid_model.specs.declared.stories.HeldRead.{HeldRead}
-use Rattle.grid_model.specs.declared.versions.Version.{Version}
+use Rattle.journal_words.specs.declared.versions.Version.{Version}
 use Rattle.grid_model.specs.Documents.{DocumentData}
-use Rattle.grid_model.specs.Journals.{applied, applied_of, best, commits, commit_id, floor, greatest, is_clear, up_to, version_at}
+use Rattle.journal_words.specs.Journals.{applied, applied_of, best, commits, commit_id, floor, greatest, is_clear, up_to, version_at}
 use Rattle.grid_model.specs.Nodes.{node, journal}
 use Rattle.grid_model.specs.Views.{View}
 use Rattle.grid_model.specs.Rows.{served, release, ceiling_of, raises, answered, read_row, version_for}

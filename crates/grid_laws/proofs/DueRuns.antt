@@ -16,7 +16,7 @@ use Rattle.grid_model.specs.declared.messages.Envelope.{Envelope}
 use Rattle.grid_model.specs.declared.stories.Story.{Story}
 use Rattle.grid_model.specs.Documents.{DocumentData}
 use Rattle.grid_model.specs.Histories.{sent, sent_at}
-use Rattle.grid_model.specs.Nodes.{node, script_of}
+use Rattle.grid_model.specs.Nodes.{node, script_of, journal}
 use Rattle.grid_model.specs.Stories.{story}
 use Rattle.grid_model.specs.Views.{view, stage}
 use Rattle.grid_model.specs.Rows.{answer, begin_outs, retry_row, ask_outs}
@@ -28,8 +28,7 @@ use Rattle.grid_laws.proofs.DueParts.{due-ask}
 use Rattle.grid_laws.proofs.DueHomes.{ReadersAnswered, due-begin, due-retry}
 use Rattle.grid_laws.proofs.DueAnswers.{due-answer}
 use Rattle.grid_laws.proofs.DueLosses.{due-losses}
-use Rattle.grid_model.specs.Journals.{decision}
-use Rattle.grid_model.specs.Nodes.{journal}
+use Rattle.journal_words.specs.Journals.{decision}
 
 -- ---- rows
 

@@ -18,11 +18,11 @@ use Rattle.grid_model.specs.declared.acts.Head.TheVariants as head
 use Rattle.grid_model.specs.declared.messages.Envelope.{Envelope}
 use Rattle.grid_model.specs.declared.messages.Message.TheVariants as message
 use Rattle.grid_model.specs.Documents.{DocumentData}
-use Rattle.grid_model.specs.Journals.{ended, fits_outcome, pending}
+use Rattle.journal_words.specs.Journals.{ended, fits_outcome, pending, has_commit}
 use Rattle.grid_model.specs.Nodes.{got, node, journal, record_of}
-use Rattle.grid_model.specs.Facts.{IsDecided, Says, MeansNever, has_commit, is_given_up, is_over, parts_at}
-use Rattle.grid_model.proofs.Once.{pending-prepared, ended-over}
-use Rattle.grid_model.proofs.Stands.{has_commit-says}
+use Rattle.grid_model.specs.Facts.{IsDecided, Says, MeansNever, is_given_up, is_over, parts_at}
+use Rattle.journal_words.proofs.Once.{pending-prepared, ended-over}
+use Rattle.journal_words.proofs.Stands.{has_commit-says}
 use Rattle.grid_laws.proofs.Causes.{AllDue, EndedDue, RecordDue}
 use Rattle.grid_laws.proofs.NodesFitActs.{nodes-fit, prepared-is}
 use Rattle.grid_laws.proofs.MessagesBacked.{decided-more, says-more, says-due}

@@ -14,9 +14,11 @@ use Rattle.grid_model.specs.declared.acts.Head.TheVariants as head
 use Rattle.grid_model.specs.declared.stories.Story.{Story}
 use Rattle.grid_model.specs.Documents.{DocumentData}
 use Rattle.grid_model.specs.Nodes.{script_of}
-use Rattle.grid_model.specs.Stories.{first_sid, story, waiting}
+use Rattle.grid_model.specs.Stories.{first_sid, story}
+use Rattle.script_runs.specs.Waits.{waiting}
 use Rattle.grid_model.specs.Copies.{is_finished}
-use Rattle.grid_model.specs.Facts.{IsDecided, has_decided}
+use Rattle.grid_model.specs.Facts.{IsDecided}
+use Rattle.journal_words.specs.Journals.{has_decided}
 use Rattle.grid_laws.proofs.Frames.{same-number}
 use Rattle.grid_laws.proofs.Causes.{AllDue, FinishedDue, RecordDue, by_decision, by_reads}
 use Rattle.grid_laws.proofs.DueAnswers.{home-is, journal-decided}

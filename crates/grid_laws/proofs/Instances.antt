@@ -14,12 +14,12 @@ use Rattle.grid_model.specs.Documents.{DocumentData, events_of}
 use Rattle.grid_model.specs.Fitness.{is_fit}
 use Rattle.grid_model.specs.Histories.{after, sent, sent_at}
 use Rattle.grid_model.specs.Views.{view}
-use Rattle.grid_model.specs.Journals.{is_locking, commit_id, prepared_of, floor, is_clear, all_fit}
+use Rattle.journal_words.specs.Journals.{is_locking, commit_id, prepared_of, floor, is_clear, all_fit, has_prepared, has_decided, has_commit, are_apart}
 use Rattle.grid_model.specs.Nodes.{journal}
 use Rattle.grid_model.specs.Excuses.{has_sent}
 use Rattle.grid_model.specs.Copies.{snapshot}
-use Rattle.grid_model.specs.Facts.{has_prepared, has_decided, has_commit, has_served, is_given_up, is_over, are_apart}
-use Rattle.grid_model.proofs.Plays.{a}
+use Rattle.grid_model.specs.Facts.{has_served, is_given_up, is_over}
+use Rattle.journal_words.proofs.TwoNodes.{a}
 use Rattle.grid_model.proofs.TransferActs.{asks}
 use Rattle.grid_model.proofs.RunsThatCommit.{read_then_write, read_then_write_acts}
 use Rattle.grid_model.proofs.RunsWithReads.{ceiling_after_crash, ceiling_after_crash_acts, held_read, held_read_front}

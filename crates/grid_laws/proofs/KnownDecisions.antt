@@ -14,10 +14,9 @@ use Rattle.grid_model.specs.declared.acts.Head.{Head}
 use Rattle.grid_model.specs.declared.acts.Head.TheVariants as head
 use Rattle.grid_model.specs.declared.messages.Envelope.{Envelope}
 use Rattle.grid_model.specs.Documents.{DocumentData}
-use Rattle.grid_model.specs.Journals.{decision}
+use Rattle.journal_words.specs.Journals.{decision, has_decided}
 use Rattle.grid_model.specs.Nodes.{Node, Change, Nothing, Writes, Raises, Holds, Frees, Stops, Starts, Stays, change, changed, doubt_of, freed, got, is_home, is_request, parts_in, prepared_by, said_by, script_of, where_at, written}
-use Rattle.grid_model.specs.Copies.{decisions}
-use Rattle.grid_model.specs.Facts.{has_decided}
+use Rattle.journal_words.specs.Orders.{decisions}
 use Rattle.grid_model.proofs.DecisionsKept.{is_decided_in}
 use Rattle.grid_laws.proofs.Causes.{IsDue, RecordDue, StopDue}
 use Rattle.grid_laws.proofs.DueAnswers.{home-is}

@@ -22,7 +22,7 @@ use Rattle.grid_model.specs.declared.stories.Story.{Story}
 use Rattle.grid_model.specs.declared.stories.Voted.{Voted}
 use Rattle.grid_model.specs.Documents.{DocumentData}
 use Rattle.grid_model.specs.Histories.{sent, sent_at}
-use Rattle.grid_model.specs.Journals.{floor, Decision, decision}
+use Rattle.journal_words.specs.Journals.{floor, Decision, decision}
 use Rattle.grid_model.specs.Nodes.{got, node, script_of, parts_in, parts_of, is_home, Node, Change, Nothing, Writes, Raises, Holds, Frees, Stops, Starts, Stays, change, changed, found, learnt, prepared_by, prepared_from, doubt_of, freed, is_request, said_by, held_by, is_kept, where_at}
 use Rattle.grid_model.specs.Stories.{Phase, story, asked, heard, heard_at, if_told, first_sid, with_vote, with_ack, has_voted, with_value, begun}
 use Rattle.grid_model.specs.Acts.{EachAct}

@@ -21,11 +21,13 @@ use Rattle.grid_model.specs.declared.messages.ReadReq.{ReadReq}
 use Rattle.grid_model.specs.declared.stories.HeldRead.{HeldRead}
 use Rattle.grid_model.specs.declared.stories.Story.{Story}
 use Rattle.grid_model.specs.Documents.{DocumentData}
-use Rattle.grid_model.specs.Journals.{Decision, commit_id, ended, floor, home_of, is_clear, is_commit, pending, undone}
+use Rattle.journal_words.specs.Journals.{Decision, commit_id, ended, floor, home_of, is_clear, is_commit, pending, undone}
 use Rattle.grid_model.specs.Nodes.{got, held_by, with_held, node, journal, script_of, parts_of}
-use Rattle.grid_model.specs.Stories.{story, waiting}
+use Rattle.grid_model.specs.Stories.{story}
+use Rattle.script_runs.specs.Waits.{waiting}
 use Rattle.grid_model.specs.Views.{Apart, view, stage, open_of}
-use Rattle.grid_model.specs.Advances.{op_at, date_by, prepare_for}
+use Rattle.script_runs.specs.Walks.{op_at}
+use Rattle.grid_model.specs.Advances.{date_by, prepare_for}
 use Rattle.grid_model.specs.Fitness.{is_fit_request, is_fit_prepare}
 use Rattle.grid_model.specs.Rows.{dated, version_for}
 use Rattle.grid_model.specs.Facts.{is_given_up}

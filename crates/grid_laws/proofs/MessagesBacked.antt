@@ -19,15 +19,15 @@ use Rattle.grid_model.specs.declared.acts.Act.TheVariants as act
 use Rattle.grid_model.specs.declared.messages.Message.{Message}
 use Rattle.grid_model.specs.declared.messages.Message.TheVariants as message
 use Rattle.grid_model.specs.Documents.{DocumentData}
-use Rattle.grid_model.specs.Journals.{decision, pending}
+use Rattle.journal_words.specs.Journals.{decision, pending, has_prepared, has_decided, has_commit}
 use Rattle.grid_model.specs.Nodes.{node, journal}
 use Rattle.grid_model.specs.Acts.{EachSent, has_refused, is_same_cause}
-use Rattle.grid_model.specs.Facts.{has_prepared, has_decided, has_commit, has_served, Says, MessagesBacked}
+use Rattle.grid_model.specs.Facts.{has_served, Says, MessagesBacked}
 use Rattle.grid_laws.proofs.Causes.{SendDue, AllDue}
 use Rattle.grid_laws.proofs.Frames.{same-number, journal-more}
-use Rattle.grid_model.proofs.KeyLists.{same_key-self}
-use Rattle.grid_model.proofs.Decisions.{has_decided-grows, decision-has}
-use Rattle.grid_model.proofs.Stands.{has_prepared-grows, has_commit-grows, has_commit-is}
+use Rattle.script_lang.proofs.KeyLists.{same_key-self}
+use Rattle.journal_words.proofs.Decisions.{has_decided-grows, decision-has}
+use Rattle.journal_words.proofs.Stands.{has_prepared-grows, has_commit-grows, has_commit-is}
 use Rattle.grid_laws.proofs.NodesFit.{IsFitNode}
 use Rattle.grid_laws.proofs.NodesFitActs.{decision-home, undone-decision, nodes-fit}
 

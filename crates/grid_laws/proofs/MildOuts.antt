@@ -29,9 +29,10 @@ use Rattle.grid_model.specs.declared.messages.Message.{Message}
 use Rattle.grid_model.specs.declared.messages.Message.TheVariants as message
 use Rattle.grid_model.specs.declared.messages.ReadReq.{ReadReq}
 use Rattle.grid_model.specs.declared.stories.HeldRead.{HeldRead}
-use Rattle.grid_model.specs.Journals.{ended, is_commit, pending, home_of}
+use Rattle.journal_words.specs.Journals.{ended, is_commit, pending, home_of}
 use Rattle.grid_model.specs.Views.{Stage, View, Open, Reads, Collects, Commits, Apart}
-use Rattle.grid_model.specs.Advances.{advance_end, parts_now, prepares, request_of, to_node, op_at}
+use Rattle.grid_model.specs.Advances.{advance_end, parts_now, prepares, request_of, to_node}
+use Rattle.script_runs.specs.Walks.{op_at}
 use Rattle.grid_model.specs.Rows.{greatest_vote, have_voted, not_voted, not_among, ack_row, ask_outs, ask_row, ballot_row, commit_row, abort_row, decides, freed_by, full_row, read_row, release, retry_row, tell_outs, tells, vote_row}
 
 -- an act that begins nothing, takes no reply, shows no own read and proposes nothing (as a stop may)

@@ -11,12 +11,12 @@ use Rattle.score_base.specs.declared.records.Record.{Record}
 use Rattle.score_base.specs.declared.records.Record.TheVariants as record'
 use Rattle.script_lang.specs.Scripts.{ScriptData}
 use Rattle.grid_model.specs.Documents.{DocumentData}
-use Rattle.grid_model.specs.Journals.{fits, all_fit, floor, is_above}
+use Rattle.journal_words.specs.Journals.{fits, all_fit, floor, is_above}
 use Rattle.grid_model.specs.Nodes.{script_of, is_home, is_home_in, Node, Change, Nothing, Writes, Raises, Holds, Frees, Stops, Starts, Stays, where_at, changed, learnt, found}
 use Rattle.grid_model.specs.Facts.{parts_at}
 use Rattle.grid_laws.proofs.Frames.{at-self}
-use Rattle.grid_model.proofs.Floors.{floor-above, above-higher}
-use Rattle.grid_model.proofs.Pendings.{is_over}
+use Rattle.journal_words.proofs.Floors.{floor-above, above-higher}
+use Rattle.journal_words.proofs.Pendings.{is_over}
 
 -- ---- an act at a node
 

@@ -16,7 +16,7 @@ use Rattle.grid_model.specs.declared.acts.Head.{Head}
 use Rattle.grid_model.specs.declared.acts.Head.TheVariants as head
 use Rattle.grid_model.specs.declared.messages.Prepare.{Prepare}
 use Rattle.grid_model.specs.Documents.{DocumentData}
-use Rattle.grid_model.specs.Journals.{Prepared, Decision, decision, is_closed, are_lists, ended, fits, all_fit, floor, pending, prepared_of, undone}
+use Rattle.journal_words.specs.Journals.{Prepared, Decision, decision, is_closed, are_lists, ended, fits, all_fit, floor, pending, prepared_of, undone}
 use Rattle.grid_model.specs.Nodes.{got, node, journal, script_of, parts_in, is_home, Node, Change, Writes, Raises, Holds, Stops, Starts, Stays, change, prepared_by, doubt_of, record_of, freed, is_request, said_by, held_by, is_kept}
 use Rattle.grid_model.specs.Facts.{parts_at}
 use Rattle.grid_model.specs.Fitness.{is_fit_prepare}
@@ -25,9 +25,9 @@ use Rattle.grid_laws.proofs.Causes.{IsUp, PreparedDue, ClosedDue, RecordDue, Sto
 use Rattle.grid_laws.proofs.Stages.{stage-commits}
 use Rattle.grid_laws.proofs.DueReads.{ceiling-above}
 use Rattle.grid_laws.proofs.DueAnswers.{home-is}
-use Rattle.grid_model.proofs.Fits.{fits-prepared}
-use Rattle.grid_model.proofs.Floors.{above-higher}
-use Rattle.grid_model.proofs.Once.{running-pending}
+use Rattle.journal_words.proofs.Fits.{fits-prepared}
+use Rattle.journal_words.proofs.Floors.{above-higher}
+use Rattle.journal_words.proofs.Once.{running-pending}
 use Rattle.grid_laws.proofs.NodesFit.{at-node, at-home, FitsDoubt, AllAtHome, DoubtAtHome, OverDoubt, IsFitNode, FitChange, fit-changed}
 
 -- ---- what a Decided that stands says

@@ -11,12 +11,12 @@ use Rattle.grid_model.specs.declared.messages.Message.{Message}
 use Rattle.grid_model.specs.declared.messages.Message.TheVariants as message
 use Rattle.grid_model.specs.Documents.{DocumentData}
 use Rattle.grid_model.specs.Histories.{sent, sent_at}
-use Rattle.grid_model.specs.Journals.{decision, ended, is_closed}
+use Rattle.journal_words.specs.Journals.{decision, ended, is_closed}
 use Rattle.grid_model.specs.Nodes.{journal, node, script_of}
 use Rattle.grid_model.specs.Stories.{is_open, phase, story}
 use Rattle.grid_model.specs.Facts.{IsDecided, is_given_up}
-use Rattle.grid_model.proofs.Decisions.{closed-decided, decision-has, has_decided-says}
-use Rattle.grid_model.proofs.Stands.{has_commit-says}
+use Rattle.journal_words.proofs.Decisions.{closed-decided, decision-has, has_decided-says}
+use Rattle.journal_words.proofs.Stands.{has_commit-says}
 use Rattle.grid_model.proofs.Undecided.{script-number}
 use Rattle.grid_laws.proofs.Causes.{AbortDue, AllDue, SendDue, apart, given_up}
 use Rattle.grid_laws.proofs.NodesFitActs.{decision-home, nodes-fit}

@@ -1,11 +1,12 @@
 -- What an open phase says of its story and of the journal of the home, and what leaves it open.
 use Rattle.std.proofs.Common.{◌≡◌, ℕ, Bool, true, false, List, Option, Some, None, refl, arith}
-use Rattle.grid_model.specs.Journals.{Decision, decision, is_closed}
+use Rattle.journal_words.specs.Journals.{Decision, decision, is_closed}
 use Rattle.script_lang.specs.declared.scripts.Op.{Op}
 use Rattle.script_lang.specs.Scripts.{ScriptData}
 use Rattle.grid_model.specs.declared.stories.Story.{Story}
 use Rattle.grid_model.specs.Nodes.{Node}
-use Rattle.grid_model.specs.Stories.{Answered, phase_by, phase_at, is_open, open_phase, waiting, begun, with_value}
+use Rattle.grid_model.specs.Stories.{Answered, phase_by, phase_at, is_open, open_phase, begun, with_value}
+use Rattle.script_runs.specs.Waits.{waiting}
 use Rattle.script_lang.specs.Reads.{is_update}
 use Rattle.std.specs.Prelude.{◌&&◌, not, if◌then◌else◌}
 

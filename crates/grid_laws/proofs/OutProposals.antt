@@ -17,10 +17,12 @@ use Rattle.grid_model.specs.declared.events.Out.TheVariants as out
 use Rattle.grid_model.specs.declared.messages.Message.{Message}
 use Rattle.grid_model.specs.declared.messages.Message.TheVariants as message
 use Rattle.grid_model.specs.declared.messages.ReadRep.{ReadRep}
-use Rattle.grid_model.specs.Journals.{commit_id}
-use Rattle.grid_model.specs.Stories.{first_sid, waiting}
+use Rattle.journal_words.specs.Journals.{commit_id}
+use Rattle.grid_model.specs.Stories.{first_sid}
+use Rattle.script_runs.specs.Waits.{waiting}
 use Rattle.grid_model.specs.Views.{stage, Stage, View, Open, Reads, Collects, Commits, Apart}
-use Rattle.grid_model.specs.Advances.{advance, advance_end, own_reads, owns, unread}
+use Rattle.grid_model.specs.Advances.{advance, advance_end, owns}
+use Rattle.script_runs.specs.Walks.{own_reads, unread}
 use Rattle.grid_model.specs.Fitness.{is_fit_at, tx_in}
 use Rattle.grid_model.specs.Rows.{ack_row, answer, ask_outs, ask_row, begin_outs, begun_at, judged, prepare_row, reply_row, retry_row, row_of, tell_outs, vote_row}
 use Rattle.grid_model.specs.Schedules.{broken, kept, numbered}

@@ -13,11 +13,11 @@ use Rattle.script_lang.specs.declared.scripts.Op.TheVariants as op
 use Rattle.script_lang.specs.Scripts.{ScriptData}
 use Rattle.script_lang.specs.Reads.{is_key_among, keys_named, keys_of, distinct_keys, remote_keys, written_keys, key_of}
 use Rattle.placement.specs.Places.{is_among, holds, is_partition, key_sum}
-use Rattle.grid_model.specs.Advances.{op_at}
+use Rattle.script_runs.specs.Walks.{op_at}
 use Rattle.grid_model.specs.Documents.{DocumentData, IsOne}
 use Rattle.grid_model.specs.Nodes.{script_of, parts_in, parts_of}
 use Rattle.grid_model.specs.Facts.{parts_at}
-use Rattle.grid_model.proofs.KeyLists.{same_key-is, same_key-self}
+use Rattle.script_lang.proofs.KeyLists.{same_key-is, same_key-self}
 use Rattle.grid_laws.proofs.NodesNumbered.{holder-least, holder-most}
 
 -- ---- a key has a holder

@@ -19,11 +19,12 @@ use Rattle.grid_model.specs.declared.messages.Message.TheVariants as message
 use Rattle.grid_model.specs.declared.messages.Prepare.{Prepare}
 use Rattle.grid_model.specs.Documents.{DocumentData, IsOne, is_body}
 use Rattle.grid_model.specs.Histories.{sent, sent_at}
-use Rattle.grid_model.specs.Journals.{are_distinct_keys, are_own_keys, keys_in}
+use Rattle.journal_words.specs.Journals.{are_distinct_keys, are_own_keys, keys_in}
 use Rattle.grid_model.specs.Nodes.{script_of}
 use Rattle.grid_model.specs.Stories.{is_small}
 use Rattle.grid_model.specs.Views.{Open, open_of}
-use Rattle.grid_model.specs.Advances.{own_map, parts_now, prepare_for}
+use Rattle.script_runs.specs.Walks.{own_map}
+use Rattle.grid_model.specs.Advances.{parts_now, prepare_for}
 use Rattle.grid_model.specs.Fitness.{is_fit_prepare, is_rising}
 use Rattle.grid_model.proofs.Written.{with_values, with_values-keys}
 use Rattle.grid_laws.proofs.Causes.{AllDue, SendDue, PrepareDue}

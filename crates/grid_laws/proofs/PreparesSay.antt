@@ -19,7 +19,7 @@ use Rattle.grid_model.specs.declared.messages.Message.{Message}
 use Rattle.grid_model.specs.declared.messages.Message.TheVariants as message
 use Rattle.grid_model.specs.declared.messages.Prepare.{Prepare}
 use Rattle.grid_model.specs.Documents.{DocumentData}
-use Rattle.grid_model.specs.Journals.{Prepared, older, prepared_of}
+use Rattle.journal_words.specs.Journals.{Prepared, older, prepared_of}
 use Rattle.grid_model.specs.Nodes.{got, node, parts_of, record_of}
 use Rattle.grid_model.specs.Stories.{first_sid}
 use Rattle.grid_model.specs.Views.{Open}

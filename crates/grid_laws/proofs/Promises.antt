@@ -17,14 +17,14 @@ use Rattle.grid_model.specs.declared.messages.Message.{Message}
 use Rattle.grid_model.specs.declared.messages.Message.TheVariants as message
 use Rattle.grid_model.specs.declared.stories.HeldRead.{HeldRead}
 use Rattle.grid_model.specs.Documents.{DocumentData}
-use Rattle.grid_model.specs.Journals.{all_fit, commit_id, floor, is_clear}
+use Rattle.journal_words.specs.Journals.{all_fit, commit_id, floor, is_clear}
 use Rattle.grid_model.specs.Nodes.{got, held_by, held_from, with_held, node, journal, Node, Change, Nothing, Writes, Raises, Holds, Frees, Stops, Starts, Stays, change, changed, learnt, found}
 use Rattle.grid_model.specs.Facts.{are_above, IsPromised, ServedPromised, HeldIsAbove, NeverHeldBelow}
 use Rattle.grid_laws.proofs.Causes.{AllDue, IsDue, IsIn, held_ever, ServeDue, MayServe, at_once, held, Covered, RecordDue}
 use Rattle.grid_laws.proofs.Frames.{in-append}
-use Rattle.grid_model.proofs.Floors.{floor-grows}
-use Rattle.grid_model.proofs.Pendings.{is_over, clear-more, clear-below}
-use Rattle.grid_model.proofs.Applied.{commit_id-clear}
+use Rattle.journal_words.proofs.Floors.{floor-grows}
+use Rattle.journal_words.proofs.Pendings.{is_over, clear-more, clear-below}
+use Rattle.journal_words.proofs.Applied.{commit_id-clear}
 use Rattle.grid_laws.proofs.NodesFit.{FitChange, OverDoubt}
 use Rattle.grid_laws.proofs.NodesFitActs.{nodes-fit, fit-change}
 

@@ -15,9 +15,9 @@ use Rattle.grid_model.specs.declared.messages.ReadRep.{ReadRep}
 use Rattle.grid_model.specs.declared.stories.HeldRead.{HeldRead}
 use Rattle.grid_model.specs.Documents.{DocumentData}
 use Rattle.grid_model.specs.Histories.{sent, sent_at}
-use Rattle.grid_model.specs.Journals.{commit_id}
+use Rattle.journal_words.specs.Journals.{commit_id}
 use Rattle.grid_model.specs.Nodes.{got, held_by, held_from, with_held, journal, script_of}
-use Rattle.grid_model.specs.Stories.{waiting}
+use Rattle.script_runs.specs.Waits.{waiting}
 use Rattle.grid_model.specs.Advances.{date_by}
 use Rattle.grid_model.specs.Rows.{dated}
 use Rattle.grid_laws.proofs.Causes.{AllDue, IsDue, IsIn, SendDue, RequestDue, Requested, ReplyDue, MayServe, at_once, held, held_ever}

@@ -13,10 +13,10 @@ use Rattle.grid_model.specs.declared.messages.Message.TheVariants as message
 use Rattle.grid_model.specs.declared.messages.ReadRep.{ReadRep}
 use Rattle.grid_model.specs.Documents.{DocumentData}
 use Rattle.grid_model.specs.Histories.{sent, sent_at}
-use Rattle.grid_model.specs.Stories.{value_taken, waiting}
+use Rattle.script_runs.specs.Waits.{value_taken, waiting}
 use Rattle.grid_model.specs.Views.{Open, Stage, Apart, Reads, Collects, Commits, view, stage}
 use Rattle.grid_model.specs.Fitness.{is_same_ident, is_fit_reply}
-use Rattle.grid_model.proofs.Walks.{waiting-open}
+use Rattle.script_runs.proofs.Walks.{waiting-open}
 use Rattle.grid_laws.proofs.Causes.{AllDue}
 use Rattle.grid_laws.proofs.Stages.{Opens, opens-reads}
 use Rattle.grid_laws.proofs.Snapshots.{HasFirst, snapshot-of, story-step}

@@ -15,7 +15,7 @@ use Rattle.grid_model.specs.Histories.{sent, sent_at}
 use Rattle.grid_model.specs.Stories.{is_small}
 use Rattle.grid_model.specs.Views.{view}
 use Rattle.grid_model.specs.Fitness.{is_fit_request, date_ident}
-use Rattle.grid_model.proofs.Walks.{waiting-open}
+use Rattle.script_runs.proofs.Walks.{waiting-open}
 use Rattle.grid_laws.proofs.Causes.{AllDue, SendDue, RequestDue}
 use Rattle.grid_laws.proofs.Holds.{sent-hold}
 use Rattle.grid_laws.proofs.PreparesFit.{body-most}

@@ -9,11 +9,10 @@ use Rattle.grid_model.specs.Documents.{DocumentData}
 use Rattle.grid_model.specs.Histories.{after}
 use Rattle.grid_model.specs.Schedules.{row, start_row, events_in}
 use Rattle.grid_model.specs.Runs.{Rows, IsRun}
-use Rattle.grid_model.specs.Journals.{Decision, decision}
+use Rattle.journal_words.specs.Journals.{Decision, decision, has_decided}
 use Rattle.grid_model.specs.Nodes.{journal}
 use Rattle.grid_model.specs.Stories.{story}
-use Rattle.grid_model.specs.Facts.{has_decided}
-use Rattle.grid_model.proofs.Decisions.{decision-has}
+use Rattle.journal_words.proofs.Decisions.{decision-has}
 use Rattle.grid_laws.proofs.CalmOuts.{calm-starts}
 use Rattle.grid_laws.proofs.Causes.{AllDue}
 use Rattle.grid_laws.proofs.DueActs.{after-append, all-after}

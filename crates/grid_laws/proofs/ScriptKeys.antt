@@ -8,8 +8,8 @@ use Rattle.score_base.specs.Keys.{same_key}
 use Rattle.script_lang.specs.declared.scripts.Op.{Op}
 use Rattle.script_lang.specs.declared.scripts.Op.TheVariants as op
 use Rattle.script_lang.specs.Reads.{is_key_among, keys_named, keys_of, distinct_keys, remote_keys, written_keys}
-use Rattle.grid_model.specs.Journals.{are_distinct_keys}
-use Rattle.grid_model.proofs.KeyLists.{same_key-is, among-here, among-later}
+use Rattle.journal_words.specs.Journals.{are_distinct_keys}
+use Rattle.script_lang.proofs.KeyLists.{same_key-is, among-here, among-later}
 use Rattle.grid_model.proofs.Written.{among-filter}
 
 -- ---- how long the lists are

@@ -9,7 +9,7 @@ use Rattle.grid_model.specs.declared.items.Item.{Item}
 use Rattle.grid_model.specs.declared.messages.Envelope.{Envelope}
 use Rattle.grid_model.specs.Documents.{DocumentData, events_of}
 use Rattle.grid_model.specs.Histories.{after, sent, sent_at}
-use Rattle.grid_model.specs.Journals.{floor}
+use Rattle.journal_words.specs.Journals.{floor}
 use Rattle.grid_model.specs.Nodes.{node, journal}
 use Rattle.grid_model.specs.Stories.{is_small, is_small_node}
 use Rattle.grid_model.specs.Runs.{IsRun}

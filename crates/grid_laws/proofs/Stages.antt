@@ -15,9 +15,10 @@ use Rattle.grid_model.specs.declared.messages.Message.TheVariants as message
 use Rattle.grid_model.specs.declared.stories.Story.{Story}
 use Rattle.grid_model.specs.Documents.{DocumentData}
 use Rattle.grid_model.specs.Histories.{sent, sent_at}
-use Rattle.grid_model.specs.Journals.{Decision, undone}
+use Rattle.journal_words.specs.Journals.{Decision, undone}
 use Rattle.grid_model.specs.Nodes.{Node, node, script_of}
-use Rattle.grid_model.specs.Stories.{phase_at, is_open, story, waiting, heard_at}
+use Rattle.grid_model.specs.Stories.{phase_at, is_open, story, heard_at}
+use Rattle.script_runs.specs.Waits.{waiting}
 use Rattle.grid_model.specs.Views.{Open, Reads, Collects, Commits, open_of, open_by, open_at, open_stage, stage_by, stage, view}
 use Rattle.grid_laws.proofs.Causes.{AtHome}
 

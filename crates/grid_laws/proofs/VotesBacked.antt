@@ -21,7 +21,8 @@ use Rattle.grid_model.specs.Documents.{DocumentData}
 use Rattle.grid_model.specs.Histories.{sent, sent_at}
 use Rattle.grid_model.specs.Nodes.{Node, node, journal, script_of, parts_of, is_home}
 use Rattle.grid_model.specs.Stories.{Phase, Unbegun, Lost, Closed, Decided, Aborted, Answered, Reading, Collecting, story, asked, heard, heard_at, if_told, phase_at, with_vote, with_ack, has_voted, is_counted_vote, is_counted_ack, begun}
-use Rattle.grid_model.specs.Facts.{has_prepared, has_commit, parts_at, Says}
+use Rattle.journal_words.specs.Journals.{has_prepared, has_commit}
+use Rattle.grid_model.specs.Facts.{parts_at, Says}
 use Rattle.grid_model.specs.Rows.{greatest_vote, have_voted, are_all_among}
 use Rattle.grid_model.proofs.Undecided.{script-number}
 use Rattle.grid_laws.proofs.Causes.{AllDue}

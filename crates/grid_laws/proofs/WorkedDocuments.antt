@@ -8,7 +8,7 @@ use Rattle.placement.specs.Clusters.{ClusterData, IsCluster, are_keys_distinct}
 use Rattle.grid_model.specs.declared.acts.Act.{Act}
 use Rattle.grid_model.specs.Documents.{DocumentData, IsOne, script_numbers, are_numbers_distinct, key_order, keys_in, is_item, events_of, is_body, are_numbered}
 use Rattle.grid_model.specs.Runs.{IsRun}
-use Rattle.grid_model.proofs.Plays.{two_nodes}
+use Rattle.journal_words.proofs.TwoNodes.{two_nodes}
 use Rattle.grid_model.proofs.RunsThatCommit.{read_then_write, read_then_write_acts, read_then_write-lawful}
 use Rattle.grid_model.proofs.RunsWithReads.{equal_finals, equal_finals_acts, equal_finals-lawful, held_read, held_read_acts, held_read-lawful, ceiling_after_crash, ceiling_after_crash_acts, ceiling_after_crash-lawful}
 use Rattle.grid_model.proofs.RunsWithConflicts.{write_conflict, write_conflict_acts, write_conflict-lawful, stale_read_refused, stale_read_refused_acts, stale_read_refused-lawful}

@@ -4,7 +4,7 @@ ghost use Rattle.score_base.specs.declared.ids.NodeId.{NodeId};
 ghost use Rattle.grid_model.specs.declared.acts.Act.{Act};
 ghost use Rattle.grid_model.specs.Documents.{DocumentData, IsOne, events_of};
 ghost use Rattle.grid_model.specs.Histories.{after};
-ghost use Rattle.grid_model.specs.Journals.{all_fit};
+ghost use Rattle.journal_words.specs.Journals.{all_fit};
 ghost use Rattle.grid_model.specs.Nodes.{journal};
 ghost use Rattle.grid_model.specs.Runs.{IsRun};
 ghost use Rattle.grid_model.specs.Facts.{

@@ -20,7 +20,7 @@ use Rattle.grid_model.specs.declared.stories.Story.{Story}
 use Rattle.grid_model.specs.Documents.{DocumentData}
 use Rattle.grid_model.specs.Histories.{after, sent, sent_at}
 use Rattle.grid_model.proofs.PlainOuts.{both}
-use Rattle.grid_model.specs.Journals.{Decision, decision, undone, is_closed}
+use Rattle.journal_words.specs.Journals.{Decision, decision, undone, is_closed}
 use Rattle.grid_model.specs.Nodes.{Node, Change, Writes, Starts, Stops, node, journal, script_of, parts_of, is_home, got, change, changed, where_at, written, prepared_by, freed, parts_in, is_request, said_by}
 use Rattle.grid_model.specs.Stories.{Phase, story, told, begun, heard, heard_at, if_told, phase_at, with_vote, with_ack, with_value, with_request, without_answers}
 use Rattle.grid_model.specs.NextViews.{OwnDecisions, is_own_decision, is_running}

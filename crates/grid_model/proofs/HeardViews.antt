@@ -19,10 +19,11 @@ use Rattle.grid_model.specs.declared.messages.Message.TheVariants as message
 use Rattle.grid_model.specs.declared.stories.Story.{Story}
 use Rattle.grid_model.specs.Documents.{DocumentData}
 use Rattle.grid_model.specs.Histories.{sent, sent_at}
-use Rattle.grid_model.specs.Journals.{Decision, decision, is_closed, undone}
+use Rattle.journal_words.specs.Journals.{Decision, decision, is_closed, undone}
 use Rattle.grid_model.specs.Nodes.{Node, node, script_of, parts_of, is_home_in}
 use Rattle.grid_model.specs.Advances.{parts_now}
-use Rattle.grid_model.specs.Stories.{Decided, open_phase, waiting, is_collecting, is_part, story, heard, heard_at, if_told, phase_by, phase_at, is_small_node, is_fit_ballot, is_counted_vote, with_vote, with_ack}
+use Rattle.grid_model.specs.Stories.{Decided, open_phase, is_collecting, is_part, story, heard, heard_at, if_told, phase_by, phase_at, is_small_node, is_fit_ballot, is_counted_vote, with_vote, with_ack}
+use Rattle.script_runs.specs.Waits.{waiting}
 use Rattle.grid_model.specs.Views.{Stage, Open, open_at, acks_by, acks_at, view, stage_by, open_stage}
 use Rattle.grid_model.specs.Fitness.{is_part_at}
 use Rattle.grid_model.specs.NextViews.{changed_open, with_yes, with_node, is_collects, is_commits, heard_view, OwnDecisions, is_running}

@@ -13,7 +13,8 @@ use Rattle.grid_model.proofs.TransferActs.{copy_script}
 use Rattle.grid_model.specs.Documents.{DocumentData}
 use Rattle.grid_model.specs.Histories.{after}
 use Rattle.grid_model.specs.Runs.{IsRun, Lawful, Explains, are_let, stops, as_number}
-use Rattle.grid_model.proofs.Plays.{two_nodes, usually, unopened, all_open, played-run}
+use Rattle.journal_words.proofs.TwoNodes.{two_nodes}
+use Rattle.grid_model.proofs.Plays.{usually, unopened, all_open, played-run}
 use Rattle.grid_model.proofs.Unarmed.{is_unarmed, unarmed-are_let, unstopped-explains, no_rise}
 use Rattle.grid_model.proofs.RunsThatStop.{stop_at_the_decision, one_vote, decision_gone_acts, decision_kept_acts, stop_at_the_decision-gone, stop_at_the_decision-kept, failing_device_call, failing_device_call_acts, failing_device_call-run, opening_fails, opening_fails_acts, opening_fails-run}
 

@@ -27,11 +27,13 @@ use Rattle.grid_model.specs.declared.messages.ReadRep.{ReadRep}
 use Rattle.grid_model.specs.declared.stories.HeldRead.{HeldRead}
 use Rattle.grid_model.specs.Documents.{DocumentData}
 use Rattle.grid_model.specs.Histories.{after, sent, sent_at}
-use Rattle.grid_model.specs.Journals.{Decision, commit_id, floor, is_clear, undone, pending, ended, is_commit, home_of, holder, newer}
+use Rattle.journal_words.specs.Journals.{Decision, commit_id, floor, is_clear, undone, pending, ended, is_commit, home_of, holder, newer}
 use Rattle.grid_model.specs.Nodes.{node, is_home, journal, script_of}
-use Rattle.grid_model.specs.Stories.{story, has_voted, first_sid, waiting}
+use Rattle.grid_model.specs.Stories.{story, has_voted, first_sid}
+use Rattle.script_runs.specs.Waits.{waiting}
 use Rattle.grid_model.specs.Views.{View, Open, Stage, Apart, Reads, Collects, Commits, view, stage, stage_by, open_stage}
-use Rattle.grid_model.specs.Advances.{advance, advance_end, request_of, to_node, prepares, prepare_for, date_by, owns, parts_now, own_reads, unread}
+use Rattle.grid_model.specs.Advances.{advance, advance_end, request_of, to_node, prepares, prepare_for, date_by, owns, parts_now}
+use Rattle.script_runs.specs.Walks.{own_reads, unread}
 use Rattle.grid_model.specs.Fitness.{is_fit, is_fit_at, tx_in}
 use Rattle.grid_model.specs.Rows.{release, served, ceiling_of, ceilings, raises, answered, read_row, version_for, dated, reply_row, prepare_row, tells, have_voted, decides, greatest_vote, ballot_row, vote_row, are_all_among, ack_row, ask_row, commit_row, abort_row, tell_outs, freed_by, row_of, answer, begin_outs, begun_at, retry_row, not_voted, not_among, ask_outs}
 use Rattle.grid_model.specs.Schedules.{numbered}

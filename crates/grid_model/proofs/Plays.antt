@@ -8,16 +8,15 @@ use Rattle.score_base.specs.declared.ids.Ident.{Ident}
 use Rattle.score_base.specs.declared.ids.Value.{Value}
 use Rattle.score_base.specs.declared.keys.Key.{Key}
 use Rattle.score_base.specs.declared.causes.Date.{Date}
-use Rattle.placement.specs.Clusters.{ClusterData}
+use Rattle.placement.specs.Clusters.{ClusterData, init}
 use Rattle.grid_model.specs.declared.acts.Act.{Act}
 use Rattle.grid_model.specs.declared.items.Item.{Item}
 use Rattle.grid_model.specs.declared.messages.Message.{Message}
 use Rattle.grid_model.specs.declared.messages.Message.TheVariants as message
 use Rattle.grid_model.specs.Documents.{DocumentData}
 use Rattle.grid_model.specs.Histories.{after}
-use Rattle.placement.specs.Clusters.{init}
-use Rattle.grid_model.specs.declared.versions.Version.{Version}
-use Rattle.grid_model.specs.Journals.{best, applied}
+use Rattle.journal_words.specs.declared.versions.Version.{Version}
+use Rattle.journal_words.specs.Journals.{best, applied}
 use Rattle.grid_model.specs.Nodes.{journal}
 use Rattle.grid_model.specs.Stories.{Phase, phase}
 use Rattle.grid_model.specs.Schedules.{Choice, row, start_row, events_in}
@@ -68,21 +67,6 @@ reply t op sid v = message.ReadRep (record { t = t; op = op; sid = sid; value = 
 
 abbrev pub prepare : TxId → Ident → List NodeId → List Key → List (Key × Value) → Message
 prepare t sid parts reads writes = message.Prepare (record { t = t; sid = sid; parts = parts; reads = reads; writes = writes })
-
--- ---- keys and the cluster of most examples
-
-abbrev pub a : Key
-a = 97 ∷ []
-
-abbrev pub b : Key
-b = 98 ∷ []
-
-abbrev pub c : Key
-c = 99 ∷ []
-
--- two nodes; `a` and `c` are on n2, `a` with the value 10, and `b` on n1
-abbrev pub two_nodes : ClusterData
-two_nodes = record { nodes = 2; places = (1 ∷ []) ∷ ((2 ∷ []) ∷ []); inits = (a, 10) ∷ ((b, 0) ∷ []) }
 
 -- ---- what is played is a run
 

@@ -21,7 +21,7 @@ use Rattle.grid_model.specs.declared.messages.Envelope.{Envelope}
 use Rattle.grid_model.specs.declared.stories.Story.{Story}
 use Rattle.grid_model.specs.Documents.{DocumentData, number_order, script_numbers}
 use Rattle.grid_model.specs.Histories.{after, sent, sent_at}
-use Rattle.grid_model.specs.Journals.{Decision, commit_id, decision, is_closed}
+use Rattle.journal_words.specs.Journals.{Decision, commit_id, decision, is_closed}
 use Rattle.grid_model.specs.Nodes.{Node, node, script_of, is_home}
 use Rattle.grid_model.specs.Stories.{story, phase, phase_by, is_open}
 use Rattle.grid_model.specs.Views.{View, Open, open_at, view, stage}

@@ -16,7 +16,8 @@ use Rattle.grid_model.specs.Documents.{DocumentData}
 use Rattle.grid_model.specs.Histories.{after}
 use Rattle.grid_model.specs.Runs.{Lawful}
 use Rattle.grid_model.specs.Stories.{Closed, Answered}
-use Rattle.grid_model.proofs.Plays.{a, b, c, usually, all_open, played-run, request, reply, prepare, phases, newest_at}
+use Rattle.journal_words.proofs.TwoNodes.{a, b, c}
+use Rattle.grid_model.proofs.Plays.{usually, all_open, played-run, request, reply, prepare, phases, newest_at}
 use Rattle.grid_model.proofs.Unarmed.{no_rise, calm-lawful}
 
 -- each node holds one key: `a` on n2, `c` on n1

@@ -16,7 +16,8 @@ use Rattle.grid_model.specs.Histories.{after}
 use Rattle.grid_model.specs.Runs.{IsRun, Lawful}
 use Rattle.grid_model.specs.Schedules.{Choice}
 use Rattle.grid_model.specs.Stories.{Unbegun, Lost, Closed, Decided, Reading}
-use Rattle.grid_model.proofs.Plays.{a, b, two_nodes, usual, broken, unfound, unopened, usually, all_open, played-run, request, prepare, phases}
+use Rattle.journal_words.proofs.TwoNodes.{a, b, two_nodes}
+use Rattle.grid_model.proofs.Plays.{usual, broken, unfound, unopened, usually, all_open, played-run, request, prepare, phases}
 use Rattle.grid_model.proofs.Unarmed.{no_rise, calm-lawful}
 use Rattle.grid_model.proofs.TransferActs.{copy_script, asks, votes}
 

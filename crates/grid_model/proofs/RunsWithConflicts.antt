@@ -15,7 +15,8 @@ use Rattle.grid_model.specs.Documents.{DocumentData}
 use Rattle.grid_model.specs.Histories.{after}
 use Rattle.grid_model.specs.Runs.{Lawful}
 use Rattle.grid_model.specs.Stories.{Closed, Decided, Aborted, Collecting}
-use Rattle.grid_model.proofs.Plays.{a, b, c, two_nodes, usually, all_open, played-run, request, reply, prepare, phases, newest_at}
+use Rattle.journal_words.proofs.TwoNodes.{a, b, c, two_nodes}
+use Rattle.grid_model.proofs.Plays.{usually, all_open, played-run, request, reply, prepare, phases, newest_at}
 use Rattle.grid_model.proofs.Unarmed.{no_rise, calm-lawful}
 
 -- two transactions write the same key at once

@@ -14,7 +14,8 @@ use Rattle.grid_model.specs.Documents.{DocumentData}
 use Rattle.grid_model.specs.Histories.{after}
 use Rattle.grid_model.specs.Runs.{Lawful}
 use Rattle.grid_model.specs.Stories.{Closed, Decided, Answered, Reading, Collecting}
-use Rattle.grid_model.proofs.Plays.{a, b, two_nodes, usually, all_open, played-run, request, reply, prepare, phases, newest_at}
+use Rattle.journal_words.proofs.TwoNodes.{a, b, two_nodes}
+use Rattle.grid_model.proofs.Plays.{usually, all_open, played-run, request, reply, prepare, phases, newest_at}
 use Rattle.grid_model.proofs.Unarmed.{no_rise, calm-lawful}
 use Rattle.grid_model.proofs.TransferActs.{copy_script, asks, votes, decides}
 

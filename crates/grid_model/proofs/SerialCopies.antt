@@ -11,15 +11,16 @@ use Rattle.script_lang.specs.Scripts.{ScriptData}
 use Rattle.script_lang.specs.Reads.{is_key_among, written_keys}
 use Rattle.placement.specs.Clusters.{init}
 use Rattle.grid_model.specs.Documents.{DocumentData}
-use Rattle.grid_model.specs.Serials.{Map, reads_on}
-use Rattle.grid_model.specs.Stories.{waiting}
+use Rattle.script_runs.specs.Serials.{Map, reads_on}
+use Rattle.script_runs.specs.Waits.{waiting}
 use Rattle.grid_model.specs.Nodes.{script_of}
-use Rattle.grid_model.specs.Advances.{own_map}
-use Rattle.grid_model.specs.Copies.{members_to, script_map, copy_of}
-use Rattle.grid_model.proofs.SerialWalks.{AreOf, reads-serial, map-serial}
-use Rattle.grid_model.proofs.AllReads.{reads_by}
-use Rattle.grid_model.proofs.Orders.{AllUpTo, AreFalling, has_member}
-use Rattle.grid_model.proofs.LastWrites.{value_or, last_written}
+use Rattle.script_runs.specs.Walks.{own_map}
+use Rattle.journal_words.specs.Orders.{members_to}
+use Rattle.grid_model.specs.Copies.{script_map, copy_of}
+use Rattle.script_runs.proofs.SerialWalks.{AreOf, reads-serial, map-serial}
+use Rattle.script_runs.proofs.AllReads.{reads_by}
+use Rattle.journal_words.proofs.Orders.{AllUpTo, AreFalling, has_member}
+use Rattle.journal_words.proofs.LastWrites.{value_or, last_written}
 
 -- ---- what each transaction wrote, by what it took
 

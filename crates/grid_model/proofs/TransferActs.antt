@@ -11,7 +11,8 @@ use Rattle.grid_model.specs.declared.acts.Act.{Act}
 use Rattle.grid_model.specs.declared.acts.Act.TheVariants as act
 use Rattle.grid_model.specs.declared.acts.Flag.TheVariants as flag
 use Rattle.grid_model.specs.declared.messages.Message.TheVariants as message
-use Rattle.grid_model.proofs.Plays.{a, b, request, reply, prepare}
+use Rattle.journal_words.proofs.TwoNodes.{a, b}
+use Rattle.grid_model.proofs.Plays.{request, reply, prepare}
 
 -- the transaction: its home is n1
 abbrev pub copy_script : ScriptData

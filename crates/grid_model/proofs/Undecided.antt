@@ -17,7 +17,7 @@ use Rattle.grid_model.specs.declared.messages.Message.TheVariants as message
 use Rattle.grid_model.specs.declared.stories.Story.{Story}
 use Rattle.grid_model.specs.Documents.{DocumentData}
 use Rattle.grid_model.specs.Histories.{sent, sent_at}
-use Rattle.grid_model.specs.Journals.{decision}
+use Rattle.journal_words.specs.Journals.{decision}
 use Rattle.grid_model.specs.Nodes.{Node, Change, Writes, Starts, node, script_of, parts_of, got, change, changed, written, found}
 use Rattle.grid_model.specs.Stories.{story, told, heard, heard_at, if_told, phase_by, phase_at, is_decided, with_vote, with_value, with_request, without_answers}
 use Rattle.grid_model.specs.Views.{acks_by}

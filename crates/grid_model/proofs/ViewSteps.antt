@@ -18,7 +18,7 @@ use Rattle.grid_model.specs.declared.acts.Act.{Act}
 use Rattle.grid_model.specs.declared.acts.Act.TheVariants as act
 use Rattle.grid_model.specs.declared.stories.Story.{Story}
 use Rattle.grid_model.specs.Documents.{DocumentData}
-use Rattle.grid_model.specs.Journals.{Decision, decision, is_closed}
+use Rattle.journal_words.specs.Journals.{Decision, decision, is_closed}
 use Rattle.grid_model.specs.declared.events.Out.TheVariants as out
 use Rattle.grid_model.specs.declared.messages.Envelope.{Envelope}
 use Rattle.grid_model.specs.Nodes.{Node, node, script_of, got, written, prepared_by, changed, freed, without_read, is_request, said_by, is_home, parts_in}

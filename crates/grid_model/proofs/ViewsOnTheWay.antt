@@ -9,7 +9,8 @@ use Rattle.grid_model.specs.declared.acts.Act.{Act}
 use Rattle.grid_model.specs.Histories.{after}
 use Rattle.grid_model.specs.Stories.{Decided, Reading, Collecting}
 use Rattle.grid_model.specs.Views.{view, Open, Reads, Commits, Apart, stage}
-use Rattle.grid_model.proofs.Plays.{a, b, phases, newest_at}
+use Rattle.journal_words.proofs.TwoNodes.{a, b}
+use Rattle.grid_model.proofs.Plays.{phases, newest_at}
 use Rattle.grid_model.proofs.TransferActs.{opened, begins, asks, votes, decides, ends}
 use Rattle.grid_model.proofs.RunsThatCommit.{read_then_write}
 use Rattle.grid_model.proofs.RunsWithReads.{held_read, held_read_front}

@@ -5,15 +5,15 @@ use Rattle.score_base.specs.declared.ids.Value.{Value}
 use Rattle.score_base.specs.declared.keys.Key.{Key}
 use Rattle.score_base.specs.Keys.{same_key}
 use Rattle.script_lang.specs.Reads.{is_key_among, remote_keys, written_keys}
-use Rattle.grid_model.specs.Serials.{Map}
-use Rattle.grid_model.specs.Advances.{own_map}
+use Rattle.script_runs.specs.Serials.{Map}
+use Rattle.script_runs.specs.Walks.{own_map}
 use Rattle.score_base.specs.declared.ids.NodeId.{NodeId}
 use Rattle.placement.specs.Places.{holds}
 use Rattle.placement.specs.Clusters.{ClusterData}
 use Rattle.grid_model.specs.Views.{Open}
-use Rattle.grid_model.specs.Journals.{written_value, keys_in}
+use Rattle.journal_words.specs.Journals.{written_value, keys_in}
 use Rattle.grid_model.specs.Advances.{prepare_for}
-use Rattle.grid_model.proofs.KeyLists.{same_key-is, same_key-turned}
+use Rattle.script_lang.proofs.KeyLists.{same_key-is, same_key-turned}
 
 -- ---- lists of keys with a value each
 

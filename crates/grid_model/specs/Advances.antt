@@ -20,59 +20,11 @@ use Rattle.grid_model.specs.declared.events.Out.TheVariants as out
 use Rattle.grid_model.specs.declared.messages.Message.{Message}
 use Rattle.grid_model.specs.declared.messages.Message.TheVariants as message
 use Rattle.grid_model.specs.declared.messages.Prepare.{Prepare}
-use Rattle.grid_model.specs.Serials.{Map, put, zeros}
-use Rattle.grid_model.specs.Stories.{value_taken, waiting, first_sid}
+use Rattle.script_runs.specs.Serials.{Map, put, zeros}
+use Rattle.script_runs.specs.Waits.{value_taken, waiting}
+use Rattle.grid_model.specs.Stories.{first_sid}
 use Rattle.grid_model.specs.Views.{Open}
-
--- ---- the walk over the operations
-
--- the transaction's own map, and the values of its latest reads
-pub record Walk : Type 0 where
-  pub mine : Map
-  pub latest : Map
-
--- nothing is read or written yet
-abbrev pub unread : Walk
-unread = record { mine = zeros; latest = zeros }
-
--- an own read
-abbrev pub read_step : Key → Walk → Walk
-read_step k w = record w { latest = put w.latest k (w.mine k) }
-
--- a remote read with its taken value
-abbrev pub taken_step : Key → Value → Walk → Walk
-taken_step k v w = record { mine = put w.mine k v; latest = put w.latest k v }
-
--- a write
-abbrev pub write_step : Key → Expr → Walk → Walk
-write_step k e w = record w { mine = put w.mine k (expr_value w.latest e) }
-
--- what comes where a value was taken, or what stops where none was
-abbrev pub if_taken : {A : Type 0} → Option Value → A → (Value → A) → A
-if_taken None stop go = stop
-if_taken (Some v) stop go = go v
-
--- the own reads of these operations, with their values, up to the first remote read without a taken value
-abbrev pub own_reads : ℕ → List Key → Walk → List (ℕ × Value) → List Op → List (ℕ × Value)
-own_reads j seen w values [] = []
-own_reads j seen w values (op.Read k ∷ ops) =
-    if is_key_among k seen
-    then (j, w.mine k) ∷ own_reads (j + 1) seen (read_step k w) values ops
-    else if_taken (value_taken j values) [] (λ v. own_reads (j + 1) (k ∷ seen) (taken_step k v w) values ops)
-own_reads j seen w values (op.Write k e ∷ ops) = own_reads (j + 1) (k ∷ seen) (write_step k e w) values ops
-
--- the walk up to the first remote read without a taken value
-abbrev pub walked : ℕ → List Key → Walk → List (ℕ × Value) → List Op → Walk
-walked j seen w values [] = w
-walked j seen w values (op.Read k ∷ ops) =
-    if is_key_among k seen
-    then walked (j + 1) seen (read_step k w) values ops
-    else if_taken (value_taken j values) w (λ v. walked (j + 1) (k ∷ seen) (taken_step k v w) values ops)
-walked j seen w values (op.Write k e ∷ ops) = walked (j + 1) (k ∷ seen) (write_step k e w) values ops
-
--- the transaction's own map behind all that was taken
-abbrev pub own_map : List Op → List (ℕ × Value) → Map
-own_map ops values = (walked 1 [] unread values ops).mine
+use Rattle.script_runs.specs.Walks.{unread, own_reads, own_map, op_at}
 
 -- ---- the messages of a home
 
@@ -90,10 +42,6 @@ to_node (Some n) said = out.Send n said ∷ []
 abbrev pub request_of : ClusterData → Open → ℕ → ℕ → Option Op → List Out
 request_of c x j q None = []
 request_of c x j q (Some o) = to_node (slice_get (preferred c.places x.script.home (key_of o)) q) (message.ReadReq (record { t = x.script.number; op = j; key = key_of o; date = date_by x.sid0 x.sid }))
-
--- operation j of these, numbered from 1
-abbrev pub op_at : List Op → ℕ → Option Op
-op_at ops j = slice_get ops (j - 1)
 
 -- the request of operation j goes to the holder of its key at place q of the preferred order
 abbrev pub request : ClusterData → Open → ℕ → ℕ → List Out

@@ -21,11 +21,11 @@ use Rattle.grid_model.specs.declared.messages.Message.TheVariants as message
 use Rattle.grid_model.specs.declared.messages.Prepare.{Prepare}
 use Rattle.grid_model.specs.Documents.{DocumentData}
 use Rattle.grid_model.specs.Histories.{after}
-use Rattle.grid_model.specs.Journals.{ended, Prepared, holder, newer, prepared_of}
-use Rattle.grid_model.specs.Facts.{has_decided, is_given_up}
+use Rattle.journal_words.specs.Journals.{ended, Prepared, holder, newer, prepared_of, has_decided}
+use Rattle.grid_model.specs.Facts.{is_given_up}
 use Rattle.grid_model.specs.Nodes.{Node, node, journal, got, said_by, is_home, script_of, parts_in}
 use Rattle.grid_model.specs.Stories.{phase, is_open}
-use Rattle.grid_model.specs.Serials.{Map, map_behind}
+use Rattle.script_runs.specs.Serials.{Map, map_behind}
 use Rattle.grid_model.specs.Fitness.{tx_in}
 use Rattle.grid_model.specs.Acts.{EachAct, EachBehind, has_refused}
 use Rattle.grid_model.specs.Copies.{order, copy_of, is_finished}

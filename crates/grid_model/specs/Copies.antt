@@ -19,29 +19,15 @@ use Rattle.grid_model.specs.declared.acts.Act.TheVariants as act
 use Rattle.grid_model.specs.declared.stories.Story.{Story}
 use Rattle.grid_model.specs.Documents.{DocumentData}
 use Rattle.grid_model.specs.Histories.{after}
-use Rattle.grid_model.specs.Journals.{commit_id, version_at}
+use Rattle.journal_words.specs.Journals.{commit_id, version_at}
 use Rattle.grid_model.specs.Nodes.{journal, script_of}
-use Rattle.grid_model.specs.Advances.{op_at}
+use Rattle.script_runs.specs.Walks.{op_at, op_key}
 use Rattle.grid_model.specs.Acts.{EachAct}
-use Rattle.grid_model.specs.Serials.{Map, reads_on, map_behind}
+use Rattle.script_runs.specs.Serials.{Map, reads_on, map_behind}
 use Rattle.grid_model.specs.Stories.{story, first_sid}
+use Rattle.journal_words.specs.Orders.{decisions, insert_last, members_to}
 
 -- ---- the order
-
--- the final identifiers and numbers of the Decided
-abbrev pub decisions : List Record → List (Ident × TxId)
-decisions [] = []
-decisions (record'.Decided t f parts ∷ r) = (f, t) ∷ decisions r
-decisions (x ∷ r) = decisions r
-
--- a lesser final identifier, or the same and a lesser number
-abbrev pub is_before : Ident × TxId → Ident × TxId → Bool
-is_before x y = nat_lt x.0 y.0 || (x.0 == y.0 && nat_lt x.1 y.1)
-
--- a member more in a list whose last member in the order stands first
-abbrev pub insert_last : List (Ident × TxId) → Ident × TxId → List (Ident × TxId)
-insert_last [] x = x ∷ []
-insert_last (y ∷ ys) x = if is_before y x then x ∷ (y ∷ ys) else y ∷ insert_last ys x
 
 -- the decisions that stand at the nodes
 abbrev pub all_decisions : DocumentData → List Act → List (Ident × TxId)
@@ -62,10 +48,6 @@ script_map (Some s) m = map_behind m s.ops
 abbrev pub copy_of : DocumentData → List (Ident × TxId) → Map
 copy_of d [] = init d.cluster
 copy_of d (x ∷ xs) = script_map (script_of x.1 d.scripts) (copy_of d xs)
-
--- the members of the order with a final identifier of at most s
-abbrev pub members_to : Ident → List (Ident × TxId) → List (Ident × TxId)
-members_to s xs = filter (λ x. nat_le x.0 s) xs
 
 -- the serial copy at s: the map behind all committed transactions with a final identifier of at most s
 abbrev pub copy : DocumentData → List Act → Ident → Map
@@ -104,11 +86,6 @@ snapshot_in (Some x) = first_sid x.sid x.sid0
 -- identifier at which it began
 abbrev pub snapshot : DocumentData → List Act → TxId → Ident
 snapshot d past t = snapshot_in (story d past t)
-
--- the key of an operation, where there is one
-abbrev pub op_key : Option Op → Option Key
-op_key None = None
-op_key (Some o) = Some (key_of o)
 
 -- the key that operation j of a script names
 abbrev pub key_at : Option ScriptData → ℕ → Option Key

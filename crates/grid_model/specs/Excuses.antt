@@ -12,7 +12,7 @@ use Rattle.grid_model.specs.declared.messages.Message.{Message}
 use Rattle.grid_model.specs.declared.messages.Message.TheVariants as message
 use Rattle.grid_model.specs.Documents.{DocumentData}
 use Rattle.grid_model.specs.Histories.{after, sent, sent_at}
-use Rattle.grid_model.specs.Journals.{is_clear}
+use Rattle.journal_words.specs.Journals.{is_clear}
 use Rattle.grid_model.specs.Nodes.{Node, node, script_of, parts_in, is_home}
 use Rattle.grid_model.specs.Stories.{Phase, phase, is_open, Reading, Collecting, Answered, Aborted, Lost, Decided, Closed, story}
 

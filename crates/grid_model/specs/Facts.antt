@@ -23,7 +23,7 @@ use Rattle.grid_model.specs.declared.messages.Message.{Message}
 use Rattle.grid_model.specs.declared.messages.Message.TheVariants as message
 use Rattle.grid_model.specs.Documents.{DocumentData}
 use Rattle.grid_model.specs.Histories.{after, sent, sent_at}
-use Rattle.grid_model.specs.Journals.{Prepared, prepared_of, floor, is_clear, is_locking, conflicts_with, commit_id}
+use Rattle.journal_words.specs.Journals.{Prepared, prepared_of, floor, is_clear, is_locking, conflicts_with, commit_id, has_prepared, has_decided, has_commit, are_apart}
 use Rattle.grid_model.specs.Nodes.{journal, is_home, script_of, parts_in}
 use Rattle.grid_model.specs.Views.{view}
 use Rattle.grid_model.specs.Fitness.{is_fit, date_ident}
@@ -31,24 +31,6 @@ use Rattle.grid_model.specs.Acts.{EachAct, EachBehind, EachSent, has_refused}
 use Rattle.grid_model.specs.Copies.{snapshot}
 
 -- ---- words
-
--- a Prepared of t with the proposal p stands in these records
-abbrev pub has_prepared : TxId → Ident → List Record → Bool
-has_prepared t p [] = false
-has_prepared t p (record'.Prepared u home parts sid q reads writes ∷ r) = (u == t && q == p) || has_prepared t p r
-has_prepared t p (x ∷ r) = has_prepared t p r
-
--- a Decided of t with the final identifier f stands
-abbrev pub has_decided : TxId → Ident → List Record → Bool
-has_decided t f [] = false
-has_decided t f (record'.Decided u e parts ∷ r) = (u == t && e == f) || has_decided t f r
-has_decided t f (x ∷ r) = has_decided t f r
-
--- an Ended of t with commit stands
-abbrev pub has_commit : TxId → List Record → Bool
-has_commit t [] = false
-has_commit t (record'.Ended u (outcome.Commit f) ∷ r) = (u == t) || has_commit t r
-has_commit t (x ∷ r) = has_commit t r
 
 -- the journals of all nodes, of which one is the home of t, have a Decided of t with f
 abbrev pub IsDecided : DocumentData → List Act → TxId → Ident → Type 0
@@ -121,11 +103,6 @@ abbrev pub ServedPromised : DocumentData → List Act → Type 0
 ServedPromised d past = (n : NodeId) (t : TxId) (j : ℕ) (k : Key) (sid vn : Ident) (v : Value) (later before : List Act) → past ≡ later ++ act.Served n t j k sid vn v ∷ before → IsPromised d past n sid later
 
 -- ---- locks exclude conflicts
-
--- two Prepared share no key that one of them writes
-abbrev pub are_apart : Option Prepared → Option Prepared → Bool
-are_apart None y = true
-are_apart (Some x) y = not (conflicts_with y x.reads x.writes)
 
 -- two transactions that are pending, or ended with commit and not applied, at one node share no key
 -- there that one of them writes

@@ -14,7 +14,7 @@ use Rattle.grid_model.specs.declared.messages.Message.TheVariants as message
 use Rattle.grid_model.specs.declared.messages.Prepare.{Prepare}
 use Rattle.grid_model.specs.declared.messages.ReadReq.{ReadReq}
 use Rattle.grid_model.specs.declared.messages.ReadRep.{ReadRep}
-use Rattle.grid_model.specs.Journals.{are_own_keys, keys_in, pending}
+use Rattle.journal_words.specs.Journals.{are_own_keys, keys_in, pending}
 use Rattle.grid_model.specs.Stories.{is_small, is_small_node, is_fit_ballot}
 use Rattle.grid_model.specs.Views.{View, Stage, Reads, Collects, Commits, stage}
 use Rattle.grid_model.specs.Advances.{parts_now}

@@ -1,8 +1,6 @@
 pub mod Documents
 pub mod Keyed
 pub mod Histories
-pub mod Journals
-pub mod Serials
 pub mod Nodes
 pub mod Stories
 pub mod Views
@@ -17,4 +15,3 @@ pub mod Copies
 pub mod Facts
 pub mod Claims
 pub mod Excuses
-pub mod Waits

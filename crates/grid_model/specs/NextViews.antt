@@ -23,7 +23,7 @@ use Rattle.grid_model.specs.declared.messages.Message.TheVariants as message
 use Rattle.grid_model.specs.declared.stories.HeldRead.{HeldRead}
 use Rattle.grid_model.specs.declared.stories.Story.{Story}
 use Rattle.grid_model.specs.Documents.{DocumentData}
-use Rattle.grid_model.specs.Journals.{Decision, decision, undone}
+use Rattle.journal_words.specs.Journals.{Decision, decision, undone}
 use Rattle.grid_model.specs.Nodes.{journal, is_home, prepared_by, held_by, said_by, is_request, written, learnt, with_held, without_read}
 use Rattle.grid_model.specs.Stories.{story, first_sid, place_behind, has_voted}
 use Rattle.grid_model.specs.Views.{View, Open, Stage, Collects, Commits, stage}

@@ -29,8 +29,8 @@ use Rattle.grid_model.specs.declared.messages.ReadReq.{ReadReq}
 use Rattle.grid_model.specs.declared.messages.ReadRep.{ReadRep}
 use Rattle.grid_model.specs.declared.stories.HeldRead.{HeldRead}
 use Rattle.grid_model.specs.declared.stories.Voted.{Voted}
-use Rattle.grid_model.specs.declared.versions.Version.{Version}
-use Rattle.grid_model.specs.Journals.{commit_id, floor, is_clear, version_at, ended, is_commit, pending, holder, newer, home_of}
+use Rattle.journal_words.specs.declared.versions.Version.{Version}
+use Rattle.journal_words.specs.Journals.{commit_id, floor, is_clear, version_at, ended, is_commit, pending, holder, newer, home_of}
 use Rattle.grid_model.specs.Stories.{has_voted, first_sid}
 use Rattle.grid_model.specs.Views.{View, Open, Stage, Apart, Reads, Collects, Commits, stage}
 use Rattle.grid_model.specs.Advances.{advance, request, prepares, parts_now, to_node}

@@ -25,8 +25,9 @@ use Rattle.grid_model.specs.declared.stories.Story.{Story}
 use Rattle.grid_model.specs.declared.stories.Voted.{Voted}
 use Rattle.grid_model.specs.Documents.{DocumentData}
 use Rattle.grid_model.specs.Histories.{sent, sent_at}
-use Rattle.grid_model.specs.Journals.{floor, Decision, decision, is_closed}
+use Rattle.journal_words.specs.Journals.{floor, Decision, decision, is_closed}
 use Rattle.grid_model.specs.Nodes.{Node, node, script_of, parts_of, is_home}
+use Rattle.script_runs.specs.Waits.{waiting}
 
 -- ---- the phase
 
@@ -40,27 +41,6 @@ pub data Phase : Type 0 where
   Answered : Phase
   Reading : ℕ → Phase
   Collecting : Phase
-
--- the value that was taken for an operation
-abbrev pub value_taken : ℕ → List (ℕ × Value) → Option Value
-value_taken j [] = None
-value_taken j (x ∷ xs) = if x.0 == j then Some x.1 else value_taken j xs
-
--- operation j waits where no value was taken for it
-abbrev pub first_open : Option Value → ℕ → Option ℕ → Option ℕ
-first_open (Some v) j rest = rest
-first_open None j rest = Some j
-
--- the first remote read without a taken value, of these operations, the first of which has number j
--- and before which the script names the keys seen
-abbrev pub waiting_from : ℕ → List Key → List (ℕ × Value) → List Op → Option ℕ
-waiting_from j seen values [] = None
-waiting_from j seen values (op.Read k ∷ ops) = if is_key_among k seen then waiting_from (j + 1) seen values ops else first_open (value_taken j values) j (waiting_from (j + 1) (k ∷ seen) values ops)
-waiting_from j seen values (op.Write k e ∷ ops) = waiting_from (j + 1) (k ∷ seen) values ops
-
--- the first remote read of a script without a taken value
-abbrev pub waiting : List Op → List (ℕ × Value) → Option ℕ
-waiting ops values = waiting_from 1 [] values ops
 
 -- an open transaction reads an operation, or collects
 abbrev pub open_phase : Option ℕ → Phase

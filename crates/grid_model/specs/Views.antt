@@ -12,9 +12,10 @@ use Rattle.grid_model.specs.declared.stories.Story.{Story}
 use Rattle.grid_model.specs.declared.stories.Voted.{Voted}
 use Rattle.grid_model.specs.declared.stories.HeldRead.{HeldRead}
 use Rattle.grid_model.specs.Documents.{DocumentData}
-use Rattle.grid_model.specs.Journals.{Decision, undone}
+use Rattle.journal_words.specs.Journals.{Decision, undone}
 use Rattle.grid_model.specs.Nodes.{Node, node, script_of}
-use Rattle.grid_model.specs.Stories.{Phase, phase_at, is_open, waiting, story}
+use Rattle.grid_model.specs.Stories.{Phase, phase_at, is_open, story}
+use Rattle.script_runs.specs.Waits.{waiting}
 
 -- what a home knows of a transaction that is reading or collecting
 pub record Open : Type 0 where

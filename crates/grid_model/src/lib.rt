@@ -13,10 +13,7 @@ mod events;
 mod items;
 mod laws;
 mod messages;
-pub mod records;
 mod stories;
-mod versions;
-mod waits;
 
 pub use acts::{Act, Flag, Head};
 pub use documents::{Document, ScriptList};
@@ -25,5 +22,3 @@ pub use items::{Item, ItemList};
 pub use laws::{law_next_view, law_own_decisions};
 pub use messages::{Envelope, Message, Prepare, ReadRep, ReadReq};
 pub use stories::{HeldRead, Story, Voted};
-pub use versions::Version;
-pub use waits::{first_waiting, value_taken};

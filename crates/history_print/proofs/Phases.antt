@@ -5,8 +5,9 @@ use Rattle.score_base.specs.declared.ids.Ident.{Ident}
 use Rattle.script_lang.specs.declared.scripts.Op.{Op}
 use Rattle.script_lang.specs.Reads.{is_update}
 use Rattle.grid_model.specs.declared.stories.Story.{Story}
-use Rattle.grid_model.specs.Journals.{Decision}
-use Rattle.grid_model.specs.Stories.{Phase, Lost, Closed, Decided, Aborted, Answered, open_phase, undecided_phase, waiting, phase_by}
+use Rattle.journal_words.specs.Journals.{Decision}
+use Rattle.grid_model.specs.Stories.{Phase, Lost, Closed, Decided, Aborted, Answered, open_phase, undecided_phase, phase_by}
+use Rattle.script_runs.specs.Waits.{waiting}
 use Rattle.grid_model.specs.Copies.{snapshot_in}
 use Rattle.history_print.specs.Text.{phase_words}
 use Rattle.history_print.specs.Begun.{open_words, undecided_words, final_words, story_words}

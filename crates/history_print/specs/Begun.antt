@@ -5,7 +5,7 @@ use Rattle.score_base.specs.declared.ids.Ident.{Ident}
 use Rattle.script_lang.specs.declared.scripts.Op.{Op}
 use Rattle.script_lang.specs.Reads.{is_update}
 use Rattle.grid_model.specs.declared.stories.Story.{Story}
-use Rattle.grid_model.specs.Stories.{waiting}
+use Rattle.script_runs.specs.Waits.{waiting}
 use Rattle.grid_model.specs.Copies.{snapshot_in}
 
 -- an open transaction reads an operation or collects votes

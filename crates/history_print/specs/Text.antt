@@ -12,10 +12,10 @@ use Rattle.placement.specs.Clusters.{ClusterData, init}
 use Rattle.grid_model.specs.declared.acts.Act.{Act}
 use Rattle.score_base.specs.declared.records.Record.{Record}
 use Rattle.grid_model.specs.declared.stories.Story.{Story}
-use Rattle.grid_model.specs.declared.versions.Version.{Version}
+use Rattle.journal_words.specs.declared.versions.Version.{Version}
 use Rattle.grid_model.specs.Documents.{DocumentData, script_numbers, keys_in, key_order, number_order}
 use Rattle.grid_model.specs.Histories.{after}
-use Rattle.grid_model.specs.Journals.{decision, is_closed, newest_version}
+use Rattle.journal_words.specs.Journals.{decision, is_closed, newest_version}
 use Rattle.grid_model.specs.Nodes.{journal, script_of}
 use Rattle.grid_model.specs.Stories.{Phase, Unbegun, Lost, Closed, Decided, Aborted, Answered, Reading, Collecting, phase_by, story}
 use Rattle.grid_model.specs.Copies.{snapshot_in}

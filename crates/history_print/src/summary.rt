@@ -10,7 +10,7 @@ ghost use Rattle.placement.specs.Places.{is_among};
 ghost use Rattle.grid_model.specs.Documents.{script_numbers, number_order, key_order, keys_in};
 ghost use Rattle.grid_model.specs.Copies.{snapshot_in};
 ghost use Rattle.grid_model.specs.Nodes.{journal, script_of};
-ghost use Rattle.grid_model.specs.Journals.{is_closed, decision};
+ghost use Rattle.journal_words.specs.Journals.{is_closed, decision};
 ghost use Rattle.grid_model.specs.Stories.{phase_by, story};
 ghost use Rattle.run_state.specs.Kept.{past};
 ghost use Rattle.history_print.specs.Acts.{spaced, line};
@@ -18,12 +18,14 @@ ghost use Rattle.history_print.specs.Begun.{open_words, undecided_words, final_w
 ghost use Rattle.history_print.specs.Text.{phase_words, tx_line, script_line, tx_lines, version_line, holder_line, key_lines, keys_lines, summary_by, summary_text};
 
 use crate::words::{put_count, put_ident, put_key, put_node, put_tx, put_value, put_word};
-use grid_model::records::{decided_final, newest_version};
-use grid_model::{Act, Document, Story, Version, first_waiting};
+use grid_model::{Act, Document, Story};
+use journal_words::Version;
+use journal_words::records::{decided_final, newest_version};
 use placement::Cluster;
 use run_state::{RunState, script_of};
 use score_base::{Ident, Key, Memory, NodeId, Record, TryCopy, TxId, Value, put_bytes};
 use script_lang::{Op, Script, is_update, key_of};
+use script_runs::first_waiting;
 use std::alloc::Global;
 use std::collections::BTreeSet;
 

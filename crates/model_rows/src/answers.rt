@@ -1,5 +1,5 @@
 //! What a journal answers, compared with what it has to.
-use grid_model::{Version, records};
+use journal_words::{Version, records};
 use placement::Cluster;
 use score_base::{Ident, Key, NodeId, Outcome, Record, TxId, Value};
 use std::alloc::Global;

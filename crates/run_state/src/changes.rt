@@ -5,8 +5,8 @@ ghost use Rattle.grid_model.specs.Nodes.{prepared_by, record_of, doubt_of, held_
 
 use crate::plain_nodes::PlainNode;
 use crate::scripts::{is_home, parts_in};
-use grid_model::records::floor;
 use grid_model::{Act, Document, Envelope, Flag, Head, HeldRead, Message};
+use journal_words::records::floor;
 use score_base::{Ident, Key, Members, Memory, NodeId, Outcome, Record, TryCopy, TxId};
 use std::alloc::Global;
 

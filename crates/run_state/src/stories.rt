@@ -6,10 +6,11 @@ ghost use Rattle.grid_model.specs.Nodes.{parts_of};
 
 use crate::plain_nodes::PlainNode;
 use crate::scripts::parts_of;
-use grid_model::records::{decision, floor, undone};
-use grid_model::{Document, Message, Story, Voted, first_waiting};
+use grid_model::{Document, Message, Story, Voted};
+use journal_words::records::{decision, floor, undone};
 use score_base::{Ballot, Ident, Members, Memory, NodeId, NodeList, TryCopy, Value};
 use script_lang::{Script, is_update};
+use script_runs::first_waiting;
 use std::alloc::Global;
 
 /// A transaction that is begun.

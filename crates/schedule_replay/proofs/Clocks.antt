@@ -4,11 +4,11 @@ use Rattle.std.proofs.lemmas.Bool.Decides.{nat_tests}
 use Rattle.score_base.specs.declared.causes.Date.{Date}
 use Rattle.score_base.specs.declared.causes.Date.TheVariants as date
 use Rattle.score_base.specs.declared.records.Record.{Record}
-use Rattle.grid_model.specs.Journals.{commit_id, floor}
+use Rattle.journal_words.specs.Journals.{commit_id, floor}
 use Rattle.grid_model.specs.Stories.{is_small, is_small_node}
 use Rattle.grid_model.specs.Fitness.{date_ident}
 use Rattle.grid_model.specs.Rows.{dated}
-use Rattle.grid_model.proofs.Applied.{commit_id-floor}
+use Rattle.journal_words.proofs.Applied.{commit_id-floor}
 
 small-max : (a c f : ℕ) → c ≤ f → nat_lt a (2 ^ 22) ≡ true → nat_lt f (2 ^ 22) ≡ true → max a c < 2 ^ 22
 small-max a c f h p q = grind (arith, nat_tests)

@@ -25,11 +25,13 @@ use Rattle.grid_model.specs.declared.messages.ReadReq.{ReadReq}
 use Rattle.grid_model.specs.declared.messages.ReadRep.{ReadRep}
 use Rattle.grid_model.specs.declared.stories.HeldRead.{HeldRead}
 use Rattle.grid_model.specs.declared.stories.Voted.{Voted}
-use Rattle.grid_model.specs.declared.versions.Version.{Version}
-use Rattle.grid_model.specs.Journals.{commit_id, floor, is_clear, ended, is_commit, pending, home_of}
-use Rattle.grid_model.specs.Stories.{has_voted, waiting, first_sid}
+use Rattle.journal_words.specs.declared.versions.Version.{Version}
+use Rattle.journal_words.specs.Journals.{commit_id, floor, is_clear, ended, is_commit, pending, home_of}
+use Rattle.grid_model.specs.Stories.{has_voted, first_sid}
+use Rattle.script_runs.specs.Waits.{waiting}
 use Rattle.grid_model.specs.Views.{View, Open, Stage, Apart, Reads, Collects, Commits}
-use Rattle.grid_model.specs.Advances.{advance, advance_end, owns, request, request_of, prepares, prepare_for, parts_now, to_node, unread, own_reads}
+use Rattle.grid_model.specs.Advances.{advance, advance_end, owns, request, request_of, prepares, prepare_for, parts_now, to_node}
+use Rattle.script_runs.specs.Walks.{unread, own_reads}
 use Rattle.grid_model.specs.Fitness.{is_fit_at}
 use Rattle.grid_model.specs.Rows.{served, version_for, release, ceilings, raises, answered, read_row, reply_row, judged, prepare_row, tells, decides, ballot_row, vote_row, are_all_among, closed_row, ack_row, ask_row, commit_row, abort_row, freed_by, tell_outs, row_of, answer_at, begun_at, begin_outs, not_voted, not_among, retry_row, ask_outs}
 use Rattle.schedule_replay.specs.Numbering.{sends}

@@ -1,6 +1,5 @@
 pub mod Told
 pub mod Clocks
-pub mod Walking
 pub mod Counts
 pub mod Posts
 pub mod Shorts

@@ -10,7 +10,7 @@ use Rattle.grid_model.specs.declared.acts.Act.TheVariants as act
 use Rattle.grid_model.specs.declared.acts.Flag.{Flag}
 use Rattle.grid_model.specs.declared.messages.Envelope.{Envelope}
 use Rattle.grid_model.specs.Documents.{DocumentData, number_order, script_numbers}
-use Rattle.grid_model.specs.Journals.{decision, is_closed}
+use Rattle.journal_words.specs.Journals.{decision, is_closed}
 use Rattle.grid_model.specs.Nodes.{Node, node, got, Change, Writes, Stops, Starts, Raises, Holds, where_at, change, changed, freed, script_of, is_home, is_kept, is_request, said_by, held_by, prepared_by, parts_in}
 use Rattle.grid_model.specs.Stories.{story, phase, phase_by, is_open}
 use Rattle.grid_model.specs.Schedules.{flag_of, lost_at, losses}

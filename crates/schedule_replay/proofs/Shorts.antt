@@ -12,10 +12,10 @@ use Rattle.grid_model.specs.declared.messages.Envelope.{Envelope}
 use Rattle.grid_model.specs.declared.messages.Message.{Message}
 use Rattle.grid_model.specs.declared.messages.Message.TheVariants as message
 use Rattle.grid_model.specs.Documents.{DocumentData}
-use Rattle.grid_model.specs.Journals.{Decision, decision, is_closed, undone}
+use Rattle.journal_words.specs.Journals.{Decision, decision, is_closed, undone}
 use Rattle.grid_model.specs.Nodes.{Node, node, got, Change, Writes, Stops, Starts, where_at, change, changed, freed, written, found, prepared_by, prepared_from, record_of, doubt_of, parts_in, script_of, is_home, is_kept, is_request, said_by}
 use Rattle.grid_model.specs.Views.{Open, stage_by, open_stage}
-use Rattle.grid_model.specs.Stories.{waiting}
+use Rattle.script_runs.specs.Waits.{waiting}
 use Rattle.schedule_replay.proofs.Counts.{IsShort, parts-short}
 
 -- a Decided has at most 16 parts

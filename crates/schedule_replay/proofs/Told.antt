@@ -17,7 +17,8 @@ use Rattle.grid_model.specs.declared.messages.ReadRep.{ReadRep}
 use Rattle.grid_model.specs.declared.stories.Story.{Story}
 use Rattle.grid_model.specs.Stories.{first_sid, with_value}
 use Rattle.grid_model.specs.Views.{Open, open_of, Reads}
-use Rattle.grid_model.specs.Advances.{own_map, parts_now, prepare_for, advance}
+use Rattle.script_runs.specs.Walks.{own_map}
+use Rattle.grid_model.specs.Advances.{parts_now, prepare_for, advance}
 use Rattle.grid_model.specs.Rows.{reply_row}
 use Rattle.schedule_replay.specs.Numbering.{sends}
 use Rattle.schedule_replay.proofs.Counts.{counts-advance}

@@ -1,4 +1,3 @@
 pub mod Numbering
 pub mod Stages
-pub mod Walks
 pub mod Replays

@@ -5,16 +5,17 @@ ghost use Rattle.std.specs.Option.{option_copied};
 ghost use Rattle.placement.specs.Places.{holds, preferred};
 ghost use Rattle.script_lang.specs.Reads.{remote_keys, written_keys};
 ghost use Rattle.script_lang.specs.Values.{value_in};
-ghost use Rattle.grid_model.specs.Advances.{own_map, date_by, to_node, request_of, request, prepare_for, prepares, advance_end, owns, advance};
-ghost use Rattle.grid_model.specs.Serials.{Map};
+ghost use Rattle.script_runs.specs.Walks.{own_map};
+ghost use Rattle.grid_model.specs.Advances.{date_by, to_node, request_of, request, prepare_for, prepares, advance_end, owns, advance};
+ghost use Rattle.script_runs.specs.Serials.{Map};
 ghost use Rattle.grid_model.specs.Stories.{first_sid};
 
 use crate::stages::{Open, parts_now};
-use crate::trails::walk;
 use grid_model::{Act, Message, Out, Prepare, ReadReq};
 use placement::Cluster;
 use score_base::{Date, Ident, Key, KeyList, Memory, NodeId, TxId, Value, WriteList, push};
 use script_lang::{Op, Reads, Script, is_update, key_of, read_keys, write_keys};
+use script_runs::walk;
 use std::alloc::Global;
 
 /// How a read is dated: the first by the identifier of the begin, a later one by the snapshot.

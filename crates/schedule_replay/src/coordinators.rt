@@ -7,8 +7,8 @@ ghost use Rattle.grid_model.specs.Advances.{parts_now};
 ghost use Rattle.schedule_replay.specs.Stages.{shown};
 
 use crate::stages::{Open, Stage, parts_now};
-use grid_model::records::is_among;
 use grid_model::{Act, Message, Out, Voted};
+use journal_words::records::is_among;
 use placement::Cluster;
 use run_state::has_voted;
 use score_base::{Ballot, Cause, Ident, Memory, NodeId, NodeList, Outcome, TryCopy, TxId, push};

@@ -2,14 +2,14 @@
 
 ghost use Rattle.std.specs.Prelude.{◌≡◌, ◌∷◌, ◌++◌, IfOk, OnOk, reverse};
 ghost use Rattle.score_base.specs.declared.records.Record.TheVariants as record';
-ghost use Rattle.grid_model.specs.Journals.{is_commit};
+ghost use Rattle.journal_words.specs.Journals.{is_commit};
 ghost use Rattle.grid_model.specs.Rows.{freed_by, tell_outs};
 ghost use Rattle.schedule_replay.specs.Stages.{node_view};
 
 use crate::advances::push_to;
 use crate::readers::push_released;
-use grid_model::records::{ended, home_of, pending};
 use grid_model::{Act, Document, Message, Out};
+use journal_words::records::{ended, home_of, pending};
 use run_state::PlainNode;
 use score_base::{Ident, Members, Memory, NodeId, Outcome, Record, TryCopy, TxId, push};
 use std::alloc::Global;

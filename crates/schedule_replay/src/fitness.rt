@@ -6,8 +6,8 @@ ghost use Rattle.grid_model.specs.Fitness.{date_ident, is_fit_request, is_same_i
 ghost use Rattle.schedule_replay.specs.Stages.{shown, node_view};
 
 use crate::stages::{Stage, parts_now};
-use grid_model::records::{are_own_keys, is_among, keys_in, pending};
 use grid_model::{Document, Message, Prepare, ReadRep, ReadReq};
+use journal_words::records::{are_own_keys, is_among, keys_in, pending};
 use placement::Cluster;
 use run_state::{PlainNode, is_small, is_small_node};
 use score_base::{Ballot, Cause, Date, Ident, Memory, NodeId, Outcome};

@@ -17,7 +17,6 @@ mod replays;
 mod restarts;
 mod schedule;
 mod stages;
-mod trails;
 mod voters;
 
 pub use laws::law_one_history;

@@ -1,7 +1,7 @@
 //! Reads: a request at the node that is asked, held reads that are released, and a reply at the home.
 
 ghost use Rattle.std.specs.Prelude.{◌≡◌, ◌<◌, ◌+◌, ◌^◌, ◌++◌, ◌∷◌, [], IfOk, OnOk, IsTrue, reverse};
-ghost use Rattle.grid_model.specs.Journals.{commit_id, floor, is_clear};
+ghost use Rattle.journal_words.specs.Journals.{commit_id, floor, is_clear};
 ghost use Rattle.grid_model.specs.Stories.{is_small, is_small_node};
 ghost use Rattle.grid_model.specs.Fitness.{date_ident};
 ghost use Rattle.grid_model.specs.Rows.{served, version_for, release, dated, ceiling_of, ceilings, raises, answered, read_row, reply_row};
@@ -11,8 +11,9 @@ ghost use Rattle.schedule_replay.specs.Stages.{shown, node_view};
 
 use crate::advances::advance;
 use crate::stages::{Open, Stage};
-use grid_model::records::{commit_id, floor, is_clear, version_at};
-use grid_model::{Act, Document, HeldRead, Message, Out, ReadRep, ReadReq, Version};
+use grid_model::{Act, Document, HeldRead, Message, Out, ReadRep, ReadReq};
+use journal_words::Version;
+use journal_words::records::{commit_id, floor, is_clear, version_at};
 use placement::Cluster;
 use run_state::{PlainNode, with_value};
 use score_base::{Date, Ident, Key, Memory, NodeId, Record, append, push};

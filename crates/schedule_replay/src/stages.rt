@@ -2,19 +2,20 @@
 
 ghost use Rattle.std.specs.Prelude.{◌≡◌, [], IfOk, Some, is_some, true};
 ghost use Rattle.std.specs.Option.{option_copied};
-ghost use Rattle.grid_model.specs.Stories.{is_open, phase_at, waiting};
+ghost use Rattle.grid_model.specs.Stories.{is_open, phase_at};
+ghost use Rattle.script_runs.specs.Waits.{waiting};
 ghost use Rattle.grid_model.specs.Advances.{parts_now};
 ghost use Rattle.grid_model.specs.Views.{open_at, acks_at, stage_at, open_stage};
-ghost use Rattle.grid_model.specs.Journals.{undone};
+ghost use Rattle.journal_words.specs.Journals.{undone};
 ghost use Rattle.schedule_replay.specs.Stages.{shown};
 
-use crate::trails::walk;
 use grid_model::Story;
-use grid_model::records::{Decided, decision, undone};
+use journal_words::records::{Decided, decision, undone};
 use placement::Cluster;
 use run_state::{PlainNode, parts_at};
 use score_base::{Memory, NodeId, NodeList, TxId};
 use script_lang::{Script, is_update};
+use script_runs::walk;
 use std::alloc::Global;
 use std::marker::Model;
 

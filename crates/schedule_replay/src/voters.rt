@@ -5,8 +5,8 @@ ghost use Rattle.grid_model.specs.Stories.{is_small, is_small_node};
 ghost use Rattle.grid_model.specs.Rows.{refused, judged, prepare_outs};
 ghost use Rattle.schedule_replay.specs.Stages.{node_view};
 
-use grid_model::records::{ended, holder, newer, pending};
 use grid_model::{Act, Document, Message, Out, Prepare};
+use journal_words::records::{ended, holder, newer, pending};
 use run_state::PlainNode;
 use score_base::{Ballot, Cause, Ident, Key, Memory, NodeId, TxId, push};
 use std::alloc::Global;

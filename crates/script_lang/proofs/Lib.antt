@@ -1,3 +1,4 @@
+pub mod KeyLists
 pub mod Sound
 pub mod Entries
 pub mod Seen

@@ -2,7 +2,7 @@ use Rattle.std.proofs.Common.{[]}
 use Rattle.grid_model.specs.Histories.{after}
 use Rattle.grid_laws.proofs.RunsDue.{due-run}
 use Rattle.grid_model.specs.Nodes.{journal}
-use Rattle.grid_model.proofs.Locks.{locks-apart}
+use Rattle.journal_words.proofs.Locks.{locks-apart}
 use Rattle.grid_laws.proofs.NodesFitActs.{nodes-fit}
 use Rattle.grid_laws.proofs.runs.law_locks_exclude.Goals as goal
 

@@ -1,7 +1,7 @@
 use Rattle.std.proofs.Common.{◌≡◌, reverse, arith}
 use Rattle.std.proofs.lemmas.Grind.{common_steps}
 use Rattle.std.specs.Option.{option_copied, option_map}
-use Rattle.grid_model.specs.Journals.{is_closed, decision}
+use Rattle.journal_words.specs.Journals.{is_closed, decision}
 use Rattle.history_print.proofs.Phases.{story_same}
 use Rattle.history_print.proofs.summary.put_phase.Goals as goal
 

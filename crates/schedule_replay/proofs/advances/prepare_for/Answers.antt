@@ -2,7 +2,7 @@ use Rattle.std.proofs.Common.{ap, ◌∙◌, filter, map, []}
 use Rattle.script_lang.specs.Reads.{remote_keys, written_keys}
 use Rattle.placement.specs.Places.{holds}
 use Rattle.grid_model.specs.Stories.{first_sid}
-use Rattle.grid_model.specs.Advances.{own_map}
+use Rattle.script_runs.specs.Walks.{own_map}
 use Rattle.schedule_replay.proofs.Told.{prepare-told}
 use Rattle.schedule_replay.proofs.advances.prepare_for.Goals as goal
 

@@ -1,5 +1,5 @@
 use Rattle.std.proofs.Common.{◌<◌, ◌^◌}
-use Rattle.grid_model.specs.Journals.{commit_id}
+use Rattle.journal_words.specs.Journals.{commit_id}
 use Rattle.grid_model.specs.Rows.{dated}
 use Rattle.schedule_replay.proofs.Clocks.{small-dated}
 use Rattle.schedule_replay.proofs.readers.read_outs.Goals as goal

@@ -1,6 +1,0 @@
-use Rattle.std.proofs.Common.{◌≡◌, take, reverse}
-use Rattle.grid_model.specs.Journals.{applied_of}
-use Rattle.grid_model.proofs.records.commits.applied.Given as goal
-
-abbrev pub invariant-loop-pair : goal.invariant-loop-pair
-invariant-loop-pair l = l.pairs ≡ applied_of (reverse l.records) (reverse (take l.pair-index l.pair-items))

@@ -1,6 +1,0 @@
-use Rattle.std.proofs.Common.{◌≡◌, take, reverse}
-use Rattle.grid_model.specs.Journals.{decision}
-use Rattle.grid_model.proofs.records.decisions.decision.Given as goal
-
-abbrev pub invariant-loop-rec : goal.invariant-loop-rec
-invariant-loop-rec l = l.found ≡ decision l.t (reverse (take l.rec-index l.records))

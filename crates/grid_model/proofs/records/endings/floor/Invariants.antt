@@ -1,6 +1,0 @@
-use Rattle.std.proofs.Common.{◌≡◌, take, reverse}
-use Rattle.grid_model.specs.Journals.{floor}
-use Rattle.grid_model.proofs.records.endings.floor.Given as goal
-
-abbrev pub invariant-loop-rec : goal.invariant-loop-rec
-invariant-loop-rec l = l.greatest ≡ floor (reverse (take l.rec-index l.records))

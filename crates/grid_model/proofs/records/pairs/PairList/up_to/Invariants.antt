@@ -1,6 +1,0 @@
-use Rattle.std.proofs.Common.{◌≡◌, take, reverse}
-use Rattle.grid_model.specs.Journals.{up_to}
-use Rattle.grid_model.proofs.records.pairs.PairList.up_to.Given as goal
-
-abbrev pub invariant-loop-pair : goal.invariant-loop-pair
-invariant-loop-pair l = l.pairs ≡ up_to l.ident (reverse (take l.pair-index l.pair-items))

@@ -1,0 +1,115 @@
+-- What is a new proposal above, and what does the floor cover?
+use Rattle.std.proofs.Common.{◌≤◌, ◌<◌, ◌≡◌, Bool, true, false, max, List, [], ◌∷◌, ◌++◌, Option, Some, None, refl, subst, ◌∙◌, arith, if◌then◌else◌}
+use Rattle.std.proofs.lemmas.Bool.{and_parts}
+use Rattle.std.proofs.lemmas.Bool.Decides.{nat_tests}
+use Rattle.std.specs.Prelude.{◌==◌, nat_lt}
+use Rattle.score_base.specs.declared.ids.TxId.{TxId}
+use Rattle.score_base.specs.declared.ids.NodeId.{NodeId}
+use Rattle.score_base.specs.declared.ids.Ident.{Ident}
+use Rattle.score_base.specs.declared.causes.Outcome.TheVariants as outcome
+use Rattle.score_base.specs.declared.records.Record.{Record}
+use Rattle.score_base.specs.declared.records.Record.TheVariants as record'
+use Rattle.placement.specs.Clusters.{ClusterData}
+use Rattle.journal_words.specs.Journals.{Prepared, older, prepared_of, pending, ended, commits, floor, is_above, fits}
+use Rattle.journal_words.proofs.Pairs.{has_pair}
+
+-- ---- the floor grows
+
+pub floor-grows : (y : Record) (r : List Record) → floor r ≤ floor (y ∷ r)
+floor-grows (record'.Prepared u home parts sid p reads writes) r = omega arith
+floor-grows (record'.Ended u (outcome.Commit f)) r = omega arith
+floor-grows (record'.Ended u outcome.Abort) r = omega arith
+floor-grows (record'.Ceiling c) r = omega arith
+floor-grows y r = omega arith
+
+pub floor-later : (s r : List Record) → floor r ≤ floor (s ++ r)
+floor-later [] r = omega arith
+floor-later (y ∷ s) r = omega (arith, floor-later s r, floor-grows y (s ++ r))
+
+-- a Ceiling that fits is above the floor, and is the floor
+pub ceiling-floor : (c : ClusterData) (n : NodeId) (d : Ident) (r : List Record) → fits c n r (record'.Ceiling d) ≡ true → (floor r < d) × (floor (record'.Ceiling d ∷ r) ≡ d)
+ceiling-floor c n d r h =
+    let lt : floor r < d = (let a = (and_parts _ (nat_lt (floor r) d) h).1 in grind (arith, nat_tests, a)) in
+    (lt, omega arith)
+
+-- ---- the floor covers each proposal and each final identifier
+
+prepared-covered : (t : TxId) (r : List Record) → (x : Prepared) → prepared_of t r ≡ Some x → x.proposal ≤ floor r
+prepared-covered t [] x h = absurd (grind (arith, h))
+prepared-covered t (record'.Prepared u home parts sid p reads writes ∷ r) x h = go (λ y e. prepared-covered t r y e) (u == t) (prepared_of t r) refl h
+  where
+    go : ((y : Prepared) → prepared_of t r ≡ Some y → y.proposal ≤ floor r) → (b : Bool) (o : Option Prepared) → prepared_of t r ≡ o → (let y : Prepared = record { home = home; sid = sid; proposal = p; reads = reads; writes = writes } in (if b then older o y else o) ≡ Some x) → x.proposal ≤ max p (floor r)
+    go more true (Some y) e h = (let le = more y e in let is : y ≡ x = grind (arith, h) in let le' : x.proposal ≤ floor r = rw is at le in omega arith)
+    go more true None e h = (let P : Prepared → Type 0 = λ y. y.proposal ≤ max p (floor r) in let is : (let y : Prepared = record { home = home; sid = sid; proposal = p; reads = reads; writes = writes } in y ≡ x) = grind (arith, h) in subst P is (omega arith))
+    go more false o e h = (let le = more x (e ∙ h) in omega arith)
+prepared-covered t (record'.Ended u (outcome.Commit f) ∷ r) x h = omega (arith, prepared-covered t r x h)
+prepared-covered t (record'.Ended u outcome.Abort ∷ r) x h = prepared-covered t r x h
+prepared-covered t (record'.Ceiling d ∷ r) x h = omega (arith, prepared-covered t r x h)
+prepared-covered t (y ∷ r) x h = prepared-covered t r x h
+
+pub prepared-floor : (t : TxId) (x : Prepared) (r : List Record) → prepared_of t r ≡ Some x → x.proposal ≤ floor r
+prepared-floor t x r h = prepared-covered t r x h
+
+pub pending-floor : (t : TxId) (p : Ident) (r : List Record) → pending t r ≡ Some p → p ≤ floor r
+pending-floor t p [] h = absurd (grind (arith, h))
+pending-floor t p (record'.Prepared u home parts sid q reads writes ∷ r) h = grind (arith, nat_tests, pending-floor t p r)
+pending-floor t p (record'.Ended u (outcome.Commit f) ∷ r) h = grind (arith, nat_tests, pending-floor t p r)
+pending-floor t p (record'.Ended u outcome.Abort ∷ r) h = grind (arith, nat_tests, pending-floor t p r)
+pending-floor t p (record'.Ceiling d ∷ r) h = omega (arith, pending-floor t p r h)
+pending-floor t p (y ∷ r) h = pending-floor t p r h
+
+pub final-floor : (t : TxId) (f : Ident) (r : List Record) → ended t r ≡ Some (outcome.Commit f) → f ≤ floor r
+final-floor t f [] h = absurd (grind (arith, h))
+final-floor t f (record'.Prepared u home parts sid q reads writes ∷ r) h = omega (arith, final-floor t f r h)
+final-floor t f (record'.Ended u (outcome.Commit e) ∷ r) h = grind (arith, nat_tests, final-floor t f r)
+final-floor t f (record'.Ended u outcome.Abort ∷ r) h = grind (arith, nat_tests, final-floor t f r)
+final-floor t f (record'.Ceiling d ∷ r) h = omega (arith, final-floor t f r h)
+final-floor t f (y ∷ r) h = final-floor t f r h
+
+pub commits-floor : (t : TxId) (f : Ident) (r : List Record) → has_pair t f (commits r) ≡ true → f ≤ floor r
+commits-floor t f [] h = absurd (grind (arith, h))
+commits-floor t f (record'.Prepared u home parts sid q reads writes ∷ r) h = omega (arith, commits-floor t f r h)
+commits-floor t f (record'.Ended u (outcome.Commit e) ∷ r) h = grind (arith, nat_tests, commits-floor t f r)
+commits-floor t f (record'.Ended u outcome.Abort ∷ r) h = commits-floor t f r h
+commits-floor t f (record'.Ceiling d ∷ r) h = omega (arith, commits-floor t f r h)
+commits-floor t f (y ∷ r) h = commits-floor t f r h
+
+-- ---- above every proposal and every final identifier
+
+-- each identifier above the floor is
+pub floor-above : (p : Ident) (r : List Record) → floor r < p → is_above p r ≡ true
+floor-above p [] h = refl
+floor-above p (record'.Prepared u home parts sid q reads writes ∷ r) h = grind (arith, nat_tests, floor-above p r)
+floor-above p (record'.Ended u (outcome.Commit f) ∷ r) h = grind (arith, nat_tests, floor-above p r)
+floor-above p (record'.Ended u outcome.Abort ∷ r) h = floor-above p r h
+floor-above p (record'.Ceiling d ∷ r) h = floor-above p r (omega arith)
+floor-above p (y ∷ r) h = floor-above p r h
+
+-- and each above another such
+pub above-higher : (p q : Ident) (r : List Record) → p ≤ q → is_above p r ≡ true → is_above q r ≡ true
+above-higher p q [] le h = refl
+above-higher p q (record'.Prepared u home parts sid e reads writes ∷ r) le h = grind (arith, nat_tests, above-higher p q r le)
+above-higher p q (record'.Ended u (outcome.Commit f) ∷ r) le h = grind (arith, nat_tests, above-higher p q r le)
+above-higher p q (record'.Ended u outcome.Abort ∷ r) le h = above-higher p q r le h
+above-higher p q (y ∷ r) le h = above-higher p q r le h
+
+pub above-pending : (p : Ident) (t : TxId) (q : Ident) (r : List Record) → is_above p r ≡ true → pending t r ≡ Some q → q < p
+above-pending p t q [] a h = absurd (grind (arith, h))
+above-pending p t q (record'.Prepared u home parts sid e reads writes ∷ r) a h = grind (arith, nat_tests, above-pending p t q r)
+above-pending p t q (record'.Ended u (outcome.Commit f) ∷ r) a h = grind (arith, nat_tests, above-pending p t q r)
+above-pending p t q (record'.Ended u outcome.Abort ∷ r) a h = grind (arith, nat_tests, above-pending p t q r)
+above-pending p t q (y ∷ r) a h = above-pending p t q r a h
+
+pub above-final : (p : Ident) (t : TxId) (f : Ident) (r : List Record) → is_above p r ≡ true → ended t r ≡ Some (outcome.Commit f) → f < p
+above-final p t f [] a h = absurd (grind (arith, h))
+above-final p t f (record'.Prepared u home parts sid e reads writes ∷ r) a h = grind (arith, nat_tests, above-final p t f r)
+above-final p t f (record'.Ended u (outcome.Commit g) ∷ r) a h = grind (arith, nat_tests, above-final p t f r)
+above-final p t f (record'.Ended u outcome.Abort ∷ r) a h = grind (arith, nat_tests, above-final p t f r)
+above-final p t f (y ∷ r) a h = above-final p t f r a h
+
+pub above-commits : (p : Ident) (t : TxId) (f : Ident) (r : List Record) → is_above p r ≡ true → has_pair t f (commits r) ≡ true → f < p
+above-commits p t f [] a h = absurd (grind (arith, h))
+above-commits p t f (record'.Prepared u home parts sid e reads writes ∷ r) a h = grind (arith, nat_tests, above-commits p t f r)
+above-commits p t f (record'.Ended u (outcome.Commit g) ∷ r) a h = grind (arith, nat_tests, above-commits p t f r)
+above-commits p t f (record'.Ended u outcome.Abort ∷ r) a h = above-commits p t f r a h
+above-commits p t f (y ∷ r) a h = above-commits p t f r a h

@@ -1,0 +1,6 @@
+use Rattle.std.proofs.Common.{◌≡◌, ◌++◌, drop}
+use Rattle.journal_words.specs.Journals.{keys_in}
+use Rattle.journal_words.proofs.records.conflicts.keys_in.Given as goal
+
+abbrev pub invariant-loop-write : goal.invariant-loop-write
+invariant-loop-write l = l.keys ++ keys_in (drop l.write-index l.writes) ≡ keys_in l.writes

@@ -1,0 +1,6 @@
+pub mod FirstWaiting
+pub mod Walks
+pub mod RemoteReads
+pub mod AllReads
+pub mod SerialWalks
+pub mod Walking
