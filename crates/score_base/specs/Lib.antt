@@ -3,3 +3,4 @@ pub mod Keys
 pub mod KeyFields
 pub mod Numbers
 pub mod Pieces
+pub mod Tables

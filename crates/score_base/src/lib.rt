@@ -11,8 +11,10 @@ mod keys;
 mod lists;
 mod memory;
 mod numbers;
+mod ordered;
 mod records;
 mod spans;
+mod steps;
 
 pub use causes::{Ballot, Cause, Date, Outcome};
 pub use ids::{Ident, NodeId, TxId, Value};
@@ -20,8 +22,10 @@ pub use keys::Key;
 pub use lists::{ByteList, KeyList, Members, NodeList, WriteList};
 pub use memory::{Failed, Memory, TryCopy, append, push};
 pub use numbers::{law_number_spelling, number, put_bytes, put_number};
+pub use ordered::Ordered;
 pub use records::Record;
 pub use spans::{Span, lines, words};
+pub use steps::Steps;
 
 #[cfg(test)]
 mod tests;

@@ -1,4 +1,8 @@
+ghost use Rattle.std.specs.Prelude.{◌≡◌, ◌<◌};
+
 use super::*;
+use std::marker::Brand;
+use std::sync::ledger::{Blank, Ledger};
 use std::test::Fail;
 
 #[test]
@@ -76,4 +80,39 @@ fn lists_grow_and_are_copied(rt: HostRuntime) -> Result<(), Fail> {
     append(&mut items, [2u8, 3].to_vec(rt.alloc())?)?;
     assert_eq!(rt; items.as_slice(), [1u8, 2, 3].as_slice());
     Ok(())
+}
+
+/// The place of a key in a table, by a counter of its own.
+fn found_by<L: Ledger>(table: &Ordered<u64, u64>, key: u64, blank: Blank) -> Result<usize, usize>
+    requires { (blank.name ≡ L.name) × (blank.parts ≡ L.parts) × (0 < L.parts) }
+{
+    let (book, share) = blank.open::<L>();
+    let mut steps = Steps::new(book, share);
+    table.find(&key, &mut steps)
+}
+
+/// The place of a key in a table, or else where it would stand.
+fn place(table: &Ordered<u64, u64>, key: u64) -> usize {
+    match found_by::<Brand>(table, key, Blank::new(1)) {
+        Ok(i) => i,
+        Err(i) => i,
+    }
+}
+
+// Three keys, put in no order: each stands at its place, and a key that is gone leaves its place free.
+#[test]
+fn tables_are_in_order(rt: HostRuntime) {
+    let mut table = Ordered::<u64, u64>::new(rt.alloc());
+    assert!(rt; table.reserve(3).is_ok());
+    table.insert(0, 5, 50);
+    table.insert(0, 2, 20);
+    table.insert(2, 9, 90);
+    assert_eq!(rt; table.len(), 3);
+    assert_eq!(rt; place(&table, 9), 2);
+    assert_eq!(rt; place(&table, 6), 2);
+    assert_eq!(rt; table.remove(1), (5, 50));
+    assert_eq!(rt; place(&table, 9), 1);
+    table.retain(|pair| pair.1 != 20);
+    assert_eq!(rt; table.len(), 1);
+    assert_eq!(rt; table.pair(0), (9, 90));
 }

@@ -1,0 +1,139 @@
+//! A table of pairs in rising order of distinct keys, whose look-ups count their comparisons.
+//!
+//! A look-up halves what is left, so with n pairs it compares p keys, where 2^p is at most 2n + 1. An
+//! insert moves the pairs behind its place by one: at the end, where the new key is the greatest, none;
+//! a removal moves the pairs behind it. `retain` goes over the table once.
+//!
+//! Only `reserve` takes memory.
+ghost use Rattle.std.specs.Prelude.{◌≡◌, ◌+◌, ◌-◌, ◌*◌, ◌<◌, ◌≤◌, ◌^◌, ℕ, [], length, OnOk, OnErr, IfOk, IfErr, insert, remove, slice_index_or};
+ghost use Rattle.std.specs.List.Retain.{IsFiltered};
+ghost use Rattle.std.specs.Fn.{CalledAt};
+ghost use Rattle.score_base.specs.Tables.{IsGap, IsRising};
+
+use crate::memory::Memory;
+use crate::steps::Steps;
+use std::alloc::Global;
+use std::cmp::Ordering;
+use std::marker::Model;
+use std::sync::ledger::Ledger;
+
+/// Pairs of a key and a value, in rising order of distinct keys. Contracts see the list of the pairs
+/// and `spare`, the number of pairs for which there is room.
+#[derive(Drop)]
+pub struct Ordered<K: Copy + Ord, V: Copy> {
+    items: Vec<(K, V)>,
+}
+
+impl<K: Copy + Ord, V: Copy> Model for Ordered<K, V> {
+    ghost use Rattle.std.specs.Prelude.{◌-◌, ℕ, List, vec_len, vec_capacity, refl};
+    ghost use Rattle.std.specs.Coded.{coded_list, coded×, coded_ℕ, code_by};
+    ghost use Rattle.score_base.specs.Tables.{Table, IsRising};
+
+    ghost Value = { Table K V };
+
+    ghost coded = { code_by (List (K × V) × ℕ) (coded× (coded_list (coded× K.code V.code)) coded_ℕ) (λ t. (t.pairs, t.spare)) (λ p. record { pairs = p.0; spare = p.1 }) (λ _. refl) };
+
+    ghost view = { λ t. record { pairs = t.items.items; spare = vec_capacity t.items - vec_len t.items } };
+
+    ghost invariant = { λ t. IsRising K.cmp t.items.items };
+}
+
+impl<K: Copy + Ord, V: Copy> Ordered<K, V> {
+    /// The empty table.
+    pub fn new(alloc: Global) -> Ordered<K, V>
+        ensures pairs { result.pairs ≡ [] }
+    {
+        Ordered {
+            items: Vec::new(alloc),
+        }
+    }
+
+    /// Makes room for `n` more pairs. After [`Memory`] all is as before.
+    pub fn reserve(&mut self, n: usize) -> Result<(), Memory>
+        ensures room { OnOk result (n ≤ self.new.spare) }
+        ensures kept { self.old.spare ≤ self.new.spare }
+        ensures pairs { self.new.pairs ≡ self.old.pairs }
+        ensures err { OnErr result (self.new ≡ self.old) }
+    {
+        self.items.reserve(n)?;
+        Ok(())
+    }
+
+    /// How many pairs there are.
+    pub fn len(&self) -> usize
+        ensures value { result ≡ length self.now.pairs }
+        ensures rising { IsRising K.cmp self.now.pairs }
+    {
+        self.items.len()
+    }
+
+    /// Orders the key at place `i` against `key`, and counts one step. No other call compares keys.
+    pub fn compare<L: Ledger>(&self, i: usize, key: &K, steps: &mut Steps<L>) -> Ordering
+        requires within { i < length self.now.pairs }
+        requires small { steps.old < 2 ^ 63 }
+        ensures order { (d : K × V) → result ≡ K.cmp (slice_index_or self.now.pairs i d).0 key.now }
+        ensures step { steps.new ≡ steps.old + 1 }
+    {
+        steps.tick();
+        self.items[i].0.cmp(key)
+    }
+
+    /// The place of `key`, exactly where it is there; else the number of keys below it.
+    pub fn find<L: Ledger>(&self, key: &K, steps: &mut Steps<L>) -> Result<usize, usize>
+        requires { steps.old < 2 ^ 62 }
+        ensures found { IfOk result (λ i. (i < length self.now.pairs)
+            × ((d : K × V) → K.cmp (slice_index_or self.now.pairs i d).0 key.now ≡ Ordering.Equal)) }
+        ensures absent { IfErr result (λ i. IsGap K.cmp self.now.pairs key.now i) }
+        ensures count { steps.old ≤ steps.new }
+        ensures cost { 2 ^ (steps.new - steps.old) ≤ 2 * length self.now.pairs + 1 }
+    {
+        let mut low = 0;
+        let mut high = self.len();
+        while low < high {
+            let mid = low + (high - low) / 2;
+            match self.compare(mid, key, steps) {
+                Ordering::Less => low = mid + 1,
+                Ordering::Equal => return Ok(mid),
+                Ordering::Greater => high = mid,
+            }
+        }
+        Err(low)
+    }
+
+    /// The pair at place `i`.
+    pub fn pair(&self, i: usize) -> (K, V)
+        requires { i < length self.now.pairs }
+        ensures { result ≡ slice_index_or self.now.pairs i result }
+    {
+        self.items[i]
+    }
+
+    /// Puts a new key at its place.
+    pub fn insert(&mut self, i: usize, key: K, value: V)
+        requires room { 1 ≤ self.old.spare }
+        requires place { IsGap K.cmp self.old.pairs key i }
+        ensures pairs { self.new.pairs ≡ insert self.old.pairs i (key, value) }
+        ensures spare { self.new.spare + 1 ≡ self.old.spare }
+    {
+        self.items.insert(i, (key, value)).unwrap();
+    }
+
+    /// Takes out the pair at place `i`.
+    pub fn remove(&mut self, i: usize) -> (K, V)
+        requires { i < length self.old.pairs }
+        ensures pair { result ≡ slice_index_or self.old.pairs i result }
+        ensures pairs { self.new.pairs ≡ remove self.old.pairs i }
+        ensures spare { self.new.spare ≡ self.old.spare + 1 }
+    {
+        self.items.remove(i)
+    }
+
+    /// Drops each pair for which the test is false, in one pass.
+    pub fn retain<F: FnMut(&(K, V)) -> bool>(&mut self, f: F)
+        requires { F.IsAlwaysCallable f }
+        ensures filtered { IsFiltered (CalledAt F.FnMut) f self.old.pairs self.new.pairs }
+        ensures spare { self.old.spare ≤ self.new.spare }
+    {
+        self.items.retain(f);
+    }
+}
