@@ -1,6 +1,6 @@
 -- Each committed update stands in all lists of records that the disks may hold, with the values of the
 -- serial copy.
-use Rattle.std.proofs.Common.{inl, inr, ◌≡◌, true, List, [], ◌∷◌, ◌++◌, reverse, Option, Some, None, refl, sym, ap, subst, ◌∙◌, arith}
+use Rattle.std.proofs.Common.{false, inl, inr, ◌≡◌, true, List, [], ◌∷◌, ◌++◌, reverse, Option, Some, None, refl, sym, ap, subst, ◌∙◌, arith}
 use Rattle.std.proofs.lemmas.Bool.{and_parts, or_cases}
 use Rattle.std.proofs.lemmas.Bool.Decides.{nat_tests}
 use Rattle.std.proofs.lemmas.List.{reverse-reverse}
@@ -81,7 +81,7 @@ wrote-copy d past f t s n later before r at is = same-values (own_map s.ops (val
 prepared-copy : (d : DocumentData) (past : List Act) (f : Ident) (t : TxId) (s : ScriptData) (n : NodeId) (later before : List (Ident × TxId)) → Rests d past → order d past ≡ later ++ (f, t) ∷ before → script_of t d.scripts ≡ Some s → is_among n (parts_in d (Some s)) ≡ true → (x : Prepared) × (prepared_of t (journal d past n) ≡ Some x) × (x.writes ≡ writes_on d n s (copy_of d before))
 prepared-copy d past f t s n later before r at is part =
     let w : Decided d past f t = decided-member d past f t later before r at in
-    let rests : RestsOnParts d past t f = (decisions-rest d past r.due w.decided.0 t f w.decided.2).1 in
+    let rests : RestsOnParts d past t f = (decisions-rest d past r.due false w.decided.0 t f w.decided.2).1 in
     let P : Option ScriptData → Type 0 = λ o. is_among n (parts_in d o) ≡ true in
     let p = rests.each n (subst P (sym is) part) in
     let x = has_prepared-says d.cluster n t p.0 (journal d past n) (nodes-fit d past r.due n).fits p.1 in

@@ -94,7 +94,7 @@ member-version d past n k s t f v g holds' clear member wrote =
     let decided : IsDecided d past t f = order-decided d past t f (decisions-rest d past g.due) m.0 in
     let w : Writes d t k = writes-named d (values_in d past) k t v wrote in
     let part : is_among n (parts_at d t) ≡ true = named-part-at d t w.script n k g.one w.is holds' w.named in
-    let rests : RestsOnParts d past t f = (decisions-rest d past g.due decided.0 t f decided.2).1 in
+    let rests : RestsOnParts d past t f = (decisions-rest d past g.due false decided.0 t f decided.2).1 in
     let p = rests.each n part in
     let x = has_prepared-says d.cluster n t p.0 (journal d past n) fit p.1 in
     let least : p.0 ≤ f = p.2 in
@@ -120,4 +120,4 @@ commit-last d past n k s g holds' le = node-last d past n k s g holds' (clear-be
 pub served-last : (d : DocumentData) (past : List Act) (t : TxId) (j : ℕ) (sid : Ident) (v : Value) → Rests d past → (s : IsServed d past t j sid v) → v ≡ last_map d (values_in d past) (members_to sid (order d past)) s.key
 served-last d past t j sid v g s =
     let stable : IsStable d past s.n s.key sid s.vn v = served-stable d past s.n t j s.key sid s.vn v s.later s.before g.due s.there in
-    sym stable.value ∙ node-last d past s.n s.key sid g s.holds (served-promised d past g.due s.n t j s.key sid s.vn v s.later s.before s.there).clear
+    sym stable.value ∙ node-last d past s.n s.key sid g s.holds ((served-promised d past g.due s.n t j s.key sid s.vn v s.later s.before s.there).clear false)

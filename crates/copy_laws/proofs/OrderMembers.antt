@@ -36,7 +36,7 @@ pub order-decided : (d : DocumentData) (past : List Act) (t : TxId) (f : Ident) 
 order-decided d past t f rest h =
     let w = nodes-member f t (λ n. decisions (journal d past n)) (range_with_len 1 d.cluster.nodes) (sym (order-member d past f t) ∙ h) in
     let is : has_decided t f (journal d past w.0) ≡ true = sym (decisions-member f t (journal d past w.0)) ∙ w.1 in
-    (w.0, (rest w.0 t f is).0, is)
+    (w.0, (rest false w.0 t f is).0, is)
 
 -- a member at one of the nodes from a on is among those of all
 member-nodes : (f : Ident) (t : TxId) (of : NodeId → List (Ident × TxId)) (n : NodeId) (a len : ℕ) → a ≤ n → n < a + len → has_member f t (of n) ≡ true → has_member f t (flat_map of (range_with_len a len)) ≡ true

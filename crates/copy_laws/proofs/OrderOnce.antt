@@ -111,7 +111,7 @@ range-once of once own a (suc len) = once-append (of a) (flat_map of (range_with
 decided-home : (d : DocumentData) (past : List Act) (n : NodeId) (t : TxId) → AllDue d past → has_tx t (decisions (journal d past n)) ≡ true → is_home d t n ≡ true
 decided-home d past n t due h =
     let w = tx-member t (decisions (journal d past n)) h in
-    (decisions-rest d past due n t w.0 (sym (decisions-member w.0 t (journal d past n)) ∙ w.1)).0
+    (decisions-rest d past due false n t w.0 (sym (decisions-member w.0 t (journal d past n)) ∙ w.1)).0
 
 all-once : (d : DocumentData) (past : List Act) → AllDue d past → AreOnce (all_decisions d past)
 all-once d past due = range-once (λ n. decisions (journal d past n)) (decided-once d past due) (λ t n k h i. home-one (script_of t d.scripts) n k (decided-home d past n t due h) (decided-home d past k t due i)) 1 d.cluster.nodes

@@ -21,9 +21,9 @@ use Rattle.script_runs.specs.Walks.{own_map}
 use Rattle.grid_model.proofs.Written.{prepare-value}
 use Rattle.grid_model.proofs.SerialCopies.{script_write, write_by}
 use Rattle.grid_laws.proofs.Causes.{AllDue}
-use Rattle.grid_laws.proofs.Holds.{AllHold}
 use Rattle.grid_laws.proofs.PreparesSay.{PrepareSays, PreparedSays, prepared-say, open_with}
 use Rattle.copy_laws.proofs.Footing.{values_in, story_values}
+use Rattle.grid_laws.proofs.NodesFit.{AllHold}
 
 -- ---- the fields of the first Prepared
 

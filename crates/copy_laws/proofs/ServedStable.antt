@@ -60,7 +60,7 @@ version-more d past a n k sid due clear = version-next d n k sid (journal d past
 version-later : (d : DocumentData) (n : NodeId) (t : TxId) (j : ℕ) (k : Key) (sid vn : Ident) (v : Value) (later before : List Act) → AllDue d (later ++ act.Served n t j k sid vn v ∷ before) → version_for d.cluster (journal d (later ++ act.Served n t j k sid vn v ∷ before) n) k sid ≡ version_for d.cluster (journal d before n) k sid
 version-later d n t j k sid vn v [] before due = ap (λ r. version_for d.cluster r k sid) (journal-stays d before (act.Served n t j k sid vn v) n refl)
 version-later d n t j k sid vn v (a ∷ later) before due =
-    version-more d (later ++ act.Served n t j k sid vn v ∷ before) a n k sid due (served-promised d (later ++ act.Served n t j k sid vn v ∷ before) due.1 n t j k sid vn v later before refl).clear
+    version-more d (later ++ act.Served n t j k sid vn v ∷ before) a n k sid due ((served-promised d (later ++ act.Served n t j k sid vn v ∷ before) due.1 n t j k sid vn v later before refl).clear false)
     ∙ version-later d n t j k sid vn v later before due.1
 
 -- the version that was served, at its node

@@ -1,5 +1,5 @@
 -- No decided transaction wrote a key that another one read between its snapshot and its decision.
-use Rattle.std.proofs.Common.{◌≡◌, ◌≢◌, ◌≤◌, ◌<◌, ◌⊎◌, inl, inr, true, List, [], Some, refl, sym, ap, ◌∙◌, arith}
+use Rattle.std.proofs.Common.{false, ◌≡◌, ◌≢◌, ◌≤◌, ◌<◌, ◌⊎◌, inl, inr, true, List, [], Some, refl, sym, ap, ◌∙◌, arith}
 use Rattle.std.specs.Prelude.{map, filter}
 use Rattle.score_base.specs.declared.ids.TxId.{TxId}
 use Rattle.score_base.specs.declared.ids.NodeId.{NodeId}
@@ -40,7 +40,7 @@ record DecidedAt (d : DocumentData) (past : List Act) (n : NodeId) (t : TxId) (f
 
 decided-at : (d : DocumentData) (past : List Act) (n : NodeId) (t : TxId) (f : Ident) (s : ScriptData) (k : Key) → Rests d past → IsDecided d past t f → script_of t d.scripts ≡ Some s → holds d.cluster.places n k ≡ true → is_key_among k (keys_named s.ops) ≡ true → DecidedAt d past n t f s
 decided-at d past n t f s k r dec is held named =
-    let rests : RestsOnParts d past t f = (decisions-rest d past r.due dec.0 t f dec.2).1 in
+    let rests : RestsOnParts d past t f = (decisions-rest d past r.due false dec.0 t f dec.2).1 in
     let part : is_among n (parts_at d t) ≡ true = named-part-at d t s n k r.one is held named in
     let w = rests.each n part in
     let x = has_prepared-says d.cluster n t w.0 (journal d past n) (nodes-fit d past r.due n).fits w.1 in

@@ -1,6 +1,6 @@
 -- Votes, acknowledgements and outcomes that were sent are fit where they are got, but for the size of their
 -- identifiers.
-use Rattle.std.proofs.Common.{◌≡◌, ℕ, ◌≤◌, ◌<◌, true, List, Option, Some, None, refl, sym, ap, subst, arith}
+use Rattle.std.proofs.Common.{◌≡◌, ℕ, ◌≤◌, ◌<◌, true, List, Option, Some, None, refl, sym, ap, subst, arith, false}
 use Rattle.std.proofs.lemmas.Bool.Decides.{nat_tests}
 use Rattle.std.specs.Prelude.{nat_le}
 use Rattle.score_base.specs.declared.ids.TxId.{TxId}
@@ -129,7 +129,7 @@ decided-least d past n t f all w = go (pending t (journal d past n)) refl
     go (Some p) e =
         let fit = (nodes-fit d past all n).fits in
         let x = pending-prepared t p (journal d past n) e in
-        let found = (decisions-rest d past all w.0 t f w.2).1.each n (prepared-part d past n t x.0 all x.1) in
+        let found = (decisions-rest d past all false w.0 t f w.2).1.each n (prepared-part d past n t x.0 all x.1) in
         let same : found.0 ≡ p = prepared-once d.cluster n t found.0 p (journal d past n) fit found.1 (pending-has t p (journal d past n) e) in
         let le : found.0 ≤ f = found.2 in
         grind (arith, nat_tests, same, le)

@@ -28,8 +28,9 @@ use Rattle.grid_laws.proofs.Causes.{AllDue, ClosedDue, RecordDue}
 use Rattle.grid_laws.proofs.Stages.{stage-commits}
 use Rattle.grid_laws.proofs.NodesFitActs.{nodes-fit, prepared-is, decision-home, undone-decision}
 use Rattle.grid_laws.proofs.MessagesBacked.{commit-more}
-use Rattle.grid_laws.proofs.Holds.{AllHold, HoldsIn, NodeHolds, records-hold}
+use Rattle.grid_laws.proofs.Holds.{NodeHolds, records-hold}
 use Rattle.grid_laws.proofs.VotesBacked.{StoryBacked, AllAcks, acks-last, stories-backed, says-sent, acked-each, ack-found}
+use Rattle.grid_laws.proofs.NodesFit.{AllHold, HoldsIn}
 
 -- ---- over
 

@@ -19,17 +19,17 @@ use Rattle.grid_model.specs.Nodes.{got, journal, node, parts_in, parts_of, recor
 use Rattle.grid_model.specs.Stories.{first_sid}
 use Rattle.grid_model.specs.Copies.{snapshot}
 use Rattle.journal_words.specs.Journals.{has_prepared, has_decided}
-use Rattle.grid_model.specs.Facts.{parts_at, DecisionsRest}
+use Rattle.grid_model.specs.Facts.{parts_at, DecisionsRest, records_at}
 use Rattle.grid_model.specs.Rows.{greatest_vote}
 use Rattle.grid_laws.proofs.Causes.{AllDue, RecordDue, DecidedDue}
 use Rattle.journal_words.proofs.Stands.{has_prepared-says, prepared-sound}
-use Rattle.grid_laws.proofs.NodesFit.{AllAtHome}
 use Rattle.grid_laws.proofs.NodesFitActs.{nodes-fit, prepared-is}
 use Rattle.grid_laws.proofs.MessagesBacked.{prepared-more}
-use Rattle.grid_laws.proofs.Holds.{AllHold, HoldsIn, NodeHolds, records-hold}
+use Rattle.grid_laws.proofs.Holds.{NodeHolds, records-hold}
 use Rattle.grid_laws.proofs.FullStories.{Full, full-more, full-snapshot}
 use Rattle.grid_laws.proofs.PreparesSay.{prepared-say, first-prepared}
 use Rattle.grid_laws.proofs.VotesBacked.{StoryBacked, AllVotes, FoundVote, FoundPart, stories-backed, vote-found, vote-greatest, voted-each}
+use Rattle.grid_laws.proofs.NodesFit.{AtItsHome, AllHold, HoldsIn, hold-found}
 
 -- what a Decided says: the votes of all parts, and a snapshot below the final identifier
 pub record DecisionSays (d : DocumentData) (past : List Act) (t : TxId) (f : Ident) : Type 0 where
@@ -127,7 +127,7 @@ decision-at d past n t u f g true same home says go =
 decision-at d past n t u f g false same home says go = go refl
 
 -- a decision that stands is at its home, and says so
-pub decision-stands : (d : DocumentData) (past : List Act) (n : NodeId) (t : TxId) (f : Ident) (r : List Record) → AllAtHome d n r → AllHold (DecidedSays d past n) r → has_decided t f r ≡ true → (is_home d t n ≡ true) × DecisionSays d past t f
+pub decision-stands : (d : DocumentData) (past : List Act) (n : NodeId) (t : TxId) (f : Ident) (r : List Record) → AllHold (AtItsHome d n) r → AllHold (DecidedSays d past n) r → has_decided t f r ≡ true → (is_home d t n ≡ true) × DecisionSays d past t f
 decision-stands d past n t f [] homes says e = cc
 decision-stands d past n t f (record'.Decided u g parts ∷ r) homes says e = decision-at d past n t u f g (u == t && g == f) refl homes.0.0 says.0 (λ i. decision-stands d past n t f r homes.1 says.1 (grind (arith, e, i)))
 decision-stands d past n t f (record'.Prepared u home parts sid p reads writes ∷ r) homes says e = decision-stands d past n t f r homes.1 says.1 e
@@ -136,8 +136,11 @@ decision-stands d past n t f (record'.Ceiling c ∷ r) homes says e = decision-s
 decision-stands d past n t f (record'.Closed u ∷ r) homes says e = decision-stands d past n t f r homes.1 says.1 e
 
 pub decisions-rest : (d : DocumentData) (past : List Act) → AllDue d past → DecisionsRest d past
-decisions-rest d past all n t f is =
-    let w = decision-stands d past n t f (journal d past n) (nodes-fit d past all n).homes (decided-say d past all n).journal is in
+decisions-rest d past all kept n t f is =
+    let x = node d past n in
+    let homes = hold-found (AtItsHome d n) kept x.doubt x.journal (nodes-fit d past all n).homes (nodes-fit d past all n).home_doubt in
+    let says = hold-found (DecidedSays d past n) kept x.doubt x.journal (decided-say d past all n).journal (decided-say d past all n).doubt in
+    let w = decision-stands d past n t f (records_at d past kept n) homes says is in
     let s : DecisionSays d past t f = w.1 in
     let fixed : snapshot d past t ≡ s.sid = full-snapshot d past s.home t s.script s.sid s.values s.full in
     let below : s.sid < f = s.fresh in

@@ -26,9 +26,10 @@ use Rattle.journal_words.proofs.Stands.{has_commit-says}
 use Rattle.grid_laws.proofs.Causes.{AllDue, EndedDue, RecordDue}
 use Rattle.grid_laws.proofs.NodesFitActs.{nodes-fit, prepared-is}
 use Rattle.grid_laws.proofs.MessagesBacked.{decided-more, says-more, says-due}
-use Rattle.grid_laws.proofs.Holds.{AllHold, HoldsIn, NodeHolds, got-hold, records-hold}
+use Rattle.grid_laws.proofs.Holds.{NodeHolds, got-hold, records-hold}
 use Rattle.grid_laws.proofs.AbortsFinal.{given-more, means-more, means-due}
 use Rattle.grid_laws.proofs.AnswersFit.{prepared-part}
+use Rattle.grid_laws.proofs.NodesFit.{AllHold, HoldsIn}
 
 -- ---- the message that was got last
 

@@ -18,7 +18,7 @@ use Rattle.grid_model.specs.Histories.{sent, sent_at}
 use Rattle.grid_model.specs.Nodes.{got, node, script_of, parts_in, Node, Change, Nothing, Writes, Raises, Holds, Frees, Stops, Starts, Stays, change, changed, found, prepared_by, doubt_of, record_of, freed, is_request, said_by, held_by, is_kept}
 use Rattle.grid_laws.proofs.Causes.{SendDue, RecordDue, StopDue, IsDue, AllDue}
 use Rattle.grid_laws.proofs.DueAnswers.{home-is}
-use Rattle.grid_laws.proofs.NodesFit.{at-node, at-home}
+use Rattle.grid_laws.proofs.NodesFit.{at-node, at-home, AllHold, HoldsIn, hold-found}
 use Rattle.grid_laws.proofs.NodesFitActs.{nodes-fit, closed-home}
 
 -- ---- messages
@@ -54,14 +54,6 @@ got-hold C d (a ∷ past) more new due e is = more past a e.from e.to e.message 
 
 -- ---- records
 
-abbrev pub AllHold : (Record → Type 0) → List Record → Type 0
-AllHold C [] = Unit {0}
-AllHold C (y ∷ r) = C y × AllHold C r
-
-abbrev pub HoldsIn : (Record → Type 0) → Option Record → Type 0
-HoldsIn C None = Unit {0}
-HoldsIn C (Some y) = C y
-
 -- each record that stands, and the record in doubt
 pub record NodeHolds (C : Record → Type 0) (x : Node) : Type 0 where
   pub journal : AllHold C x.journal
@@ -71,11 +63,6 @@ abbrev ChangeHolds : (Record → Type 0) → Change → Type 0
 ChangeHolds C (Writes o) = HoldsIn C o
 ChangeHolds C (Stops o) = HoldsIn C o
 ChangeHolds C c = Unit {0}
-
-hold-found : (C : Record → Type 0) (b : Bool) (o : Option Record) (r : List Record) → AllHold C r → HoldsIn C o → AllHold C (found b o r)
-hold-found C true (Some y) r h k = (k, h)
-hold-found C true None r h k = h
-hold-found C false o r h k = h
 
 hold-changed : (C : Record → Type 0) (x : Node) (c : Change) → NodeHolds C x → ChangeHolds C c → NodeHolds C (changed c x)
 hold-changed C x Nothing s due = s

@@ -7,6 +7,7 @@ use Rattle.score_base.specs.declared.causes.Ballot.TheVariants as ballot
 use Rattle.score_base.specs.declared.causes.Outcome.TheVariants as outcome
 use Rattle.grid_model.specs.declared.acts.Act.{Act}
 use Rattle.grid_model.specs.declared.acts.Act.TheVariants as act
+use Rattle.grid_model.specs.declared.acts.Head.TheVariants as head
 use Rattle.grid_model.specs.declared.messages.Envelope.{Envelope}
 use Rattle.grid_model.specs.declared.messages.Message.{Message}
 use Rattle.grid_model.specs.declared.messages.Message.TheVariants as message
@@ -18,13 +19,13 @@ use Rattle.journal_words.specs.Journals.{is_locking, commit_id, prepared_of, flo
 use Rattle.grid_model.specs.Nodes.{journal}
 use Rattle.grid_model.specs.Excuses.{has_sent}
 use Rattle.grid_model.specs.Copies.{snapshot}
-use Rattle.grid_model.specs.Facts.{has_served, is_given_up, is_over}
+use Rattle.grid_model.specs.Facts.{has_served, is_given_up, is_over, are_above, records_at}
 use Rattle.journal_words.proofs.TwoNodes.{a}
 use Rattle.grid_model.proofs.TransferActs.{asks}
 use Rattle.grid_model.proofs.RunsThatCommit.{read_then_write, read_then_write_acts}
 use Rattle.grid_model.proofs.RunsWithReads.{ceiling_after_crash, ceiling_after_crash_acts, held_read, held_read_front}
 use Rattle.grid_model.proofs.RunsWithConflicts.{lock_until_applied, lock_until_applied_acts}
-use Rattle.grid_model.proofs.RunsThatStop.{presumed_abort, presumed_abort_acts}
+use Rattle.grid_model.proofs.RunsThatStop.{presumed_abort, presumed_abort_acts, one_vote, stop_at_the_decision}
 
 -- the pasts of the runs
 abbrev committed : List Act
@@ -41,6 +42,13 @@ locked = after [] lock_until_applied_acts
 
 abbrev presumed : List Act
 presumed = after [] presumed_abort_acts
+
+-- node n2 stopped in the Prepared of transaction 1, and node n1 in its Decided
+abbrev stopped_preparing : List Act
+stopped_preparing = act.Down 2 (Some (head.Prepared 1 1)) ∷ act.Got 4 ∷ after [] asks
+
+abbrev stopped_deciding : List Act
+stopped_deciding = act.Down 1 (Some (head.Decided 1 1)) ∷ act.Got 6 ∷ after [] (one_vote 2 0)
 
 -- ---- messages are backed by records
 
@@ -109,6 +117,31 @@ decision-rests = (refl, refl, refl, refl)
 -- four records stand at the home, and each fits those before it
 pub records-fit : all_fit read_then_write.cluster 1 (journal read_then_write committed 1) ≡ true
 records-fit = refl
+
+-- a Prepared in doubt fits behind no record, and stands only where it was kept
+pub doubt-fits :
+    (all_fit read_then_write.cluster 2 (records_at read_then_write stopped_preparing true 2) ≡ true)
+    × (has_prepared 1 1 (records_at read_then_write stopped_preparing true 2) ≡ true)
+    × (has_prepared 1 1 (records_at read_then_write stopped_preparing false 2) ≡ false)
+doubt-fits = (refl, refl, refl)
+
+-- its transaction would lock the keys
+pub doubt-locks :
+    (is_locking 1 (records_at read_then_write stopped_preparing true 2) ≡ true)
+    × (is_locking 1 (records_at read_then_write stopped_preparing false 2) ≡ false)
+doubt-locks = (refl, refl)
+
+-- a Decided in doubt rests on the Prepareds of both parts
+pub doubt-rests :
+    (has_decided 1 1 (records_at (stop_at_the_decision 2 0) stopped_deciding true 1) ≡ true)
+    × (has_decided 1 1 (journal (stop_at_the_decision 2 0) stopped_deciding 1) ≡ false)
+    × (has_prepared 1 1 (journal (stop_at_the_decision 2 0) stopped_deciding 1) ≡ true)
+    × (has_prepared 1 1 (journal (stop_at_the_decision 2 0) stopped_deciding 2) ≡ true)
+doubt-rests = (refl, refl, refl, refl)
+
+-- a stop in a Prepared that is at most the read would break its promise, kept or not
+pub doubt-above : (are_above 2 1 stopped_preparing ≡ false) × (are_above 2 0 stopped_preparing ≡ true)
+doubt-above = (refl, refl)
 
 -- ---- identifiers
 

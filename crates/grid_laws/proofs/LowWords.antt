@@ -28,7 +28,8 @@ use Rattle.grid_model.specs.Stories.{Phase, story, asked, heard, heard_at, if_to
 use Rattle.grid_model.specs.Acts.{EachAct}
 use Rattle.grid_model.specs.Facts.{IsAtMost, act_ident, head_ident, message_ident, outcome_ident}
 use Rattle.grid_model.specs.Rows.{greatest_vote}
-use Rattle.grid_laws.proofs.Holds.{AllHold, HoldsIn, sent-last, sent-none}
+use Rattle.grid_laws.proofs.Holds.{sent-last, sent-none}
+use Rattle.grid_laws.proofs.NodesFit.{AllHold, HoldsIn}
 
 -- ---- nodes
 

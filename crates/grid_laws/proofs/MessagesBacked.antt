@@ -1,5 +1,5 @@
 -- Each message that was sent is backed by a record or an act.
-use Rattle.std.proofs.Common.{◌≡◌, ℕ, true, List, [], ◌∷◌, Some, refl, sym, subst, ◌∙◌, arith}
+use Rattle.std.proofs.Common.{◌≡◌, ℕ, Bool, true, false, List, [], ◌∷◌, Option, Some, None, refl, sym, subst, ◌∙◌, arith}
 use Rattle.std.proofs.lemmas.Bool.Decides.{nat_tests}
 use Rattle.std.proofs.lemmas.Bool.{or_right}
 use Rattle.std.specs.Prelude.{◌==◌, ◌&&◌}
@@ -20,10 +20,11 @@ use Rattle.grid_model.specs.declared.messages.Message.{Message}
 use Rattle.grid_model.specs.declared.messages.Message.TheVariants as message
 use Rattle.grid_model.specs.Documents.{DocumentData}
 use Rattle.journal_words.specs.Journals.{decision, pending, has_prepared, has_decided, has_commit}
-use Rattle.grid_model.specs.Nodes.{node, journal}
+use Rattle.grid_model.specs.Nodes.{node, journal, found}
 use Rattle.grid_model.specs.Acts.{EachSent, has_refused, is_same_cause}
-use Rattle.grid_model.specs.Facts.{has_served, Says, MessagesBacked}
-use Rattle.grid_laws.proofs.Causes.{SendDue, AllDue}
+use Rattle.grid_model.specs.Facts.{has_served, Says, MessagesBacked, SaysIn, records_at}
+use Rattle.grid_laws.proofs.MessageCauses.{SendDue}
+use Rattle.grid_laws.proofs.Causes.{AllDue}
 use Rattle.grid_laws.proofs.Frames.{same-number, journal-more}
 use Rattle.script_lang.proofs.KeyLists.{same_key-self}
 use Rattle.journal_words.proofs.Decisions.{has_decided-grows, decision-has}
@@ -108,5 +109,22 @@ each-sent C d [] more new due = tt
 each-sent C d (act.Sent m x y said ∷ past) more new due = (more past (act.Sent m x y said) x said due (new past x y said due.1 due.0), each-more (C past) (C (act.Sent m x y said ∷ past)) past (λ n s h. more past (act.Sent m x y said) n s due h) (each-sent C d past more new due.1))
 each-sent C d (a ∷ past) more new due = each-more (C past) (C (a ∷ past)) past (λ n s h. more past a n s due h) (each-sent C d past more new due.1)
 
+-- what stands in the journals stands where the record in doubt stands behind it too
+grown : (P : List Record → Type 0) → ((y : Record) (r : List Record) → P r → P (y ∷ r)) →
+    (b : Bool) (o : Option Record) (r : List Record) → P r → P (found b o r)
+grown P grow true (Some y) r h = grow y r h
+grown P grow true None r h = h
+grown P grow false o r h = h
+
+says-kept : (d : DocumentData) (past : List Act) (kept : Bool) (n : NodeId) (said : Message) →
+    Says d past n said → SaysIn d past (records_at d past kept) n said
+says-kept d past kept n (message.Vote t (ballot.Yes p)) h =
+    grown (λ r. has_prepared t p r ≡ true) (λ y r i. has_prepared-grows t p y r i) kept (node d past n).doubt (journal d past n) h
+says-kept d past kept n (message.Tell t (outcome.Commit f)) h =
+    (h.0, h.1, grown (λ r. has_decided t f r ≡ true) (λ y r i. has_decided-grows t f y r i) kept (node d past h.0).doubt (journal d past h.0) h.2)
+says-kept d past kept n (message.Ack t) h =
+    grown (λ r. has_commit t r ≡ true) (λ y r i. has_commit-grows t y r i) kept (node d past n).doubt (journal d past n) h
+says-kept d past kept n said h = h
+
 pub messages-backed : (d : DocumentData) (past : List Act) → AllDue d past → MessagesBacked d past
-messages-backed d past due = each-sent (λ now n said. Says d now n said) d past (λ now a n said all h. says-more d now a n said h) (λ now n y said all h. says-due d now n y said (nodes-fit d now all n) h) due
+messages-backed d past due kept = each-more (Says d past) (SaysIn d past (records_at d past kept)) past (says-kept d past kept) (each-sent (λ now n said. Says d now n said) d past (λ now a n said all h. says-more d now a n said h) (λ now n y said all h. says-due d now n y said (nodes-fit d now all n) h) due)

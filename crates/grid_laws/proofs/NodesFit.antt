@@ -39,6 +39,25 @@ at-home d t P k n c home here none = go (is_home d t n) refl
     go true e = let Q : NodeId → Type 0 = λ j. P j c in subst Q (home-one (script_of t d.scripts) k n home e) here
     go false e = none n
 
+-- ---- a claim on records
+
+-- each of these records
+abbrev pub AllHold : (Record → Type 0) → List Record → Type 0
+AllHold C [] = Unit {0}
+AllHold C (y ∷ r) = C y × AllHold C r
+
+-- the record in doubt
+abbrev pub HoldsIn : (Record → Type 0) → Option Record → Type 0
+HoldsIn C None = Unit {0}
+HoldsIn C (Some y) = C y
+
+-- each record that stands, and the record in doubt behind them
+pub hold-found : (C : Record → Type 0) (b : Bool) (o : Option Record) (r : List Record) →
+    AllHold C r → HoldsIn C o → AllHold C (found b o r)
+hold-found C true (Some y) r h k = (k, h)
+hold-found C true None r h k = h
+hold-found C false o r h k = h
+
 -- ---- a node whose records fit
 
 abbrev pub FitsDoubt : DocumentData → NodeId → List Record → Option Record → Type 0
@@ -50,21 +69,13 @@ abbrev pub AtItsHome : DocumentData → NodeId → Record → Type 0
 AtItsHome d n (record'.Decided t f parts) = (is_home d t n ≡ true) × (parts ≡ parts_at d t)
 AtItsHome d n y = Unit {0}
 
-abbrev pub AllAtHome : DocumentData → NodeId → List Record → Type 0
-AllAtHome d n [] = Unit {0}
-AllAtHome d n (y ∷ r) = AtItsHome d n y × AllAtHome d n r
-
-abbrev pub DoubtAtHome : DocumentData → NodeId → Option Record → Type 0
-DoubtAtHome d n None = Unit {0}
-DoubtAtHome d n (Some y) = AtItsHome d n y
-
 pub record IsFitNode (d : DocumentData) (n : NodeId) (x : Node) : Type 0 where
   pub fits : all_fit d.cluster n x.journal ≡ true
   pub doubt : FitsDoubt d n x.journal x.doubt
   pub quiet : x.up ≡ true → x.doubt ≡ None
   pub clock : x.up ≡ true → is_above (1 + x.next) x.journal ≡ true
-  pub homes : AllAtHome d n x.journal
-  pub home_doubt : DoubtAtHome d n x.doubt
+  pub homes : AllHold (AtItsHome d n) x.journal
+  pub home_doubt : HoldsIn (AtItsHome d n) x.doubt
 
 -- a proposal of the record in doubt is above s
 abbrev pub OverDoubt : Ident → Option Record → Type 0
@@ -75,7 +86,7 @@ OverDoubt s (Some y) = is_over s y ≡ true
 abbrev pub FitChange : DocumentData → NodeId → Node → Change → Type 0
 FitChange d n x (Writes None) = Unit {0}
 FitChange d n x (Writes (Some y)) = (x.up ≡ true) × (fits d.cluster n x.journal y ≡ true) × AtItsHome d n y × (is_over x.next y ≡ true)
-FitChange d n x (Stops o) = (x.up ≡ true) × FitsDoubt d n x.journal o × DoubtAtHome d n o × OverDoubt x.next o
+FitChange d n x (Stops o) = (x.up ≡ true) × FitsDoubt d n x.journal o × HoldsIn (AtItsHome d n) o × OverDoubt x.next o
 FitChange d n x c = Unit {0}
 
 pub all-more : (d : DocumentData) (n : NodeId) (y : Record) (r : List Record) → fits d.cluster n r y ≡ true → all_fit d.cluster n r ≡ true → all_fit d.cluster n (y ∷ r) ≡ true
@@ -91,8 +102,8 @@ clock-learnt (record'.Closed t) r next h = h
 
 same-node : (d : DocumentData) (n : NodeId) (x y : Node) → IsFitNode d n x → y.journal ≡ x.journal → y.doubt ≡ x.doubt → y.up ≡ x.up → x.next ≤ y.next → IsFitNode d n y
 same-node d n x y s j o u le =
-    let P : List Record → Type 0 = λ r. AllAtHome d n r in
-    let Q : Option Record → Type 0 = λ z. DoubtAtHome d n z in
+    let P : List Record → Type 0 = λ r. AllHold (AtItsHome d n) r in
+    let Q : Option Record → Type 0 = λ z. HoldsIn (AtItsHome d n) z in
     let R : List Record → Option Record → Type 0 = λ r z. FitsDoubt d n r z in
     record {
       fits = rw j s.fits;
@@ -103,15 +114,11 @@ same-node d n x y s j o u le =
       home_doubt = subst Q (sym o) s.home_doubt;
     }
 
-fit-found : (d : DocumentData) (n : NodeId) (b : Bool) (o : Option Record) (r : List Record) → all_fit d.cluster n r ≡ true → FitsDoubt d n r o → all_fit d.cluster n (found b o r) ≡ true
+pub fit-found : (d : DocumentData) (n : NodeId) (b : Bool) (o : Option Record) (r : List Record) →
+    all_fit d.cluster n r ≡ true → FitsDoubt d n r o → all_fit d.cluster n (found b o r) ≡ true
 fit-found d n true (Some y) r h k = all-more d n y r k h
 fit-found d n true None r h k = h
 fit-found d n false o r h k = h
-
-home-found : (d : DocumentData) (n : NodeId) (b : Bool) (o : Option Record) (r : List Record) → AllAtHome d n r → DoubtAtHome d n o → AllAtHome d n (found b o r)
-home-found d n true (Some y) r h k = (k, h)
-home-found d n true None r h k = h
-home-found d n false o r h k = h
 
 pub fit-changed : (d : DocumentData) (n : NodeId) (x : Node) (c : Change) → IsFitNode d n x → FitChange d n x c → IsFitNode d n (changed c x)
 fit-changed d n x Nothing s due = s
@@ -136,7 +143,7 @@ fit-changed d n x (Starts b) s due =
       doubt = tt;
       quiet = λ e. refl;
       clock = λ e. floor-above (1 + floor r) r (omega arith);
-      homes = home-found d n b x.doubt x.journal s.homes s.home_doubt;
+      homes = hold-found (AtItsHome d n) b x.doubt x.journal s.homes s.home_doubt;
       home_doubt = tt;
     }
 fit-changed d n x Stays s due = record { fits = s.fits; doubt = s.doubt; quiet = λ e. cc; clock = λ e. cc; homes = s.homes; home_doubt = s.home_doubt }

@@ -18,17 +18,19 @@ use Rattle.grid_model.specs.declared.messages.Prepare.{Prepare}
 use Rattle.grid_model.specs.Documents.{DocumentData}
 use Rattle.journal_words.specs.Journals.{Prepared, Decision, decision, is_closed, are_lists, ended, fits, all_fit, floor, pending, prepared_of, undone}
 use Rattle.grid_model.specs.Nodes.{got, node, journal, script_of, parts_in, is_home, Node, Change, Writes, Raises, Holds, Stops, Starts, Stays, change, prepared_by, doubt_of, record_of, freed, is_request, said_by, held_by, is_kept}
-use Rattle.grid_model.specs.Facts.{parts_at}
+use Rattle.grid_model.specs.Facts.{parts_at, records_at, RecordsFit, UpSettled, LocksExclude}
 use Rattle.grid_model.specs.Fitness.{is_fit_prepare}
 use Rattle.grid_model.specs.Rows.{ceiling_of}
-use Rattle.grid_laws.proofs.Causes.{IsUp, PreparedDue, ClosedDue, RecordDue, StopDue, IsDue, AllDue}
+use Rattle.grid_laws.proofs.MessageCauses.{IsUp}
+use Rattle.grid_laws.proofs.Causes.{PreparedDue, ClosedDue, RecordDue, StopDue, IsDue, AllDue}
 use Rattle.grid_laws.proofs.Stages.{stage-commits}
 use Rattle.grid_laws.proofs.DueReads.{ceiling-above}
 use Rattle.grid_laws.proofs.DueAnswers.{home-is}
 use Rattle.journal_words.proofs.Fits.{fits-prepared}
 use Rattle.journal_words.proofs.Floors.{above-higher}
 use Rattle.journal_words.proofs.Once.{running-pending}
-use Rattle.grid_laws.proofs.NodesFit.{at-node, at-home, FitsDoubt, AllAtHome, DoubtAtHome, OverDoubt, IsFitNode, FitChange, fit-changed}
+use Rattle.grid_laws.proofs.NodesFit.{at-node, at-home, FitsDoubt, OverDoubt, IsFitNode, FitChange, fit-changed, AtItsHome, AllHold, HoldsIn, fit-found}
+use Rattle.journal_words.proofs.Locks.{locks-apart}
 
 -- ---- what a Decided that stands says
 
@@ -36,7 +38,7 @@ pub record DecidedHere (d : DocumentData) (n : NodeId) (t : TxId) (y : Decision)
   pub home : is_home d t n ≡ true
   pub parts : y.parts ≡ parts_at d t
 
-pub decision-home : (d : DocumentData) (n : NodeId) (t : TxId) (y : Decision) (r : List Record) → AllAtHome d n r → decision t r ≡ Some y → DecidedHere d n t y
+pub decision-home : (d : DocumentData) (n : NodeId) (t : TxId) (y : Decision) (r : List Record) → AllHold (AtItsHome d n) r → decision t r ≡ Some y → DecidedHere d n t y
 decision-home d n t y [] homes e = cc
 decision-home d n t y (record'.Decided u f parts ∷ r) homes e = elim (cases_eq u t) [
   | inl same ↦ (let is : Some (record { final = f; parts = parts }) ≡ Some y = grind (arith, nat_tests, e) in here (homes.0.0) (homes.0.1) same is)
@@ -98,7 +100,7 @@ over-next a b = grind (arith, nat_tests)
 
 -- a record that is due at n fits there
 abbrev OptionFits : DocumentData → List Act → NodeId → Option Record → Type 0
-OptionFits d past n o = FitsDoubt d n (journal d past n) o × DoubtAtHome d n o × OverDoubt (node d past n).next o
+OptionFits d past n o = FitsDoubt d n (journal d past n) o × HoldsIn (AtItsHome d n) o × OverDoubt (node d past n).next o
 
 abbrev DueFits : DocumentData → List Act → NodeId → Head → Type 0
 DueFits d past n h = OptionFits d past n (record_of d (got past) h)
@@ -126,7 +128,7 @@ due-fits d past n (head.Closed t) s due =
     let P : List Act → Type 0 = λ p. is_some (undone t (node d p n).journal) ≡ true in
     (subst P (sym due.1.is) (rw is refl), tt, refl)
 
-fit-written : (d : DocumentData) (n : NodeId) (x : Node) (o : Option Record) → x.up ≡ true → FitsDoubt d n x.journal o → DoubtAtHome d n o → OverDoubt x.next o → FitChange d n x (Writes o)
+fit-written : (d : DocumentData) (n : NodeId) (x : Node) (o : Option Record) → x.up ≡ true → FitsDoubt d n x.journal o → HoldsIn (AtItsHome d n) o → OverDoubt x.next o → FitChange d n x (Writes o)
 fit-written d n x None up fit home over = tt
 fit-written d n x (Some y) up fit home over = (up, fit, home, over)
 
@@ -170,3 +172,16 @@ fit-change d past a n s due = tt
 pub nodes-fit : (d : DocumentData) (past : List Act) → AllDue d past → (n : NodeId) → IsFitNode d n (node d past n)
 nodes-fit d [] due n = record { fits = refl; doubt = tt; quiet = λ e. refl; clock = λ e. refl; homes = tt; home_doubt = tt }
 nodes-fit d (a ∷ past) due n = fit-changed d n (node d past n) (change d (got past) a n) (nodes-fit d past due.1 n) (fit-change d past a n (λ k. nodes-fit d past due.1 k) due.0)
+
+-- ---- the records that stand, and the one in doubt behind them
+
+pub records-fit : (d : DocumentData) (past : List Act) → AllDue d past → RecordsFit d past
+records-fit d past due kept n =
+    let x : IsFitNode d n (node d past n) = nodes-fit d past due n in
+    fit-found d n kept (node d past n).doubt (journal d past n) x.fits x.doubt
+
+pub up-settled : (d : DocumentData) (past : List Act) → AllDue d past → UpSettled d past
+up-settled d past due n up = (nodes-fit d past due n).quiet up
+
+pub locks-exclude : (d : DocumentData) (past : List Act) → AllDue d past → LocksExclude d past
+locks-exclude d past due kept n t u other lt lu = locks-apart d.cluster n t u (records_at d past kept n) (records-fit d past due kept n) other lt lu

@@ -26,8 +26,9 @@ use Rattle.grid_model.specs.Views.{Open}
 use Rattle.grid_model.specs.Advances.{prepare_for}
 use Rattle.grid_laws.proofs.Causes.{AllDue, SendDue, PrepareDue, RecordDue}
 use Rattle.grid_laws.proofs.NodesFitActs.{prepared-is}
-use Rattle.grid_laws.proofs.Holds.{got-hold, AllHold, HoldsIn, NodeHolds, records-hold}
+use Rattle.grid_laws.proofs.Holds.{got-hold, NodeHolds, records-hold}
 use Rattle.grid_laws.proofs.FullStories.{Full, full-more}
+use Rattle.grid_laws.proofs.NodesFit.{AllHold, HoldsIn}
 
 -- a transaction with this snapshot and these values
 abbrev pub open_with : ScriptData → Ident → List (ℕ × Value) → Open

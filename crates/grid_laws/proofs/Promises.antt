@@ -171,6 +171,7 @@ above-at d past m n t p sid true here due k =
 
 above-more : (d : DocumentData) (past : List Act) (a : Act) (n : NodeId) (sid : Ident) (later : List Act) → IsDue d past a → IsKept d past n sid → are_above n sid later ≡ true → are_above n sid (a ∷ later) ≡ true
 above-more d past (act.Prepared m t p) n sid later due k h = rw (above-at d past m n t p sid (m == n) refl due k) h
+above-more d past (act.Down m (Some (head.Prepared t p))) n sid later due k h = rw (above-at d past m n t p sid (m == n) refl due k) h
 above-more d past a n sid later due k h = h
 
 record KeptLater (d : DocumentData) (past : List Act) (n : NodeId) (sid : Ident) (later : List Act) : Type 0 where
@@ -200,7 +201,12 @@ served-promised d past due n t j k sid vn v later before is =
     let here : AllDue d (a ∷ before) = due-before d later (a ∷ before) all in
     let now : IsKept d (a ∷ before) n sid = kept-more d before a n sid here (kept-now d before n (record { t = t; op = j; sid = sid; key = k; from = here.0.0 }) vn v here.1 here.0.1) in
     let end : KeptLater d (a ∷ before) n sid later = kept-later d (a ∷ before) n sid later all now in
-    subst Q (sym is) (record { floor = end.kept.covered.floor; clear = end.kept.free.clear; behind = end.above })
+    let x : Node = node d (later ++ a ∷ before) n in
+    subst Q (sym is) (record {
+      floor = λ kept. omega (arith, end.kept.covered.floor, floor-found kept x.doubt x.journal);
+      clear = λ kept. clear-found sid kept x.doubt x.journal end.kept.free.clear end.kept.free.doubt;
+      behind = end.above;
+    })
 
 -- ---- a read that is held
 

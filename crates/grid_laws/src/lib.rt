@@ -3,9 +3,10 @@
 //! Each law is a public function without parameters and with an empty body, whose contract is the law:
 //! it speaks of every document and of every history of the rows and the free choices of the disks,
 //! stops and restarts included, with no fuse and no count of faults. The facts themselves are defined
-//! in `grid_model/specs/Facts.antt`; [`law_facts`] binds six of them together, and [`law_fit`] and
+//! in `grid_model/specs/Facts.antt`; [`law_facts`] binds seven of them together, and [`law_fit`] and
 //! [`law_identifiers`] stand beside it. [`law_records_fit`] is what the others rest on: whatever a disk
-//! leaves at a stop, each journal is a list in which every record fits those before it.
+//! leaves at a stop, each journal is a list in which every record fits those before it. What the laws
+//! say of records they say of the journal, and of the journal with the record in doubt behind it.
 #![tactic(auto)]
 
 mod runs;

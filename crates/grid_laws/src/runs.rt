@@ -1,11 +1,8 @@
 //! Laws of every run: of all rows and all free choices of the disks, stops and restarts included.
-ghost use Rattle.std.specs.Prelude.{◌≡◌, ◌≢◌, IsTrue, List, [], sum_by};
-ghost use Rattle.score_base.specs.declared.ids.NodeId.{NodeId};
+ghost use Rattle.std.specs.Prelude.{List, [], sum_by};
 ghost use Rattle.grid_model.specs.declared.acts.Act.{Act};
 ghost use Rattle.grid_model.specs.Documents.{DocumentData, IsOne, events_of};
 ghost use Rattle.grid_model.specs.Histories.{after};
-ghost use Rattle.journal_words.specs.Journals.{all_fit};
-ghost use Rattle.grid_model.specs.Nodes.{journal};
 ghost use Rattle.grid_model.specs.Runs.{IsRun};
 ghost use Rattle.grid_model.specs.Facts.{
   AbortsFinal,
@@ -16,12 +13,16 @@ ghost use Rattle.grid_model.specs.Facts.{
   LocksExclude,
   MessagesBacked,
   NeverHeldBelow,
+  RecordsFit,
   ServedPromised,
+  UpSettled,
 };
 
-/// Each record of each journal fits those before it.
+/// Each record of each journal, and the record in doubt behind them, fits those before it; and a node that
+/// is up has no record in doubt.
 pub fn law_records_fit()
-    ensures { (d : DocumentData) (h : List Act) → IsRun d d.items h → (n : NodeId) → IsTrue (all_fit d.cluster n (journal d (after [] h) n)) }
+    ensures fit { (d : DocumentData) (h : List Act) → IsRun d d.items h → RecordsFit d (after [] h) }
+    ensures settled { (d : DocumentData) (h : List Act) → IsRun d d.items h → UpSettled d (after [] h) }
 {}
 
 /// Transactions that lock a key at one node do not conflict there.

@@ -1,5 +1,5 @@
 -- What stands behind every message, record, decision and promise of a lawful run.
-use Rattle.std.specs.Prelude.{◌≡◌, ◌≢◌, ◌≤◌, ◌<◌, ℕ, ◌*◌, max, Bool, true, false, ◌&&◌, ◌||◌, ◌==◌, not, nat_lt, IsTrue, List, [], ◌∷◌, ◌++◌, Option, Some, None, if◌then◌else◌}
+use Rattle.std.specs.Prelude.{◌≡◌, ◌≢◌, ◌≤◌, ◌<◌, ℕ, ◌*◌, max, Bool, true, false, ◌&&◌, ◌||◌, ◌==◌, nat_lt, IsTrue, List, [], ◌∷◌, ◌++◌, Option, Some, None, if◌then◌else◌}
 use Rattle.std.specs.List.{list_all}
 use Rattle.score_base.specs.declared.ids.TxId.{TxId}
 use Rattle.score_base.specs.declared.ids.NodeId.{NodeId}
@@ -12,7 +12,6 @@ use Rattle.score_base.specs.declared.causes.Cause.TheVariants as cause
 use Rattle.score_base.specs.declared.causes.Outcome.{Outcome}
 use Rattle.score_base.specs.declared.causes.Outcome.TheVariants as outcome
 use Rattle.score_base.specs.declared.records.Record.{Record}
-use Rattle.score_base.specs.declared.records.Record.TheVariants as record'
 use Rattle.placement.specs.Places.{is_among}
 use Rattle.grid_model.specs.declared.acts.Act.{Act}
 use Rattle.grid_model.specs.declared.acts.Act.TheVariants as act
@@ -23,8 +22,8 @@ use Rattle.grid_model.specs.declared.messages.Message.{Message}
 use Rattle.grid_model.specs.declared.messages.Message.TheVariants as message
 use Rattle.grid_model.specs.Documents.{DocumentData}
 use Rattle.grid_model.specs.Histories.{after, sent, sent_at}
-use Rattle.journal_words.specs.Journals.{Prepared, prepared_of, floor, is_clear, is_locking, conflicts_with, commit_id, has_prepared, has_decided, has_commit, are_apart}
-use Rattle.grid_model.specs.Nodes.{journal, is_home, script_of, parts_in}
+use Rattle.journal_words.specs.Journals.{Prepared, prepared_of, floor, is_clear, is_locking, commit_id, has_prepared, has_decided, has_commit, are_apart, all_fit}
+use Rattle.grid_model.specs.Nodes.{journal, is_home, script_of, parts_in, node, found}
 use Rattle.grid_model.specs.Views.{view}
 use Rattle.grid_model.specs.Fitness.{is_fit, date_ident}
 use Rattle.grid_model.specs.Acts.{EachAct, EachBehind, EachSent, has_refused}
@@ -57,20 +56,40 @@ parts_at d t = parts_in d (script_of t d.scripts)
 abbrev pub is_over : DocumentData → List Act → TxId → Bool
 is_over d past t = list_all (λ n. has_commit t (journal d past n)) (parts_at d t)
 
+-- ---- the records that stand, and the record in doubt
+
+-- the records that an opening of n would leave: those that stand, with the record in doubt behind them where
+-- it was kept. A node that is up has none in doubt.
+abbrev pub records_at : DocumentData → List Act → Bool → NodeId → List Record
+records_at d past kept n = found kept (node d past n).doubt (journal d past n)
+
+-- each record of each node fits those before it, and so does the record in doubt
+abbrev pub RecordsFit : DocumentData → List Act → Type 0
+RecordsFit d past = (kept : Bool) (n : NodeId) → IsTrue (all_fit d.cluster n (records_at d past kept n))
+
+-- a node that is up has no record in doubt
+abbrev pub UpSettled : DocumentData → List Act → Type 0
+UpSettled d past = (n : NodeId) → IsTrue (node d past n).up → (node d past n).doubt ≡ None
+
 -- ---- messages are backed by records
 
--- what a message that n sent says stands in a record or an act
+-- what a message that n sent says stands in an act, or in these records of the nodes
+abbrev pub SaysIn : DocumentData → List Act → (NodeId → List Record) → NodeId → Message → Type 0
+SaysIn d past records n (message.Vote t (ballot.Yes p)) = IsTrue (has_prepared t p (records n))
+SaysIn d past records n (message.Vote t (ballot.No why)) = IsTrue (has_refused n t why past)
+SaysIn d past records n (message.Tell t (outcome.Commit f)) =
+    (home : NodeId) × IsTrue (is_home d t home) × IsTrue (has_decided t f (records home))
+SaysIn d past records n (message.Ack t) = IsTrue (has_commit t (records n))
+SaysIn d past records n (message.ReadRep q) = IsTrue (has_served n q.t q.op q.sid q.value past)
+SaysIn d past records n said = Unit {0}
+
+-- what a message that n sent says stands in a journal or an act
 abbrev pub Says : DocumentData → List Act → NodeId → Message → Type 0
-Says d past n (message.Vote t (ballot.Yes p)) = IsTrue (has_prepared t p (journal d past n))
-Says d past n (message.Vote t (ballot.No why)) = IsTrue (has_refused n t why past)
-Says d past n (message.Tell t (outcome.Commit f)) = IsDecided d past t f
-Says d past n (message.Ack t) = IsTrue (has_commit t (journal d past n))
-Says d past n (message.ReadRep q) = IsTrue (has_served n q.t q.op q.sid q.value past)
-Says d past n said = Unit {0}
+Says d past = SaysIn d past (journal d past)
 
 -- each vote, commit, acknowledgement and read reply that was sent is backed
 abbrev pub MessagesBacked : DocumentData → List Act → Type 0
-MessagesBacked d past = EachSent (Says d past) past
+MessagesBacked d past = (kept : Bool) → EachSent (SaysIn d past (records_at d past kept)) past
 
 -- ---- an abort is told only of a transaction that is given up, or that every part has ended with commit
 
@@ -85,29 +104,36 @@ AbortsFinal d past = EachSent (MeansNever d past) past
 
 -- ---- a served read is promised
 
--- every proposal that n made in these acts is above sid
+-- every proposal that n made in these acts is above sid, those in whose record it stopped too
 abbrev pub are_above : NodeId → Ident → List Act → Bool
 are_above n sid [] = true
 are_above n sid (act.Prepared m t p ∷ past) = (if m == n then nat_lt sid p else true) && are_above n sid past
+are_above n sid (act.Down m (Some (head.Prepared t p)) ∷ past) =
+    (if m == n then nat_lt sid p else true) && are_above n sid past
 are_above n sid (a ∷ past) = are_above n sid past
 
 -- a read that n served at sid: the floor covers it, nothing pending is at most sid, and each later
 -- proposal of n is above it
 pub record IsPromised (d : DocumentData) (past : List Act) (n : NodeId) (sid : Ident) (later : List Act) : Type 0 where
-  pub floor : sid ≤ floor (journal d past n)
-  pub clear : IsTrue (is_clear sid (journal d past n))
+  pub floor : (kept : Bool) → sid ≤ floor (records_at d past kept n)
+  pub clear : (kept : Bool) → IsTrue (is_clear sid (records_at d past kept n))
   pub behind : IsTrue (are_above n sid later)
 
 -- each read that was served is promised
 abbrev pub ServedPromised : DocumentData → List Act → Type 0
-ServedPromised d past = (n : NodeId) (t : TxId) (j : ℕ) (k : Key) (sid vn : Ident) (v : Value) (later before : List Act) → past ≡ later ++ act.Served n t j k sid vn v ∷ before → IsPromised d past n sid later
+ServedPromised d past =
+    (n : NodeId) (t : TxId) (j : ℕ) (k : Key) (sid vn : Ident) (v : Value) (later before : List Act) →
+    past ≡ later ++ act.Served n t j k sid vn v ∷ before → IsPromised d past n sid later
 
 -- ---- locks exclude conflicts
 
 -- two transactions that are pending, or ended with commit and not applied, at one node share no key
 -- there that one of them writes
 abbrev pub LocksExclude : DocumentData → List Act → Type 0
-LocksExclude d past = (n : NodeId) (t u : TxId) → t ≢ u → IsTrue (is_locking t (journal d past n)) → IsTrue (is_locking u (journal d past n)) → IsTrue (are_apart (prepared_of t (journal d past n)) (prepared_of u (journal d past n)))
+LocksExclude d past =
+    (kept : Bool) (n : NodeId) (t u : TxId) → t ≢ u →
+    IsTrue (is_locking t (records_at d past kept n)) → IsTrue (is_locking u (records_at d past kept n)) →
+    IsTrue (are_apart (prepared_of t (records_at d past kept n)) (prepared_of u (records_at d past kept n)))
 
 -- ---- a decision rests on every part
 
@@ -118,9 +144,11 @@ pub record RestsOnParts (d : DocumentData) (past : List Act) (t : TxId) (f : Ide
   pub reached : (n : NodeId) × IsTrue (is_among n (parts_at d t)) × IsTrue (has_prepared t f (journal d past n))
   pub fresh : snapshot d past t < f
 
--- each decision that stands rests on every part of its transaction
+-- each decision that stands, or is in doubt, rests on every part of its transaction
 abbrev pub DecisionsRest : DocumentData → List Act → Type 0
-DecisionsRest d past = (n : NodeId) (t : TxId) (f : Ident) → IsTrue (has_decided t f (journal d past n)) → IsTrue (is_home d t n) × RestsOnParts d past t f
+DecisionsRest d past =
+    (kept : Bool) (n : NodeId) (t : TxId) (f : Ident) → IsTrue (has_decided t f (records_at d past kept n)) →
+    IsTrue (is_home d t n) × RestsOnParts d past t f
 
 -- ---- every delivered message is fit
 
@@ -207,6 +235,7 @@ IdentifiersBelow e past = EachAct (IsAtMost (64 * e)) past
 
 -- the facts on which one copy rests, of acts in the order of time
 pub record Facts (d : DocumentData) (h : List Act) : Type 0 where
+  pub records : RecordsFit d (after [] h)
   pub messages : MessagesBacked d (after [] h)
   pub aborts : AbortsFinal d (after [] h)
   pub reads : ServedPromised d (after [] h)
