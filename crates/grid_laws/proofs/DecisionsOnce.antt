@@ -17,7 +17,8 @@ use Rattle.journal_words.specs.Journals.{has_decided}
 use Rattle.journal_words.proofs.Orders.{has_member}
 use Rattle.grid_model.proofs.DecisionsKept.{is_decided_in}
 use Rattle.grid_laws.proofs.Frames.{same-number}
-use Rattle.grid_laws.proofs.Causes.{AllDue, IsUp}
+use Rattle.grid_laws.proofs.Causes.{AllDue}
+use Rattle.grid_laws.proofs.MessageCauses.{IsUp}
 use Rattle.grid_laws.proofs.DueAnswers.{home-is}
 use Rattle.grid_laws.proofs.NodesFit.{home-one}
 use Rattle.grid_laws.proofs.NodesFitActs.{nodes-fit}
@@ -125,20 +126,3 @@ decided-same d past all t f g v w =
 pub member-has : (f : Ident) (t : TxId) (xs : List (Ident × TxId)) → has_member f t xs ≡ true → has_tx t xs ≡ true
 member-has f t [] e = cc
 member-has f t (x ∷ xs) e = grind (arith, e, member-has f t xs)
-
--- two members of one transaction are one
-pub once-member : (t : TxId) (f g : Ident) (xs : List (Ident × TxId)) → AreOnce xs → has_member f t xs ≡ true → has_member g t xs ≡ true → f ≡ g
-once-member t f g [] once a b = cc
-once-member t f g (x ∷ xs) once a b = elim (cases_eq x.1 t) [
-  | inl same ↦
-      let P : TxId → Type 0 = λ v. has_tx v xs ≡ false in
-      let none : has_tx t xs ≡ false = subst P same once.0 in
-      let y : x.0 ≡ f = here f (has_member f t xs) a (λ i. true-false (has_tx t xs) (member-has f t xs i) none) in
-      let z : x.0 ≡ g = here g (has_member g t xs) b (λ i. true-false (has_tx t xs) (member-has g t xs i) none) in
-      sym y ∙ z
-  | inr other ↦ once-member t f g xs once.1 (grind (arith, nat_tests, a)) (grind (arith, nat_tests, b))
-]
-  where
-    here : (h : Ident) (c : Bool) → (((x.0 == h) && (x.1 == t)) || c) ≡ true → (c ≡ true → ⊥) → x.0 ≡ h
-    here h true i never = absurd (never refl)
-    here h false i never = grind (arith, nat_tests, i)

@@ -1,6 +1,6 @@
 -- The facts are not empty: worked runs in which their premises hold, computed from the definitions.
-use Rattle.std.proofs.Common.{◌≡◌, Bool, true, false, ◌&&◌, ◌==◌, List, [], ◌∷◌, Option, Some, None, refl}
-use Rattle.std.specs.Prelude.{sum_by}
+use Rattle.std.proofs.Common.{◌≡◌, ℕ, Bool, true, false, ◌&&◌, ◌==◌, List, [], ◌∷◌, Option, Some, None, refl, ap, arith}
+use Rattle.std.specs.Prelude.{sum_by, is_some}
 use Rattle.std.specs.List.{list_any}
 use Rattle.score_base.specs.declared.ids.NodeId.{NodeId}
 use Rattle.score_base.specs.declared.causes.Ballot.TheVariants as ballot
@@ -19,13 +19,15 @@ use Rattle.journal_words.specs.Journals.{is_locking, commit_id, prepared_of, flo
 use Rattle.grid_model.specs.Nodes.{journal}
 use Rattle.grid_model.specs.Excuses.{has_sent}
 use Rattle.grid_model.specs.Copies.{snapshot}
-use Rattle.grid_model.specs.Facts.{has_served, is_given_up, is_over, are_above, records_at}
+use Rattle.grid_model.specs.Facts.{has_served, is_given_up, is_over, are_above, records_at, PreparesAgree}
 use Rattle.journal_words.proofs.TwoNodes.{a}
 use Rattle.grid_model.proofs.TransferActs.{asks}
 use Rattle.grid_model.proofs.RunsThatCommit.{read_then_write, read_then_write_acts}
 use Rattle.grid_model.proofs.RunsWithReads.{ceiling_after_crash, ceiling_after_crash_acts, held_read, held_read_front}
 use Rattle.grid_model.proofs.RunsWithConflicts.{lock_until_applied, lock_until_applied_acts}
-use Rattle.grid_model.proofs.RunsThatStop.{presumed_abort, presumed_abort_acts, one_vote, stop_at_the_decision}
+use Rattle.grid_model.proofs.RunsThatStop.{presumed_abort, presumed_abort_acts, one_vote, stop_at_the_decision, failing_device_call_acts}
+use Rattle.score_base.specs.declared.ids.Ident.{Ident}
+use Rattle.grid_model.specs.declared.messages.Prepare.{Prepare}
 
 -- the pasts of the runs
 abbrev committed : List Act
@@ -49,6 +51,10 @@ stopped_preparing = act.Down 2 (Some (head.Prepared 1 1)) ∷ act.Got 4 ∷ afte
 
 abbrev stopped_deciding : List Act
 stopped_deciding = act.Down 1 (Some (head.Decided 1 1)) ∷ act.Got 6 ∷ after [] (one_vote 2 0)
+
+-- node n2 stopped in its Prepared, which is gone, and was asked again
+abbrev asked_again : List Act
+asked_again = after [] failing_device_call_acts
 
 -- ---- messages are backed by records
 
@@ -111,6 +117,26 @@ both-lock = (refl, refl, refl)
 -- the decision with 1, above the snapshot 0, and the Prepared with 1 at both parts
 pub decision-rests : (has_decided 1 1 (journal read_then_write committed 1) ≡ true) × (has_prepared 1 1 (journal read_then_write committed 1) ≡ true) × (has_prepared 1 1 (journal read_then_write committed 2) ≡ true) × (snapshot read_then_write committed 1 ≡ 0)
 decision-rests = (refl, refl, refl, refl)
+
+-- ---- all Prepares of a transaction to one node say the same
+
+-- messages 4 and 7 are the Prepares that node n2 was sent, before and behind its stop
+pub prepared-again :
+    (sent_at 4 (sent asked_again) ≡ sent_at 7 (sent asked_again))
+    × (is_some (sent_at 7 (sent asked_again)) ≡ true)
+prepared-again = (refl, refl)
+
+-- two Prepares that differ in their snapshots
+abbrev asked_at : Ident → Prepare
+asked_at sid = record { t = 1; sid = sid; parts = 2 ∷ []; reads = a ∷ []; writes = [] }
+
+pub differing-refuted :
+    PreparesAgree (act.Sent 2 1 2 (message.Prepare (asked_at 1)) ∷ act.Sent 1 1 2 (message.Prepare (asked_at 0)) ∷ []) →
+    ⊥
+differing-refuted h = one-zero (ap (λ (q : Prepare). q.sid) (h 2 1 1 1 2 (asked_at 1) (asked_at 0) refl refl refl).1)
+  where
+    one-zero : ◌≡◌ {A = ℕ} 1 0 → ⊥
+    one-zero e = omega arith
 
 -- ---- records fit
 

@@ -16,9 +16,9 @@ use Rattle.grid_model.specs.Nodes.{journal, node, script_of}
 use Rattle.grid_model.specs.Stories.{is_open, phase, story}
 use Rattle.grid_model.specs.Facts.{IsDecided, is_given_up}
 use Rattle.journal_words.proofs.Decisions.{closed-decided, decision-has, has_decided-says}
-use Rattle.journal_words.proofs.Stands.{has_commit-says}
 use Rattle.grid_model.proofs.Undecided.{script-number}
-use Rattle.grid_laws.proofs.Causes.{AbortDue, AllDue, SendDue, apart, given_up}
+use Rattle.grid_laws.proofs.MessageCauses.{AbortDue, SendDue, apart, given_up}
+use Rattle.grid_laws.proofs.Causes.{AllDue}
 use Rattle.grid_laws.proofs.NodesFitActs.{decision-home, nodes-fit}
 use Rattle.grid_laws.proofs.OpenPhases.{open-undecided}
 use Rattle.grid_laws.proofs.Holds.{sent-hold}
@@ -102,9 +102,3 @@ open-not-told d past all s t is e m x y outcome.Abort i = elim (abort-sent d pas
   | inl g ↦ open-not-given-up d past all s t is e g
   | inr w ↦ open-not-decided d past s t is e w.0 w.1
 ]
-
--- nobody has acknowledged its end
-pub open-not-acked : (d : DocumentData) (past : List Act) → AllDue d past → (s : ScriptData) (t : TxId) → script_of t d.scripts ≡ Some s → is_open (phase d past s) ≡ true → (m : ℕ) (x y : NodeId) → sent_at m (sent past) ≡ Some (record { from = x; to = y; message = message.Ack t }) → ⊥
-open-not-acked d past all s t is e m x y i =
-    let w = has_commit-says d.cluster x t (journal d past x) (nodes-fit d past all x).fits (says-sent d past all m (record { from = x; to = y; message = message.Ack t }) i) in
-    open-not-decided d past s t is e w.0 (commit-decided d past all x t w.0 w.1)

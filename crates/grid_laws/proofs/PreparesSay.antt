@@ -24,11 +24,14 @@ use Rattle.grid_model.specs.Nodes.{got, node, parts_of, record_of}
 use Rattle.grid_model.specs.Stories.{first_sid}
 use Rattle.grid_model.specs.Views.{Open}
 use Rattle.grid_model.specs.Advances.{prepare_for}
-use Rattle.grid_laws.proofs.Causes.{AllDue, SendDue, PrepareDue, RecordDue}
+use Rattle.grid_laws.proofs.Causes.{AllDue, RecordDue}
+use Rattle.grid_laws.proofs.MessageCauses.{SendDue, PrepareDue}
 use Rattle.grid_laws.proofs.NodesFitActs.{prepared-is}
-use Rattle.grid_laws.proofs.Holds.{got-hold, NodeHolds, records-hold}
+use Rattle.grid_laws.proofs.Holds.{got-hold, NodeHolds, records-hold, sent-hold}
 use Rattle.grid_laws.proofs.FullStories.{Full, full-more}
 use Rattle.grid_laws.proofs.NodesFit.{AllHold, HoldsIn}
+use Rattle.grid_model.specs.Facts.{IsPrepareSent, PreparesAgree}
+use Rattle.grid_model.specs.declared.stories.Story.{Story}
 
 -- a transaction with this snapshot and these values
 abbrev pub open_with : ScriptData → Ident → List (ℕ × Value) → Open
@@ -84,6 +87,45 @@ prepares-due d past n y (message.Ask t) all due = tt
 -- the Prepare that was got last
 pub prepare-got : (d : DocumentData) (past : List Act) (n x : NodeId) (q : Prepare) → AllDue d past → got past ≡ Some (record { from = x; to = n; message = message.Prepare q }) → PrepareSays d past x n q
 prepare-got d past n x q due is = got-hold (Prepares d) d past (λ now a m y said all h. prepares-more d now a m y said all h) (λ now m y said all h. prepares-due d now m y said all h) due (record { from = x; to = n; message = message.Prepare q }) is
+
+-- a Prepare that was sent
+prepare-sent : (d : DocumentData) (past : List Act) (m : ℕ) (x n : NodeId) (q : Prepare) →
+    AllDue d past → IsPrepareSent past m x n q → PrepareSays d past x n q
+prepare-sent d past m x n q due is =
+    sent-hold (Prepares d) d past
+      (λ now a k y said all h. prepares-more d now a k y said all h)
+      (λ now k y said all h. prepares-due d now k y said all h)
+      due m (record { from = x; to = n; message = message.Prepare q }) is
+
+-- ---- all Prepares of a transaction to one node
+
+say-same : (d : DocumentData) (past : List Act) (x y n : NodeId) (q p : Prepare) →
+    PrepareSays d past x n q → PrepareSays d past y n p → q.t ≡ p.t → (x ≡ y) × (q ≡ p)
+say-same d past x y n q p a b same =
+    let P : TxId → Type 0 = λ t. Full d past x t a.script q.sid a.values in
+    let f : Full d past x p.t a.script q.sid a.values = subst P same a.full in
+    let g : Full d past y p.t b.script p.sid b.values = b.full in
+    let scripts : a.script ≡ b.script = one-script a.script b.script (sym f.at.script ∙ g.at.script) in
+    let stories : f.story ≡ g.story = one-story f.story g.story (sym f.at.story ∙ g.at.story) in
+    let values : a.values ≡ b.values = sym f.told ∙ ap (λ (z : Story). z.values) stories ∙ g.told in
+    let idents : q.sid ≡ p.sid = sym f.ident ∙ ap (λ (z : Story). first_sid z.sid z.sid0) stories ∙ g.ident in
+    let homes : x ≡ y = sym f.at.home ∙ ap (λ (z : ScriptData). z.home) scripts ∙ g.at.home in
+    (homes,
+      a.is
+      ∙ ap (λ s. prepare_for d.cluster (open_with s q.sid a.values) n) scripts
+      ∙ ap (λ i. prepare_for d.cluster (open_with b.script i a.values) n) idents
+      ∙ ap (λ vs. prepare_for d.cluster (open_with b.script p.sid vs) n) values
+      ∙ sym b.is)
+  where
+    one-script : (v w : ScriptData) → Some v ≡ Some w → v ≡ w
+    one-script v w e = cc
+
+    one-story : (v w : Story) → Some v ≡ Some w → v ≡ w
+    one-story v w e = cc
+
+pub prepares-agree : (d : DocumentData) (past : List Act) → AllDue d past → PreparesAgree past
+prepares-agree d past due m k x y n q p a b same =
+    say-same d past x y n q p (prepare-sent d past m x n q due a) (prepare-sent d past k y n p due b) same
 
 -- ---- the records
 

@@ -13,6 +13,7 @@ ghost use Rattle.grid_model.specs.Facts.{
   LocksExclude,
   MessagesBacked,
   NeverHeldBelow,
+  PreparesAgree,
   RecordsFit,
   ServedPromised,
   UpSettled,
@@ -50,6 +51,11 @@ pub fn law_never_held()
 /// proposals, and it is above the snapshot identifier.
 pub fn law_decisions_rest()
     ensures { (d : DocumentData) (h : List Act) → IsRun d d.items h → DecisionsRest d (after [] h) }
+{}
+
+/// All Prepares of a transaction to one node come from one node and say the same.
+pub fn law_prepares_agree()
+    ensures { (d : DocumentData) (h : List Act) → IsRun d d.items h → PreparesAgree (after [] h) }
 {}
 
 /// A transaction of which an abort was told is given up, or every part has ended it with commit.

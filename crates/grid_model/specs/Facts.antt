@@ -19,6 +19,7 @@ use Rattle.grid_model.specs.declared.acts.Head.{Head}
 use Rattle.grid_model.specs.declared.acts.Head.TheVariants as head
 use Rattle.grid_model.specs.declared.messages.Envelope.{Envelope}
 use Rattle.grid_model.specs.declared.messages.Message.{Message}
+use Rattle.grid_model.specs.declared.messages.Prepare.{Prepare}
 use Rattle.grid_model.specs.declared.messages.Message.TheVariants as message
 use Rattle.grid_model.specs.Documents.{DocumentData}
 use Rattle.grid_model.specs.Histories.{after, sent, sent_at}
@@ -149,6 +150,18 @@ abbrev pub DecisionsRest : DocumentData → List Act → Type 0
 DecisionsRest d past =
     (kept : Bool) (n : NodeId) (t : TxId) (f : Ident) → IsTrue (has_decided t f (records_at d past kept n)) →
     IsTrue (is_home d t n) × RestsOnParts d past t f
+
+-- ---- Prepares
+
+-- message m is this Prepare, from x to n
+abbrev pub IsPrepareSent : List Act → ℕ → NodeId → NodeId → Prepare → Type 0
+IsPrepareSent past m x n q = sent_at m (sent past) ≡ Some (record { from = x; to = n; message = message.Prepare q })
+
+-- all Prepares of a transaction to one node come from one node and say the same
+abbrev pub PreparesAgree : List Act → Type 0
+PreparesAgree past =
+    (m k : ℕ) (x y n : NodeId) (q p : Prepare) →
+    IsPrepareSent past m x n q → IsPrepareSent past k y n p → q.t ≡ p.t → (x ≡ y) × (q ≡ p)
 
 -- ---- every delivered message is fit
 
