@@ -93,9 +93,9 @@ prepare-sent : (d : DocumentData) (past : List Act) (m : ℕ) (x n : NodeId) (q 
     AllDue d past → IsPrepareSent past m x n q → PrepareSays d past x n q
 prepare-sent d past m x n q due is =
     sent-hold (Prepares d) d past
-      (λ now a k y said all h. prepares-more d now a k y said all h)
-      (λ now k y said all h. prepares-due d now k y said all h)
-      due m (record { from = x; to = n; message = message.Prepare q }) is
+    (λ now a k y said all h. prepares-more d now a k y said all h)
+    (λ now k y said all h. prepares-due d now k y said all h)
+    due m (record { from = x; to = n; message = message.Prepare q }) is
 
 -- ---- all Prepares of a transaction to one node
 
@@ -109,13 +109,14 @@ say-same d past x y n q p a b same =
     let stories : f.story ≡ g.story = one-story f.story g.story (sym f.at.story ∙ g.at.story) in
     let values : a.values ≡ b.values = sym f.told ∙ ap (λ (z : Story). z.values) stories ∙ g.told in
     let idents : q.sid ≡ p.sid = sym f.ident ∙ ap (λ (z : Story). first_sid z.sid z.sid0) stories ∙ g.ident in
-    let homes : x ≡ y = sym f.at.home ∙ ap (λ (z : ScriptData). z.home) scripts ∙ g.at.home in
-    (homes,
+    let homes : x ≡ y = sym f.at.home ∙ ap (λ (z : ScriptData). z.home) scripts ∙ g.at.home in (
+      homes,
       a.is
-      ∙ ap (λ s. prepare_for d.cluster (open_with s q.sid a.values) n) scripts
-      ∙ ap (λ i. prepare_for d.cluster (open_with b.script i a.values) n) idents
-      ∙ ap (λ vs. prepare_for d.cluster (open_with b.script p.sid vs) n) values
-      ∙ sym b.is)
+          ∙ ap (λ s. prepare_for d.cluster (open_with s q.sid a.values) n) scripts
+          ∙ ap (λ i. prepare_for d.cluster (open_with b.script i a.values) n) idents
+          ∙ ap (λ vs. prepare_for d.cluster (open_with b.script p.sid vs) n) values
+          ∙ sym b.is,
+    )
   where
     one-script : (v w : ScriptData) → Some v ≡ Some w → v ≡ w
     one-script v w e = cc
