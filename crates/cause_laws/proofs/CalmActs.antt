@@ -1,8 +1,11 @@
 -- Acts that begin nothing and take no reply leave the values of a story; so are those of Advance.
-use Rattle.cause_laws.proofs.Events.{IsAgain, IsEvent, again, asks, begins, crashes, delivers, fails, idle, is_idle, opens, retries}
+use Rattle.cause_laws.proofs.Events.{IsEvent, of-event}
+use Rattle.grid_model.proofs.EventShapes.{Shape, acts_by, again, arms, begins, crashes, delivers, idle, restarts}
+use Rattle.grid_model.specs.declared.items.Item.{Item}
+use Rattle.grid_model.specs.declared.acts.Flag.{Flag}
 use Rattle.grid_laws.proofs.Answered.{all_calm, is_calm}
 use Rattle.grid_laws.proofs.AnsweredRows.{is_plain, kept-plain}
-use Rattle.grid_laws.proofs.CalmOuts.{calm-acts, calm-answer, calm-asks, calm-retry, calm_outs, is_calm_out, is_reply, calm-losses}
+use Rattle.grid_laws.proofs.CalmOuts.{calm-acts, calm-again, calm-answer, calm-idle, calm-losses, calm_outs, is_calm_out, is_reply}
 use Rattle.grid_laws.proofs.Snapshots.{OfStory, asked-of, got-of, if-of}
 use Rattle.grid_model.specs.Advances.{advance, advance_end, parts_now, prepares, request_of, to_node}
 use Rattle.script_runs.specs.Walks.{op_at, own_reads, unread}
@@ -10,10 +13,10 @@ use Rattle.grid_model.specs.Documents.{DocumentData, number_order, script_number
 use Rattle.grid_model.specs.Histories.{after, sent, sent_at}
 use Rattle.grid_model.specs.Nodes.{is_home, node, script_of}
 use Rattle.grid_model.specs.Rows.{answer, begin_outs}
-use Rattle.grid_model.specs.Schedules.{kept, next_number, numbered}
+use Rattle.grid_model.specs.Schedules.{Choice, flag_of, kept, next_number, numbered, opened_row}
 use Rattle.grid_model.specs.Stories.{story}
 use Rattle.script_runs.specs.Waits.{waiting}
-use Rattle.grid_model.specs.Views.{Open, stage, view}
+use Rattle.grid_model.specs.Views.{Open, view}
 use Rattle.grid_model.specs.declared.acts.Act.TheVariants as act
 use Rattle.grid_model.specs.declared.acts.Act.{Act}
 use Rattle.grid_model.specs.declared.events.Out.TheVariants as out
@@ -100,19 +103,7 @@ advance-kept c x i b n = kept-plain b n (advance c x i) (quiet-both (advance c x
 pub advance-calm : (c : ClusterData) (x : Open) (i : ℕ) (b : Bool) (m : ℕ) (n : NodeId) → all_calm (numbered m n (kept b n (advance c x i))) ≡ true
 advance-calm c x i b m n = calm-acts m n b (advance c x i) (quiet-both (advance c x i) (quiet-advance c x i)).0
 
--- ---- the other events
-
-calm-idle : (acts : List Act) → list_all is_idle acts ≡ true → all_calm acts ≡ true
-calm-idle [] h = refl
-calm-idle (act.Void c ∷ acts) h = calm-idle acts h
-calm-idle (act.Missed m ∷ acts) h = calm-idle acts h
-calm-idle (act.Dropped m ∷ acts) h = calm-idle acts h
-calm-idle (act.Armed n k how ∷ acts) h = calm-idle acts h
-calm-idle (a ∷ acts) h = cc
-
-calm-again : (d : DocumentData) (past : List Act) (n : NodeId) (os : List Out) → IsAgain d past n os → calm_outs os ≡ true
-calm-again d past n os (retries t e) = rw e (calm-retry d.cluster t (stage (view d past n) t))
-calm-again d past n os (asks t e) = rw e (calm-asks (view d past n) t)
+-- ---- the turn of an event
 
 -- an event begins a transaction, delivers a reply, or does neither
 pub data IsTurn (d : DocumentData) (past acts : List Act) : Type 0 where
@@ -125,11 +116,19 @@ turn-delivered d past acts m n x (message.ReadRep q) b c e is k = answered_by m 
 turn-delivered d past acts m n x said b true e is k = cc
 turn-delivered d past acts m n x said b false e is k = calm_turn (rw k (calm-acts (next_number past) n b (answer n (view d past n) x said) (calm-answer n (view d past n) x said e)))
 
+turn-restart : (d : DocumentData) (past : List Act) (n : NodeId) (f : Flag) (opens : Bool)
+    → IsTurn d past (if opens then opened_row d past n f else act.StillDown n ∷ [])
+turn-restart d past n f true = calm_turn (calm-losses d (act.Up n f ∷ past) n (number_order (script_numbers d.scripts)))
+turn-restart d past n f false = calm_turn refl
+
+shape-turn : (d : DocumentData) (past : List Act) (i : Item) (c : Choice) (s : Shape d past i) → IsTurn d past (acts_by d past i c s)
+shape-turn d past i c (idle acts is) = calm_turn (calm-idle acts is)
+shape-turn d past i c (arms n k how is) = calm_turn refl
+shape-turn d past i c (crashes n up) = calm_turn refl
+shape-turn d past i c (restarts n up) = turn-restart d past n (flag_of (node d past n).doubt c.finds) c.opens
+shape-turn d past i c (begins s is new up) = begun_by s c.keeps is up refl
+shape-turn d past i c (delivers m e is up) = turn-delivered d past (acts_by d past i c (delivers m e is up)) m e.to e.from e.message c.keeps (is_reply e.message) refl is refl
+shape-turn d past i c (again n os up is) = calm_turn (calm-acts (next_number past) n c.keeps os (calm-again d past n os is))
+
 pub event-turn : (d : DocumentData) (past acts : List Act) → IsEvent d past acts → IsTurn d past acts
-event-turn d past acts (idle h) = calm_turn (calm-idle acts h)
-event-turn d past acts (fails n up e) = calm_turn (rw e refl)
-event-turn d past acts (opens n f up e) = calm_turn (rw e (calm-losses d (act.Up n f ∷ past) n (number_order (script_numbers d.scripts))))
-event-turn d past acts (crashes n up e) = calm_turn (rw e refl)
-event-turn d past acts (begins s b is new up e) = begun_by s b is up e
-event-turn d past acts (delivers m e b is up k) = turn-delivered d past acts m e.to e.from e.message b (is_reply e.message) refl is k
-event-turn d past acts (again n b os up h e) = calm_turn (rw e (calm-acts (next_number past) n b os (calm-again d past n os h)))
+event-turn d past acts event = of-event d past acts (IsTurn d past) (shape-turn d past) event

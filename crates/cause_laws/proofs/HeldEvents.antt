@@ -1,5 +1,7 @@
 -- Each event leaves the held reads waiting, and each read that was held is held still, or answered, or its node stopped.
-use Rattle.cause_laws.proofs.Events.{Event, IsEvent, again, begins, crashes, delivers, fails, idle, opens}
+use Rattle.cause_laws.proofs.Events.{Event, of-event}
+use Rattle.grid_model.proofs.EventShapes.{Shape, acts_by, again, arms, begins, crashes, delivers, idle, restarts}
+use Rattle.grid_model.specs.declared.items.Item.{Item}
 use Rattle.cause_laws.proofs.HeldAnswers.{RowKept, nothing, outcome-row, request-row, this_read, unheld-row}
 use Rattle.cause_laws.proofs.HeldNodes.{HoldsWaiting, IsKeptRead, has_read, is_serving, is_waiting_read, unheld-kept, waiting-later}
 use Rattle.cause_laws.proofs.LocalActs.{local-acts, local-answer, local-later}
@@ -15,7 +17,7 @@ use Rattle.grid_model.specs.Histories.{after, sent, sent_at}
 use Rattle.journal_words.specs.Journals.{commit_id, floor, is_clear}
 use Rattle.grid_model.specs.Nodes.{Node, Starts, Stays, changed, found, got, is_kept, journal, node, where_at}
 use Rattle.grid_model.specs.Rows.{answer, begin_outs, begun_at, ceiling_of, dated, version_for}
-use Rattle.grid_model.specs.Schedules.{kept, losses, next_number, numbered, opened_row}
+use Rattle.grid_model.specs.Schedules.{Choice, acts_of, flag_of, kept, losses, next_number, numbered, opened_row}
 use Rattle.grid_model.specs.Views.{View, view}
 use Rattle.grid_model.specs.declared.acts.Act.TheVariants as act
 use Rattle.grid_model.specs.declared.acts.Act.{Act}
@@ -32,7 +34,7 @@ use Rattle.std.proofs.Common.{Bool, List, None, Some, [], arith, false, inl, inr
 use Rattle.std.proofs.lemmas.Bool.Decides.{nat_tests}
 use Rattle.std.proofs.lemmas.Bool.{cases_eq, or_right}
 use Rattle.std.specs.List.{list_all, list_any}
-use Rattle.std.specs.Prelude.{nat_lt, ◌==◌}
+use Rattle.std.specs.Prelude.{nat_lt, ◌==◌, if◌then◌else◌}
 
 -- the read that a message requests
 abbrev pub mine_of : Message → TxId → ℕ → Bool
@@ -132,20 +134,21 @@ got-event d past m e b at fit up h = go (is_touching e.message) refl
         same : (n : NodeId) → k ≢ n → node d (after (act.Got m ∷ past) rest) n ≡ node d past n
         same n other = local-later d (act.Got m ∷ past) rest k n (local-acts k (next_number past) b os (local-answer k (view d past k) e.from e.message q)) other
 
+restart-event : (d : DocumentData) (past : List Act) (n : NodeId) (f : Flag) (opens : Bool) → (node d past n).up ≡ false
+    → ((m : NodeId) → HoldsWaiting (node d past m)) → EventKept d past (if opens then opened_row d past n f else act.StillDown n ∷ [])
+restart-event d past n f true up h = opened-event d past n f up h
+restart-event d past n f false up h = failed-event d past n up h
+
+shape-kept : (d : DocumentData) (past : List Act) → ((n : NodeId) → HoldsWaiting (node d past n)) → (i : Item) (c : Choice)
+    (s : Shape d past i) → AllFit d (after past (acts_by d past i c s)) → EventKept d past (acts_by d past i c s)
+shape-kept d past h i c (idle acts is) fit = unheld-event d past acts (unheld-idle acts is) h
+shape-kept d past h i c (arms n k how is) fit = unheld-event d past (act.Armed n k how ∷ []) refl h
+shape-kept d past h i c (crashes n up) fit = unheld-event d past (act.Down n None ∷ []) refl h
+shape-kept d past h i c (restarts n up) fit = restart-event d past n (flag_of (node d past n).doubt c.finds) c.opens up h
+shape-kept d past h i c (begins s is new up) fit = unheld-event d past (acts_of past c s.home (begin_outs s.home (view d past s.home) s)) (unheld-acts (next_number past) s.home c.keeps (begin_outs s.home (view d past s.home) s) (unheld-advance d.cluster (begun_at s (commit_id (journal d past s.home))) 0)) h
+shape-kept d past h i c (delivers m e is up) fit = got-event d past m e c.keeps is (fit-first d past m e (acts_of past c e.to (answer e.to (view d past e.to) e.from e.message)) is fit) up h
+shape-kept d past h i c (again n os up is) fit = unheld-event d past (acts_of past c n os) (unheld-acts (next_number past) n c.keeps os (unheld-again d past n os is)) h
+
 pub event-kept : (d : DocumentData) (past acts : List Act) → Event d past acts → ((n : NodeId) → HoldsWaiting (node d past n)) → EventKept d past acts
-event-kept d past acts event h = go event.is
-  where
-    P : List Act → Type 0
-    P = λ z. EventKept d past z
-
-    F : List Act → Type 0
-    F = λ z. AllFit d (after past z)
-
-    go : IsEvent d past acts → EventKept d past acts
-    go (idle i) = unheld-event d past acts (unheld-idle acts i) h
-    go (fails n up e) = subst P (sym e) (failed-event d past n up h)
-    go (opens n f up e) = subst P (sym e) (opened-event d past n f up h)
-    go (crashes n up e) = subst P (sym e) (unheld-event d past (act.Down n None ∷ []) refl h)
-    go (begins s b is new up e) = subst P (sym e) (unheld-event d past (numbered (next_number past) s.home (kept b s.home (begin_outs s.home (view d past s.home) s))) (unheld-acts (next_number past) s.home b (begin_outs s.home (view d past s.home) s) (unheld-advance d.cluster (begun_at s (commit_id (journal d past s.home))) 0)) h)
-    go (delivers m e b is up k) = subst P (sym k) (got-event d past m e b is (fit-first d past m e (numbered (next_number past) e.to (kept b e.to (answer e.to (view d past e.to) e.from e.message))) is (subst F k event.fit)) up h)
-    go (again n b os up a e) = subst P (sym e) (unheld-event d past (numbered (next_number past) n (kept b n os)) (unheld-acts (next_number past) n b os (unheld-again d past n os a)) h)
+event-kept d past acts event h =
+    of-event d past acts (λ z. AllFit d (after past z) → EventKept d past z) (shape-kept d past h) event.is event.fit

@@ -1,6 +1,6 @@
 -- A home tells outcomes to the parts of its transaction alone, so each row tells them to the two ends.
 use Rattle.cause_laws.proofs.Ends.{HasEnds, HomeAndPart}
-use Rattle.cause_laws.proofs.Events.{IsAgain, asks, retries}
+use Rattle.grid_model.proofs.EventShapes.{IsAgain, asks, retries}
 use Rattle.cause_laws.proofs.OutsToEnds.{AreWell, is_well_out, well-acks, well-if, well-prepare, well-prepares, well-read, well-reply, well-request, well-tell, well-to_node}
 use Rattle.grid_laws.proofs.Causes.{AllDue}
 use Rattle.grid_laws.proofs.DueAnswers.{home-is}

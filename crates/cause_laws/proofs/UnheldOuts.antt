@@ -1,5 +1,5 @@
 -- Which rows neither hold nor serve a read and end nothing: all but those of requests and outcomes.
-use Rattle.cause_laws.proofs.Events.{IsAgain, asks, is_idle, retries}
+use Rattle.grid_model.proofs.EventShapes.{IsAgain, asks, idle-pass, is_idle, retries}
 use Rattle.grid_laws.proofs.DueAnswers.{with_reply}
 use Rattle.grid_model.specs.Advances.{advance, advance_end, owns, parts_now, prepares, request_of, to_node}
 use Rattle.script_runs.specs.Walks.{op_at, own_reads, unread}
@@ -175,9 +175,4 @@ unheld-again d past n os (retries t e) = rw e (unheld-retry d.cluster t (stage (
 unheld-again d past n os (asks t e) = rw e (unheld-if (is_some (pending t (journal d past n))) (to_node (home_of t (journal d past n)) (message.Ask t)) [] (unheld-to_node (home_of t (journal d past n)) (message.Ask t)) refl)
 
 pub unheld-idle : (acts : List Act) → list_all is_idle acts ≡ true → list_all is_unheld acts ≡ true
-unheld-idle [] h = refl
-unheld-idle (act.Void c ∷ acts) h = unheld-idle acts h
-unheld-idle (act.Missed m ∷ acts) h = unheld-idle acts h
-unheld-idle (act.Dropped m ∷ acts) h = unheld-idle acts h
-unheld-idle (act.Armed n k how ∷ acts) h = unheld-idle acts h
-unheld-idle (a ∷ acts) h = cc
+unheld-idle acts is = idle-pass is_unheld (λ code. refl) (λ m. refl) (λ m. refl) acts is

@@ -15,8 +15,6 @@ use Rattle.grid_model.specs.declared.acts.Flag.{Flag}
 use Rattle.grid_model.specs.declared.events.Out.{Out}
 use Rattle.grid_model.specs.declared.events.Out.TheVariants as out
 use Rattle.grid_model.specs.declared.items.Item.{Item}
-use Rattle.grid_model.specs.declared.items.Item.TheVariants as item
-use Rattle.grid_model.specs.declared.messages.Envelope.{Envelope}
 use Rattle.grid_model.specs.declared.messages.Message.{Message}
 use Rattle.grid_model.specs.declared.messages.Message.TheVariants as message
 use Rattle.grid_model.specs.declared.messages.ReadRep.{ReadRep}
@@ -31,11 +29,12 @@ use Rattle.grid_model.specs.Views.{view, stage, Stage, Open, Reads, Collects, Co
 use Rattle.grid_model.specs.Advances.{advance}
 use Rattle.script_runs.specs.Walks.{own_reads, unread}
 use Rattle.grid_model.specs.Fitness.{is_fit_at}
-use Rattle.grid_model.specs.Rows.{answer, ask_outs, begin_outs, reply_row, retry_row}
-use Rattle.grid_model.specs.Schedules.{Choice, acts_of, ask_row, begin_row, crash_row, deliver_row, drop_row, events_in, flag_of, kept, next_left, next_number, next_row, numbered, opened_row, or_void, restart_row, retry_at, row, start_row}
+use Rattle.grid_model.specs.Rows.{answer, begin_outs, reply_row}
+use Rattle.grid_model.specs.Schedules.{Choice, acts_of, events_in, flag_of, kept, next_number, numbered, opened_row, row, start_row}
 use Rattle.grid_model.specs.Runs.{Rows, IsRun}
 use Rattle.grid_model.specs.Copies.{shown}
 use Rattle.grid_model.proofs.Undecided.{script-number}
+use Rattle.grid_model.proofs.EventShapes.{Shape, idle, arms, crashes, restarts, begins, delivers, again, acts_by, by-shape}
 use Rattle.script_runs.proofs.AllReads.{reads_by, first-reads, reads-next}
 use Rattle.grid_laws.proofs.Causes.{AllDue}
 use Rattle.grid_laws.proofs.Frames.{same-number}
@@ -44,7 +43,7 @@ use Rattle.grid_laws.proofs.DueHomes.{story-began}
 use Rattle.grid_laws.proofs.DueActs.{after-append}
 use Rattle.grid_laws.proofs.DueAnswers.{story-taken, with_reply, stage-quiet}
 use Rattle.grid_laws.proofs.RunsDue.{due-run}
-use Rattle.grid_laws.proofs.SilentOuts.{is_reply, all_silent, silent-starts, silent-acts, silent-answer, silent-asks, silent-losses, silent-retry, silent-void}
+use Rattle.grid_laws.proofs.SilentOuts.{is_reply, all_silent, silent-starts, silent-acts, silent-answer, silent-again, silent-idle, silent-losses}
 use Rattle.copy_laws.proofs.ShownSteps.{AllShown, OthersShown, Says, ShownBy, other-began, other-took, silent-all, silent-by, story-order, story_reads}
 use Rattle.copy_laws.proofs.ShownRows.{shown-advance}
 
@@ -134,71 +133,29 @@ shown-begin d past m b s is new all =
     subst T (sym (began-kept m s.home b s.number sid0 (advance d.cluster (open_of s (begun sid0)) 0)))
     (shown-advance d now m s.home b s (begun sid0) 0 is (story-began d past s.number s.home sid0) left (λ t w other e. other-began d past s.number t s.home sid0 w other (all t w e)))
 
-shown-begin_at : (d : DocumentData) (past : List Act) (c : Choice) (s : ScriptData) (b : Bool) → script_of s.number d.scripts ≡ Some s → story d past s.number ≡ None → AllShown d past → AllShown d (after past (if b then acts_of past c s.home (begin_outs s.home (view d past s.home) s) else act.Void 2 ∷ []))
-shown-begin_at d past c s true is new all = shown-begin d past (next_number past) c.keeps s is new all
-shown-begin_at d past c s false is new all = silent-all d past (act.Void 2 ∷ []) refl all
+-- ---- the shapes of an event
 
-shown-begin_row : (d : DocumentData) (past : List Act) (c : Choice) (t : TxId) (x : Option Story) (s : Option ScriptData) → script_of t d.scripts ≡ s → story d past t ≡ x → AllShown d past → AllShown d (after past (begin_row d past c x s))
-shown-begin_row d past c t (Some x) s is at all = silent-all d past (act.Void 1 ∷ []) refl all
-shown-begin_row d past c t None None is at all = all
-shown-begin_row d past c t None (Some s) is at all =
-    let P : TxId → Type 0 = λ u. script_of u d.scripts ≡ Some s in
-    let Q : TxId → Type 0 = λ u. story d past u ≡ None in
-    let number : t ≡ s.number = sym (script-number t d.scripts s is) in
-    shown-begin_at d past c s (node d past s.home).up (subst P number is) (subst Q number at) all
+silent-restart : (d : DocumentData) (past : List Act) (n : NodeId) (f : Flag) (opens : Bool)
+    → all_silent (if opens then opened_row d past n f else act.StillDown n ∷ []) ≡ true
+silent-restart d past n f true = silent-losses d (act.Up n f ∷ past) n (number_order (script_numbers d.scripts))
+silent-restart d past n f false = refl
 
--- ---- the other rows
-
-shown-delivered : (d : DocumentData) (past : List Act) (c : Choice) (m : ℕ) (e : Envelope) (b : Bool) → (node d past e.to).up ≡ b → sent_at m (sent past) ≡ Some e → AllDue d past → AllShown d past → AllShown d (after past (if b then act.Got m ∷ acts_of past c e.to (answer e.to (view d past e.to) e.from e.message) else act.Missed m ∷ []))
-shown-delivered d past c m e true up is due all = shown-answer d past m (next_number past) e.to e.from c.keeps e.message (is_reply e.message) refl is ((e, is, up), due) (λ t s f. silent-by d past (act.Got m) t s refl (all t s f))
-shown-delivered d past c m e false up is due all = silent-all d past (act.Missed m ∷ []) refl all
-
-shown-deliver_row : (d : DocumentData) (past : List Act) (c : Choice) (m : ℕ) (o : Option Envelope) → sent_at m (sent past) ≡ o → AllDue d past → AllShown d past → AllShown d (after past (deliver_row d past c m o))
-shown-deliver_row d past c m None is due all = silent-all d past (act.Void 3 ∷ []) refl all
-shown-deliver_row d past c m (Some e) is due all = shown-delivered d past c m e (node d past e.to).up refl is due all
-
-silent-drop_row : (m : ℕ) (o : Option Envelope) → all_silent (drop_row m o) ≡ true
-silent-drop_row m None = refl
-silent-drop_row m (Some e) = refl
-
-shown-next_row : (d : DocumentData) (past : List Act) (c : Choice) (o : Option ℕ) → AllDue d past → AllShown d past → AllShown d (after past (next_row d past c o))
-shown-next_row d past c None due all = silent-all d past (act.Void 4 ∷ []) refl all
-shown-next_row d past c (Some m) due all = shown-deliver_row d past c m (sent_at m (sent past)) refl due all
-
-silent-either : (b : Bool) (xs ys : List Act) → all_silent xs ≡ true → all_silent ys ≡ true → all_silent (if b then xs else ys) ≡ true
-silent-either true xs ys h k = h
-silent-either false xs ys h k = k
-
-silent-retry_at : (d : DocumentData) (past : List Act) (c : Choice) (t : TxId) (o : Option ScriptData) → all_silent (retry_at d past c t o) ≡ true
-silent-retry_at d past c t None = refl
-silent-retry_at d past c t (Some s) =
-    let os : List Out = retry_row d.cluster t (stage (view d past s.home) t) in
-    silent-either (node d past s.home).up (or_void 5 os (acts_of past c s.home os)) (act.Void 2 ∷ []) (silent-void past 5 c s.home os (silent-retry d.cluster t (stage (view d past s.home) t))) refl
-
-silent-ask_row : (d : DocumentData) (past : List Act) (c : Choice) (n : NodeId) (t : TxId) → all_silent (ask_row d past c n t) ≡ true
-silent-ask_row d past c n t =
-    let os : List Out = ask_outs (view d past n) t in
-    silent-either (node d past n).up (or_void 6 os (acts_of past c n os)) (act.Void 6 ∷ []) (silent-void past 6 c n os (silent-asks (view d past n) t)) refl
-
-silent-opened_row : (d : DocumentData) (past : List Act) (n : NodeId) (f : Flag) → all_silent (opened_row d past n f) ≡ true
-silent-opened_row d past n f = silent-losses d (act.Up n f ∷ past) n (number_order (script_numbers d.scripts))
-
-silent-restart_row : (d : DocumentData) (past : List Act) (c : Choice) (n : NodeId) → all_silent (restart_row d past c n) ≡ true
-silent-restart_row d past c n =
-    let opened : List Act = opened_row d past n (flag_of (node d past n).doubt c.finds) in
-    silent-either (node d past n).up (act.Void 8 ∷ []) (if c.opens then opened else act.StillDown n ∷ []) refl (silent-either c.opens opened (act.StillDown n ∷ []) (silent-opened_row d past n (flag_of (node d past n).doubt c.finds)) refl)
+shown-shape : (d : DocumentData) (past : List Act) (i : Item) (c : Choice) → AllDue d past → AllShown d past
+    → (s : Shape d past i) → AllShown d (after past (acts_by d past i c s))
+shown-shape d past i c due all (idle acts is) = silent-all d past acts (silent-idle acts is) all
+shown-shape d past i c due all (arms n k how is) = silent-all d past (act.Armed n k how ∷ []) refl all
+shown-shape d past i c due all (crashes n up) = silent-all d past (act.Down n None ∷ []) refl all
+shown-shape d past i c due all (restarts n up) =
+    let f : Flag = flag_of (node d past n).doubt c.finds in
+    silent-all d past (if c.opens then opened_row d past n f else act.StillDown n ∷ []) (silent-restart d past n f c.opens) all
+shown-shape d past i c due all (begins s is new up) = shown-begin d past (next_number past) c.keeps s is new all
+shown-shape d past i c due all (delivers m e is up) = shown-answer d past m (next_number past) e.to e.from c.keeps e.message (is_reply e.message) refl is ((e, is, up), due) (λ t s f. silent-by d past (act.Got m) t s refl (all t s f))
+shown-shape d past i c due all (again n os up is) = silent-all d past (acts_of past c n os) (silent-acts (next_number past) n c.keeps os (silent-again d past n os is)) all
 
 -- an event leaves each transaction shown its reads
-shown-row : (d : DocumentData) (past : List Act) (e : Item) (c : Choice) → AllDue d past → AllShown d past → AllShown d (after past (row d past e c))
-shown-row d past (item.Begin t) c due all = shown-begin_row d past c t (story d past t) (script_of t d.scripts) refl refl all
-shown-row d past (item.Deliver m) c due all = shown-deliver_row d past c m (sent_at m (sent past)) refl due all
-shown-row d past (item.Drop m) c due all = silent-all d past (drop_row m (sent_at m (sent past))) (silent-drop_row m (sent_at m (sent past))) all
-shown-row d past (item.Next k) c due all = shown-next_row d past c (next_left past) due all
-shown-row d past (item.Retry t) c due all = silent-all d past (retry_at d past c t (script_of t d.scripts)) (silent-retry_at d past c t (script_of t d.scripts)) all
-shown-row d past (item.Ask n t) c due all = silent-all d past (ask_row d past c n t) (silent-ask_row d past c n t) all
-shown-row d past (item.Crash n how) c due all = silent-all d past (crash_row d past n) (silent-either (node d past n).up (act.Down n None ∷ []) (act.Void 7 ∷ []) refl refl) all
-shown-row d past (item.Fuse n k how) c due all = silent-all d past (act.Armed n k how ∷ []) refl all
-shown-row d past (item.Restart n) c due all = silent-all d past (restart_row d past c n) (silent-restart_row d past c n) all
+shown-row : (d : DocumentData) (past : List Act) (e : Item) (c : Choice) → AllDue d past → AllShown d past
+    → AllShown d (after past (row d past e c))
+shown-row d past e c due all = by-shape d past e c (λ acts. AllShown d (after past acts)) (shown-shape d past e c due all)
 
 -- ---- a run
 

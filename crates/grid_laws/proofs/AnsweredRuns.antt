@@ -11,12 +11,9 @@ use Rattle.grid_model.specs.declared.acts.Flag.{Flag}
 use Rattle.grid_model.specs.declared.events.Out.{Out}
 use Rattle.grid_model.specs.declared.events.Out.TheVariants as out
 use Rattle.grid_model.specs.declared.items.Item.{Item}
-use Rattle.grid_model.specs.declared.items.Item.TheVariants as item
-use Rattle.grid_model.specs.declared.messages.Envelope.{Envelope}
 use Rattle.grid_model.specs.declared.messages.Message.{Message}
 use Rattle.grid_model.specs.declared.messages.Message.TheVariants as message
 use Rattle.grid_model.specs.declared.messages.ReadRep.{ReadRep}
-use Rattle.grid_model.specs.declared.stories.Story.{Story}
 use Rattle.grid_model.specs.Documents.{DocumentData, number_order, script_numbers}
 use Rattle.grid_model.specs.Histories.{after, sent, sent_at}
 use Rattle.journal_words.specs.Journals.{commit_id}
@@ -25,15 +22,16 @@ use Rattle.grid_model.specs.Stories.{begun, story, with_value}
 use Rattle.grid_model.specs.Views.{view, stage, Stage, Open, Reads, Collects, Commits, Apart, open_of}
 use Rattle.grid_model.specs.Advances.{advance}
 use Rattle.grid_model.specs.Fitness.{is_fit_at}
-use Rattle.grid_model.specs.Rows.{answer, ask_outs, begin_outs, reply_row, retry_row}
-use Rattle.grid_model.specs.Schedules.{Choice, acts_of, begin_row, deliver_row, drop_row, flag_of, kept, next_left, next_number, next_row, numbered, opened_row, or_void, retry_at, row}
+use Rattle.grid_model.specs.Rows.{answer, begin_outs, reply_row}
+use Rattle.grid_model.specs.Schedules.{Choice, acts_of, flag_of, kept, next_number, numbered, opened_row, row}
 use Rattle.grid_model.proofs.Undecided.{script-number}
+use Rattle.grid_model.proofs.EventShapes.{Shape, idle, arms, crashes, restarts, begins, delivers, again, acts_by, by-shape}
 use Rattle.grid_laws.proofs.Stages.{Opens, opens-reads}
 use Rattle.grid_laws.proofs.DueHomes.{story-began, ReadersAnswered}
 use Rattle.grid_laws.proofs.DueAnswers.{story-taken, with_reply, stage-quiet}
 use Rattle.grid_laws.proofs.Answered.{is_told, calm-all, calm-told, other-told, other-taken, AllTold, OthersTold}
 use Rattle.grid_laws.proofs.AnsweredRows.{told-advance}
-use Rattle.grid_laws.proofs.CalmOuts.{is_reply, calm-acts, calm-answer, calm-asks, calm-losses, calm-retry, calm-void}
+use Rattle.grid_laws.proofs.CalmOuts.{is_reply, calm-acts, calm-again, calm-answer, calm-idle, calm-losses}
 
 -- ---- a reply
 
@@ -94,70 +92,26 @@ told-begin d past m b s is all =
     subst T (sym (numbered-began m s.home b s.number sid0 (advance d.cluster (open_of s (begun sid0)) 0)))
     (told-advance d now m s.home b s (begun sid0) 0 is (story-began d past s.number s.home sid0) (λ t w other e. other-told w d past (act.Void 0) s.number t s.home sid0 other (all t w e)))
 
-told-begin_at : (d : DocumentData) (past : List Act) (c : Choice) (s : ScriptData) (b : Bool) → script_of s.number d.scripts ≡ Some s → AllTold d past → AllTold d (after past (if b then acts_of past c s.home (begin_outs s.home (view d past s.home) s) else act.Void 2 ∷ []))
-told-begin_at d past c s true is all = told-begin d past (next_number past) c.keeps s is all
-told-begin_at d past c s false is all = all
+-- ---- the shapes of an event
 
-told-begin_row : (d : DocumentData) (past : List Act) (c : Choice) (t : TxId) (x : Option Story) (s : Option ScriptData) → script_of t d.scripts ≡ s → AllTold d past → AllTold d (after past (begin_row d past c x s))
-told-begin_row d past c t (Some x) s is all = all
-told-begin_row d past c t None None is all = all
-told-begin_row d past c t None (Some s) is all =
-    let P : TxId → Type 0 = λ u. script_of u d.scripts ≡ Some s in
-    told-begin_at d past c s (node d past s.home).up (subst P (sym (script-number t d.scripts s is)) is) all
+told-restart : (d : DocumentData) (past : List Act) (n : NodeId) (f : Flag) (opens : Bool) → AllTold d past
+    → AllTold d (after past (if opens then opened_row d past n f else act.StillDown n ∷ []))
+told-restart d past n f true all = calm-all d past (opened_row d past n f) (calm-losses d (act.Up n f ∷ past) n (number_order (script_numbers d.scripts))) all
+told-restart d past n f false all = all
 
--- ---- the other rows
-
-told-delivered : (d : DocumentData) (past : List Act) (c : Choice) (m : ℕ) (e : Envelope) (b : Bool) → sent_at m (sent past) ≡ Some e → AllTold d past → AllTold d (after past (if b then act.Got m ∷ acts_of past c e.to (answer e.to (view d past e.to) e.from e.message) else act.Missed m ∷ []))
-told-delivered d past c m e true is all = told-answer d past m (next_number past) e.to e.from c.keeps e.message (is_reply e.message) refl is (λ t s f. calm-told s d past (act.Got m) t refl (all t s f))
-told-delivered d past c m e false is all = all
-
-told-deliver_row : (d : DocumentData) (past : List Act) (c : Choice) (m : ℕ) (o : Option Envelope) → sent_at m (sent past) ≡ o → AllTold d past → AllTold d (after past (deliver_row d past c m o))
-told-deliver_row d past c m None is all = all
-told-deliver_row d past c m (Some e) is all = told-delivered d past c m e (node d past e.to).up is all
-
-told-retry_at : (d : DocumentData) (past : List Act) (c : Choice) (t : TxId) (o : Option ScriptData) → AllTold d past → AllTold d (after past (retry_at d past c t o))
-told-retry_at d past c t None all = all
-told-retry_at d past c t (Some s) all = go (node d past s.home).up
-  where
-    os : List Out
-    os = retry_row d.cluster t (stage (view d past s.home) t)
-
-    go : (b : Bool) → AllTold d (after past (if b then or_void 5 os (acts_of past c s.home os) else act.Void 2 ∷ []))
-    go true = calm-all d past (or_void 5 os (acts_of past c s.home os)) (calm-void past 5 c s.home os (calm-retry d.cluster t (stage (view d past s.home) t))) all
-    go false = all
-
-told-ask_row : (d : DocumentData) (past : List Act) (c : Choice) (n : NodeId) (t : TxId) (b : Bool) → AllTold d past → AllTold d (after past (if b then or_void 6 (ask_outs (view d past n) t) (acts_of past c n (ask_outs (view d past n) t)) else act.Void 6 ∷ []))
-told-ask_row d past c n t true all = calm-all d past (or_void 6 (ask_outs (view d past n) t) (acts_of past c n (ask_outs (view d past n) t))) (calm-void past 6 c n (ask_outs (view d past n) t) (calm-asks (view d past n) t)) all
-told-ask_row d past c n t false all = all
-
-told-crash_row : (d : DocumentData) (past : List Act) (n : NodeId) (b : Bool) → AllTold d past → AllTold d (after past (if b then act.Down n None ∷ [] else act.Void 7 ∷ []))
-told-crash_row d past n true all = λ t s e. calm-told s d past (act.Down n None) t refl (all t s e)
-told-crash_row d past n false all = all
-
-told-restart_row : (d : DocumentData) (past : List Act) (n : NodeId) (f : Flag) (b o : Bool) → AllTold d past → AllTold d (after past (if b then act.Void 8 ∷ [] else (if o then opened_row d past n f else act.StillDown n ∷ [])))
-told-restart_row d past n f true o all = all
-told-restart_row d past n f false true all = calm-all d past (opened_row d past n f) (calm-losses d (act.Up n f ∷ past) n (number_order (script_numbers d.scripts))) all
-told-restart_row d past n f false false all = all
-
-told-drop_row : (d : DocumentData) (past : List Act) (m : ℕ) (o : Option Envelope) → AllTold d past → AllTold d (after past (drop_row m o))
-told-drop_row d past m None all = all
-told-drop_row d past m (Some e) all = all
-
-told-next_row : (d : DocumentData) (past : List Act) (c : Choice) (o : Option ℕ) → AllTold d past → AllTold d (after past (next_row d past c o))
-told-next_row d past c None all = all
-told-next_row d past c (Some m) all = told-deliver_row d past c m (sent_at m (sent past)) refl all
+told-shape : (d : DocumentData) (past : List Act) (i : Item) (c : Choice) → AllTold d past → (s : Shape d past i)
+    → AllTold d (after past (acts_by d past i c s))
+told-shape d past i c all (idle acts is) = calm-all d past acts (calm-idle acts is) all
+told-shape d past i c all (arms n k how is) = all
+told-shape d past i c all (crashes n up) = λ t s e. calm-told s d past (act.Down n None) t refl (all t s e)
+told-shape d past i c all (restarts n up) = told-restart d past n (flag_of (node d past n).doubt c.finds) c.opens all
+told-shape d past i c all (begins s is new up) = told-begin d past (next_number past) c.keeps s is all
+told-shape d past i c all (delivers m e is up) = told-answer d past m (next_number past) e.to e.from c.keeps e.message (is_reply e.message) refl is (λ t s f. calm-told s d past (act.Got m) t refl (all t s f))
+told-shape d past i c all (again n os up is) = calm-all d past (acts_of past c n os) (calm-acts (next_number past) n c.keeps os (calm-again d past n os is)) all
 
 -- an event leaves all told
 pub told-row : (d : DocumentData) (past : List Act) (e : Item) (c : Choice) → AllTold d past → AllTold d (after past (row d past e c))
-told-row d past (item.Begin t) c all = told-begin_row d past c t (story d past t) (script_of t d.scripts) refl all
-told-row d past (item.Deliver m) c all = told-deliver_row d past c m (sent_at m (sent past)) refl all
-told-row d past (item.Drop m) c all = told-drop_row d past m (sent_at m (sent past)) all
-told-row d past (item.Next k) c all = told-next_row d past c (next_left past) all
-told-row d past (item.Retry t) c all = told-retry_at d past c t (script_of t d.scripts) all
-told-row d past (item.Ask n t) c all = told-ask_row d past c n t (node d past n).up all
-told-row d past (item.Crash n how) c all = told-crash_row d past n (node d past n).up all
-told-row d past (item.Fuse n k how) c all = all
-told-row d past (item.Restart n) c all = told-restart_row d past n (flag_of (node d past n).doubt c.finds) (node d past n).up c.opens all
+told-row d past e c all = by-shape d past e c (λ acts. AllTold d (after past acts)) (told-shape d past e c all)
 
 pub answered-told : (d : DocumentData) (past : List Act) → AllTold d past → ReadersAnswered d past
 answered-told d past all t s x is at full reads = told (all t s is)

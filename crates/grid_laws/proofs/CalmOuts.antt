@@ -2,22 +2,23 @@
 use Rattle.std.proofs.Common.{◌≡◌, ℕ, ◌+◌, Bool, true, false, List, [], ◌∷◌, Option, refl, arith}
 use Rattle.std.specs.Prelude.{map, ◌&&◌}
 use Rattle.std.proofs.lemmas.Bool.{and_parts, and_from}
-use Rattle.std.specs.List.{flat_map}
+use Rattle.std.specs.List.{flat_map, list_all}
 use Rattle.score_base.specs.declared.ids.TxId.{TxId}
 use Rattle.score_base.specs.declared.ids.NodeId.{NodeId}
 use Rattle.placement.specs.Clusters.{ClusterData}
-use Rattle.grid_model.specs.Schedules.{start_act, kept, broken, numbered, Choice, acts_of, lost_at, next_number, or_void}
+use Rattle.grid_model.specs.Schedules.{start_act, kept, broken, numbered, lost_at}
 use Rattle.grid_model.specs.declared.events.Out.{Out}
 use Rattle.grid_model.specs.declared.events.Out.TheVariants as out
 use Rattle.grid_model.specs.declared.messages.Message.{Message}
-use Rattle.grid_model.specs.Views.{Open, Stage, View}
+use Rattle.grid_model.specs.Views.{Open, View}
 use Rattle.grid_model.specs.Advances.{advance_end}
-use Rattle.grid_model.specs.Rows.{answer, ask_outs, retry_row}
+use Rattle.grid_model.specs.Rows.{answer}
 use Rattle.grid_model.specs.declared.acts.Act.{Act}
 use Rattle.grid_model.specs.declared.acts.Act.TheVariants as act
 use Rattle.grid_model.specs.Documents.{DocumentData}
 use Rattle.grid_model.specs.Nodes.{script_of}
-use Rattle.grid_laws.proofs.SilentOuts.{silent-end, silent-starts, is_silent, all_silent, is_silent_out, silent_outs, silent-answer, silent-retry, silent-asks, silent-losses}
+use Rattle.grid_laws.proofs.SilentOuts.{silent-end, silent-starts, is_silent, all_silent, is_silent_out, silent_outs, silent-again, silent-answer, silent-idle, silent-losses}
+use Rattle.grid_model.proofs.EventShapes.{IsAgain, is_idle}
 use Rattle.grid_laws.proofs.Answered.{is_calm, all_calm}
 pub use Rattle.grid_laws.proofs.SilentOuts.{is_reply}
 
@@ -71,19 +72,17 @@ silent-all (a ∷ acts) h =
 pub calm-answer : (n : NodeId) (v : View) (x : NodeId) (said : Message) → is_reply said ≡ false → calm_outs (answer n v x said) ≡ true
 calm-answer n v x said h = silent-calm (answer n v x said) (silent-answer n v x said h)
 
-pub calm-retry : (c : ClusterData) (t : TxId) (g : Stage) → calm_outs (retry_row c t g) ≡ true
-calm-retry c t g = silent-calm (retry_row c t g) (silent-retry c t g)
-
-pub calm-asks : (v : View) (t : TxId) → calm_outs (ask_outs v t) ≡ true
-calm-asks v t = silent-calm (ask_outs v t) (silent-asks v t)
-
 -- what stands at the end of Advance
 pub calm-end : (c : ClusterData) (x : Open) (w : Option ℕ) → calm_outs (advance_end c x w) ≡ true
 calm-end c x w = silent-calm (advance_end c x w) (silent-end c x w)
 
-pub calm-void : (past : List Act) (code : ℕ) (c : Choice) (n : NodeId) (os : List Out) → calm_outs os ≡ true → all_calm (or_void code os (acts_of past c n os)) ≡ true
-calm-void past code c n [] h = refl
-calm-void past code c n (o ∷ os) h = calm-acts (next_number past) n c.keeps (o ∷ os) h
+-- acts that change nothing
+pub calm-idle : (acts : List Act) → list_all is_idle acts ≡ true → all_calm acts ≡ true
+calm-idle acts is = silent-all acts (silent-idle acts is)
+
+-- what a home sends again, or what a node asks
+pub calm-again : (d : DocumentData) (past : List Act) (n : NodeId) (os : List Out) → IsAgain d past n os → calm_outs os ≡ true
+calm-again d past n os is = silent-calm os (silent-again d past n os is)
 
 -- the losses of a node that is opened
 pub calm-losses : (d : DocumentData) (past : List Act) (n : NodeId) (ts : List TxId) → all_calm (flat_map (λ t. lost_at d past n (script_of t d.scripts)) ts) ≡ true

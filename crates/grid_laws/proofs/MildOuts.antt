@@ -1,7 +1,7 @@
 -- The outs that begin, take, show and propose nothing: those of each row but three.
 use Rattle.std.proofs.Common.{◌≡◌, ℕ, Bool, true, false, List, [], ◌∷◌, ◌++◌, Option, Some, None, refl, arith}
 use Rattle.std.specs.Prelude.{map, ◌==◌, is_some, ◌&&◌, if◌then◌else◌}
-use Rattle.std.specs.List.{flat_map}
+use Rattle.std.specs.List.{flat_map, list_all}
 use Rattle.score_base.specs.declared.ids.TxId.{TxId}
 use Rattle.score_base.specs.declared.ids.NodeId.{NodeId}
 use Rattle.score_base.specs.declared.ids.Ident.{Ident}
@@ -19,6 +19,7 @@ use Rattle.placement.specs.Clusters.{ClusterData}
 use Rattle.grid_model.specs.declared.acts.Flag.TheVariants as flag
 use Rattle.grid_model.specs.Documents.{DocumentData}
 use Rattle.grid_model.specs.Nodes.{script_of}
+use Rattle.grid_model.proofs.EventShapes.{IsAgain, retries, asks, is_idle}
 use Rattle.grid_model.specs.Stories.{is_open, phase, has_voted}
 use Rattle.grid_model.specs.Schedules.{lost_at, start_act}
 use Rattle.grid_model.specs.declared.acts.Act.{Act}
@@ -30,7 +31,7 @@ use Rattle.grid_model.specs.declared.messages.Message.TheVariants as message
 use Rattle.grid_model.specs.declared.messages.ReadReq.{ReadReq}
 use Rattle.grid_model.specs.declared.stories.HeldRead.{HeldRead}
 use Rattle.journal_words.specs.Journals.{ended, is_commit, pending, home_of}
-use Rattle.grid_model.specs.Views.{Stage, View, Open, Reads, Collects, Commits, Apart}
+use Rattle.grid_model.specs.Views.{Stage, View, Open, Reads, Collects, Commits, Apart, stage, view}
 use Rattle.grid_model.specs.Advances.{advance_end, parts_now, prepares, request_of, to_node}
 use Rattle.script_runs.specs.Walks.{op_at}
 use Rattle.grid_model.specs.Rows.{greatest_vote, have_voted, not_voted, not_among, ack_row, ask_outs, ask_row, ballot_row, commit_row, abort_row, decides, freed_by, full_row, read_row, release, retry_row, tell_outs, tells, vote_row}
@@ -121,14 +122,19 @@ mild-request : (c : ClusterData) (x : Open) (j q : ℕ) (o : Option Op) → mild
 mild-request c x j q None = refl
 mild-request c x j q (Some o) = mild-to_node _ _
 
-pub mild-retry : (c : ClusterData) (t : TxId) (g : Stage) → mild_outs (retry_row c t g) ≡ true
+mild-retry : (c : ClusterData) (t : TxId) (g : Stage) → mild_outs (retry_row c t g) ≡ true
 mild-retry c t (Reads x j) = mild-request c x j x.turn (op_at x.script.ops j)
 mild-retry c t (Collects x) = mild-prepares c x (not_voted (parts_now c x) x.votes)
 mild-retry c t (Commits y acks) = mild-tells t (outcome.Commit y.final) (not_among y.parts acks)
 mild-retry c t Apart = refl
 
-pub mild-asks : (v : View) (t : TxId) → mild_outs (ask_outs v t) ≡ true
+mild-asks : (v : View) (t : TxId) → mild_outs (ask_outs v t) ≡ true
 mild-asks v t = mild-if (is_some (pending t v.journal)) _ (mild-to_node (home_of t v.journal) (message.Ask t))
+
+-- what a home sends again, or what a node asks
+pub mild-again : (d : DocumentData) (past : List Act) (n : NodeId) (os : List Out) → IsAgain d past n os → mild_outs os ≡ true
+mild-again d past n os (retries t is) = rw is (mild-retry d.cluster t (stage (view d past n) t))
+mild-again d past n os (asks t is) = rw is (mild-asks (view d past n) t)
 
 -- what stands at the end of Advance
 pub mild-end : (c : ClusterData) (x : Open) (w : Option ℕ) → mild_outs (advance_end c x w) ≡ true
@@ -138,6 +144,15 @@ mild-end c x None = go (is_update x.script.ops)
     go : (b : Bool) → mild_outs (if b then prepares c x (parts_now c x) else out.Act (act.Finished x.script.number) ∷ []) ≡ true
     go true = mild-prepares c x (parts_now c x)
     go false = refl
+
+-- ---- acts that change nothing
+
+pub mild-idle : (acts : List Act) → list_all is_idle acts ≡ true → all_mild acts ≡ true
+mild-idle [] is = refl
+mild-idle (act.Void code ∷ acts) is = mild-idle acts is
+mild-idle (act.Missed m ∷ acts) is = mild-idle acts is
+mild-idle (act.Dropped m ∷ acts) is = mild-idle acts is
+mild-idle (a ∷ acts) is = cc
 
 -- ---- the losses of a node that is opened
 

@@ -24,10 +24,12 @@ use Rattle.grid_model.specs.Views.{stage, Stage, View, Open, Reads, Collects, Co
 use Rattle.grid_model.specs.Advances.{advance, advance_end, owns}
 use Rattle.script_runs.specs.Walks.{own_reads, unread}
 use Rattle.grid_model.specs.Fitness.{is_fit_at, tx_in}
-use Rattle.grid_model.specs.Rows.{ack_row, answer, ask_outs, ask_row, begin_outs, begun_at, judged, prepare_row, reply_row, retry_row, row_of, tell_outs, vote_row}
+use Rattle.grid_model.specs.Rows.{ack_row, answer, ask_row, begin_outs, begun_at, judged, prepare_row, reply_row, row_of, tell_outs, vote_row}
 use Rattle.grid_model.specs.Schedules.{broken, kept, numbered}
 use Rattle.grid_laws.proofs.ActsLow.{weight, proposals}
-use Rattle.grid_laws.proofs.MildOuts.{is_mild, all_mild, is_mild_out, mild_outs, mild-read, mild-vote, mild-tell, mild-ack, mild-ask, mild-retry, mild-asks, mild-end}
+use Rattle.grid_model.specs.Documents.{DocumentData}
+use Rattle.grid_model.proofs.EventShapes.{IsAgain}
+use Rattle.grid_laws.proofs.MildOuts.{is_mild, all_mild, is_mild_out, mild_outs, mild-read, mild-vote, mild-tell, mild-ack, mild-ask, mild-again, mild-end}
 
 -- ---- outs
 
@@ -120,11 +122,8 @@ none-reply c q (Collects x) = refl
 none-reply c q (Commits y acks) = refl
 none-reply c q Apart = refl
 
-pub none-retry : (c : ClusterData) (t : TxId) (g : Stage) → outs_weight (retry_row c t g) ≡ 0
-none-retry c t g = none-mild (retry_row c t g) (mild-retry c t g)
-
-pub none-asks : (v : View) (t : TxId) → outs_weight (ask_outs v t) ≡ 0
-none-asks v t = none-mild (ask_outs v t) (mild-asks v t)
+pub none-again : (d : DocumentData) (past : List Act) (n : NodeId) (os : List Out) → IsAgain d past n os → outs_weight os ≡ 0
+none-again d past n os is = none-mild os (mild-again d past n os is)
 
 pub none-begin : (n : NodeId) (v : View) (s : ScriptData) → outs_weight (begin_outs n v s) ≡ 0
 none-begin n v s =

@@ -1,7 +1,7 @@
 -- The outs that begin nothing, take no reply and show no own read: those of each row but two.
 use Rattle.std.proofs.Common.{◌≡◌, ℕ, ◌+◌, Bool, true, false, List, [], ◌∷◌, Option, Some, None, refl, arith}
 use Rattle.std.specs.Prelude.{map, ◌&&◌, if◌then◌else◌}
-use Rattle.std.specs.List.{flat_map}
+use Rattle.std.specs.List.{flat_map, list_all}
 use Rattle.std.proofs.lemmas.Bool.{and_parts, and_from}
 use Rattle.score_base.specs.declared.ids.TxId.{TxId}
 use Rattle.score_base.specs.declared.ids.NodeId.{NodeId}
@@ -9,7 +9,7 @@ use Rattle.score_base.specs.declared.ids.Ident.{Ident}
 use Rattle.score_base.specs.declared.causes.Outcome.{Outcome}
 use Rattle.score_base.specs.declared.keys.Key.{Key}
 use Rattle.placement.specs.Clusters.{ClusterData}
-use Rattle.grid_model.specs.Schedules.{start_act, Choice, acts_of, broken, kept, lost_at, next_number, numbered, or_void}
+use Rattle.grid_model.specs.Schedules.{start_act, broken, kept, lost_at, numbered}
 use Rattle.grid_model.specs.declared.acts.Act.{Act}
 use Rattle.grid_model.specs.declared.acts.Act.TheVariants as act
 use Rattle.grid_model.specs.declared.events.Out.{Out}
@@ -21,8 +21,9 @@ use Rattle.grid_model.specs.Nodes.{script_of}
 use Rattle.grid_model.specs.Views.{stage, Stage, View, Open}
 use Rattle.grid_model.specs.Advances.{advance_end}
 use Rattle.grid_model.specs.Fitness.{is_fit_at, tx_in}
-use Rattle.grid_model.specs.Rows.{answer, ack_row, ask_outs, ask_row, judged, prepare_row, retry_row, row_of, tell_outs, vote_row}
-use Rattle.grid_laws.proofs.MildOuts.{all_mild, mild-losses, mild-starts, is_mild, is_mild_out, mild_outs, mild-read, mild-vote, mild-tell, mild-ack, mild-ask, mild-retry, mild-asks, mild-end}
+use Rattle.grid_model.specs.Rows.{answer, ack_row, ask_row, judged, prepare_row, row_of, tell_outs, vote_row}
+use Rattle.grid_laws.proofs.MildOuts.{all_mild, mild-losses, mild-starts, is_mild, is_mild_out, mild_outs, mild-read, mild-vote, mild-tell, mild-ack, mild-again, mild-ask, mild-end, mild-idle}
+use Rattle.grid_model.proofs.EventShapes.{IsAgain, is_idle}
 
 -- ---- acts
 
@@ -57,10 +58,6 @@ silent-broken n (o ∷ os) h = grind (arith, h, silent-broken n os)
 pub silent-acts : (m : ℕ) (n : NodeId) (b : Bool) (os : List Out) → silent_outs os ≡ true → all_silent (numbered m n (kept b n os)) ≡ true
 silent-acts m n true os h = silent-numbered m n os h
 silent-acts m n false os h = silent-numbered m n (broken n os) (silent-broken n os h)
-
-pub silent-void : (past : List Act) (code : ℕ) (c : Choice) (n : NodeId) (os : List Out) → silent_outs os ≡ true → all_silent (or_void code os (acts_of past c n os)) ≡ true
-silent-void past code c n [] h = refl
-silent-void past code c n (o ∷ os) h = silent-acts (next_number past) n c.keeps (o ∷ os) h
 
 -- ---- the rows
 
@@ -117,11 +114,13 @@ silent-row_of n v g x (message.Ask t) h = mild-silent (ask_row t x g) (mild-ask 
 pub silent-answer : (n : NodeId) (v : View) (x : NodeId) (said : Message) → is_reply said ≡ false → silent_outs (answer n v x said) ≡ true
 silent-answer n v x said h = silent-if (is_fit_at n v (stage v (tx_in said)) x said) _ (silent-row_of n v (stage v (tx_in said)) x said h)
 
-pub silent-retry : (c : ClusterData) (t : TxId) (g : Stage) → silent_outs (retry_row c t g) ≡ true
-silent-retry c t g = mild-silent (retry_row c t g) (mild-retry c t g)
+-- what a home sends again, or what a node asks
+pub silent-again : (d : DocumentData) (past : List Act) (n : NodeId) (os : List Out) → IsAgain d past n os → silent_outs os ≡ true
+silent-again d past n os is = mild-silent os (mild-again d past n os is)
 
-pub silent-asks : (v : View) (t : TxId) → silent_outs (ask_outs v t) ≡ true
-silent-asks v t = mild-silent (ask_outs v t) (mild-asks v t)
+-- acts that change nothing
+pub silent-idle : (acts : List Act) → list_all is_idle acts ≡ true → all_silent acts ≡ true
+silent-idle acts is = mild-all acts (mild-idle acts is)
 
 -- what stands at the end of Advance
 pub silent-end : (c : ClusterData) (x : Open) (w : Option ℕ) → silent_outs (advance_end c x w) ≡ true

@@ -10,6 +10,7 @@ pub mod Unarmed
 pub mod LawfulStops
 pub mod ViewsOnTheWay
 pub mod Undecided
+pub mod EventShapes
 pub mod ViewSteps
 pub mod HeardViews
 pub mod PlainOuts

@@ -16,21 +16,20 @@ use Rattle.grid_model.specs.declared.acts.Head.TheVariants as head
 use Rattle.grid_model.specs.declared.events.Out.{Out}
 use Rattle.grid_model.specs.declared.events.Out.TheVariants as out
 use Rattle.grid_model.specs.declared.items.Item.{Item}
-use Rattle.grid_model.specs.declared.items.Item.TheVariants as item
-use Rattle.grid_model.specs.declared.messages.Envelope.{Envelope}
 use Rattle.grid_model.specs.declared.stories.Story.{Story}
 use Rattle.grid_model.specs.Documents.{DocumentData, number_order, script_numbers}
-use Rattle.grid_model.specs.Histories.{after, sent, sent_at}
+use Rattle.grid_model.specs.Histories.{after}
 use Rattle.journal_words.specs.Journals.{Decision, commit_id, decision, is_closed}
 use Rattle.grid_model.specs.Nodes.{Node, node, script_of, is_home}
 use Rattle.grid_model.specs.Stories.{story, phase, phase_by, is_open}
 use Rattle.grid_model.specs.Views.{View, Open, open_at, view, stage}
 use Rattle.grid_model.specs.Advances.{advance}
-use Rattle.grid_model.specs.Rows.{answer, begin_outs, begun_at, retry_row, ask_outs}
-use Rattle.grid_model.specs.Schedules.{Choice, numbered, kept, broken, next_number, acts_of, begin_at, begin_row, deliver_row, drop_row, next_left, next_row, or_void, retry_at, ask_row, crash_row, flag_of, lost_at, opened_row, restart_row, row, start_act, start_row, events_in}
+use Rattle.grid_model.specs.Rows.{answer, begin_outs, begun_at}
+use Rattle.grid_model.specs.Schedules.{Choice, numbered, kept, broken, next_number, acts_of, flag_of, lost_at, opened_row, row, start_act, start_row, events_in}
 use Rattle.grid_model.specs.Runs.{Rows, IsRun}
 use Rattle.grid_model.specs.NextViews.{OwnDecisions, is_running}
 use Rattle.grid_model.proofs.Undecided.{script-number}
+use Rattle.grid_model.proofs.EventShapes.{Shape, idle, arms, crashes, restarts, begins, delivers, again, IsAgain, retries, asks, acts_by, by-shape, idle-pass}
 use Rattle.grid_model.proofs.ViewSteps.{here, at-desk, entry}
 use Rattle.grid_model.proofs.PlainOuts.{both, is_plain, are_plain}
 use Rattle.grid_model.proofs.NextSteps.{Given, answer-given, advance-plain, retry-plain, asks-plain}
@@ -110,68 +109,16 @@ given-owes d past n m k keeps os given = elim given [
     go true t f rest home runs plain = (runs, calm-all d (act.Decided t f ∷ act.Got m ∷ past) (numbered k n rest) (plain-kept d n true k rest plain))
     go false t f rest home runs plain = (rw home runs, tt)
 
--- ---- the rows
+-- ---- the outs of an event
 
-void-owes : (d : DocumentData) (past : List Act) (code : ℕ) → OweAll d past (act.Void code ∷ [])
-void-owes d past code = (tt, tt)
-
-begin-owes : (d : DocumentData) (past : List Act) (n : NodeId) (v : View) (s : ScriptData) (k : ℕ) (keeps : Bool) → OweAll d past (numbered k n (kept keeps n (begin_outs n v s)))
+begin-owes : (d : DocumentData) (past : List Act) (n : NodeId) (v : View) (s : ScriptData) (k : ℕ) (keeps : Bool)
+    → OweAll d past (numbered k n (kept keeps n (begin_outs n v s)))
 begin-owes d past n v s k true = calm-all d past (numbered k n (kept true n (begin_outs n v s))) (plain-kept d n false k (advance v.cluster (begun_at s (commit_id v.journal)) 0) (advance-plain d n false v.cluster (begun_at s (commit_id v.journal)) 0))
 begin-owes d past n v s k false = calm-all d past (numbered k n (kept false n (begin_outs n v s))) (plain-broken d n false k (advance v.cluster (begun_at s (commit_id v.journal)) 0) (advance-plain d n false v.cluster (begun_at s (commit_id v.journal)) 0))
 
-begun-owes : (d : DocumentData) (past : List Act) (c : Choice) (so : Option ScriptData) → OweAll d past (begin_at d past c so)
-begun-owes d past c None = tt
-begun-owes d past c (Some s) = go (node d past s.home).up
-  where
-    go : (up : Bool) → OweAll d past (if up then acts_of past c s.home (begin_outs s.home (view d past s.home) s) else act.Void 2 ∷ [])
-    go true = begin-owes d past s.home (view d past s.home) s (next_number past) c.keeps
-    go false = (tt, tt)
-
-begin_row-owes : (d : DocumentData) (past : List Act) (c : Choice) (o : Option Story) (so : Option ScriptData) → OweAll d past (begin_row d past c o so)
-begin_row-owes d past c (Some x) so = (tt, tt)
-begin_row-owes d past c None so = begun-owes d past c so
-
-deliver-owes : (d : DocumentData) (past : List Act) → DecisionsKept d past → (c : Choice) (m : ℕ) (e : Option Envelope) → OweAll d past (deliver_row d past c m e)
-deliver-owes d past kept_now c m None = (tt, tt)
-deliver-owes d past kept_now c m (Some e) = go (node d past e.to).up
-  where
-    go : (up : Bool) → OweAll d past (if up then act.Got m ∷ acts_of past c e.to (answer e.to (view d past e.to) e.from e.message) else act.Missed m ∷ [])
-    go true = (tt, given-owes d past e.to m (next_number past) c.keeps (answer e.to (view d past e.to) e.from e.message) (answer-given d past e.to e.from e.message (kept-own d past e.to kept_now)))
-    go false = (tt, tt)
-
-next-owes : (d : DocumentData) (past : List Act) → DecisionsKept d past → (c : Choice) (m : Option ℕ) → OweAll d past (next_row d past c m)
-next-owes d past kept_now c None = (tt, tt)
-next-owes d past kept_now c (Some m) = deliver-owes d past kept_now c m (sent_at m (sent past))
-
-drop-owes : (d : DocumentData) (past : List Act) (m : ℕ) (e : Option Envelope) → OweAll d past (drop_row m e)
-drop-owes d past m None = (tt, tt)
-drop-owes d past m (Some e) = (tt, tt)
-
-void_or-owes : (d : DocumentData) (past : List Act) (code : ℕ) (os : List Out) (acts : List Act) → OweAll d past acts → OweAll d past (or_void code os acts)
-void_or-owes d past code [] acts owed = (tt, tt)
-void_or-owes d past code (o ∷ os) acts owed = owed
-
-retry-owes : (d : DocumentData) (past : List Act) (c : Choice) (t : TxId) (so : Option ScriptData) → OweAll d past (retry_at d past c t so)
-retry-owes d past c t None = tt
-retry-owes d past c t (Some s) = go (node d past s.home).up (retry_row d.cluster t (stage (view d past s.home) t)) (retry-plain d s.home d.cluster t (stage (view d past s.home) t))
-  where
-    go : (up : Bool) (os : List Out) → IsTrue (are_plain d s.home false os) → OweAll d past (if up then or_void 5 os (acts_of past c s.home os) else act.Void 2 ∷ [])
-    go true os plain = void_or-owes d past 5 os (acts_of past c s.home os) (calm-all d past (acts_of past c s.home os) (plain-calm d s.home false c.keeps (next_number past) os plain))
-    go false os plain = (tt, tt)
-
-ask-owes : (d : DocumentData) (past : List Act) (c : Choice) (n : NodeId) (t : TxId) → OweAll d past (ask_row d past c n t)
-ask-owes d past c n t = go (node d past n).up (ask_outs (view d past n) t) (asks-plain d n (view d past n) t)
-  where
-    go : (up : Bool) (os : List Out) → IsTrue (are_plain d n false os) → OweAll d past (if up then or_void 6 os (acts_of past c n os) else act.Void 6 ∷ [])
-    go true os plain = void_or-owes d past 6 os (acts_of past c n os) (calm-all d past (acts_of past c n os) (plain-calm d n false c.keeps (next_number past) os plain))
-    go false os plain = (tt, tt)
-
-crash-owes : (d : DocumentData) (past : List Act) (n : NodeId) → OweAll d past (crash_row d past n)
-crash-owes d past n = go (node d past n).up
-  where
-    go : (up : Bool) → OweAll d past (if up then act.Down n None ∷ [] else act.Void 7 ∷ [])
-    go true = (tt, tt)
-    go false = (tt, tt)
+again-plain : (d : DocumentData) (past : List Act) (n : NodeId) (os : List Out) → IsAgain d past n os → IsTrue (are_plain d n false os)
+again-plain d past n os (retries t is) = rw is (retry-plain d n d.cluster t (stage (view d past n) t))
+again-plain d past n os (asks t is) = rw is (asks-plain d n (view d past n) t)
 
 -- ---- a restart
 
@@ -226,26 +173,22 @@ lose-owes d p n kept_p doubt (t ∷ ts) q same = lose-first d p q n kept_p doubt
 opened-owes : (d : DocumentData) (past : List Act) → DecisionsKept d past → (n : NodeId) (f : Flag) → OweAll d past (opened_row d past n f)
 opened-owes d past kept_now n f = (tt, lose-owes d (act.Up n f ∷ past) n (kept-step d past (act.Up n f) kept_now tt) (rw (here n) refl) (number_order (script_numbers d.scripts)) (act.Up n f ∷ past) (λ m. refl))
 
-restart-owes : (d : DocumentData) (past : List Act) → DecisionsKept d past → (c : Choice) (n : NodeId) → OweAll d past (restart_row d past c n)
-restart-owes d past kept_now c n = go (node d past n).up c.opens
-  where
-    go : (up opens : Bool) → OweAll d past (if up then act.Void 8 ∷ [] else (if opens then opened_row d past n (flag_of (node d past n).doubt c.finds) else act.StillDown n ∷ []))
-    go true opens = (tt, tt)
-    go false true = opened-owes d past kept_now n (flag_of (node d past n).doubt c.finds)
-    go false false = (tt, tt)
+restart-owes : (d : DocumentData) (past : List Act) → DecisionsKept d past → (n : NodeId) (f : Flag) (opens : Bool)
+    → OweAll d past (if opens then opened_row d past n f else act.StillDown n ∷ [])
+restart-owes d past kept_now n f true = opened-owes d past kept_now n f
+restart-owes d past kept_now n f false = (tt, tt)
 
 -- ---- the run
 
-row-owes : (d : DocumentData) (past : List Act) → DecisionsKept d past → (i : Item) (c : Choice) → OweAll d past (row d past i c)
-row-owes d past kept_now (item.Begin t) c = begin_row-owes d past c (story d past t) (script_of t d.scripts)
-row-owes d past kept_now (item.Deliver m) c = deliver-owes d past kept_now c m (sent_at m (sent past))
-row-owes d past kept_now (item.Drop m) c = drop-owes d past m (sent_at m (sent past))
-row-owes d past kept_now (item.Next k) c = next-owes d past kept_now c (next_left past)
-row-owes d past kept_now (item.Retry t) c = retry-owes d past c t (script_of t d.scripts)
-row-owes d past kept_now (item.Ask n t) c = ask-owes d past c n t
-row-owes d past kept_now (item.Crash n how) c = crash-owes d past n
-row-owes d past kept_now (item.Fuse n k how) c = (tt, tt)
-row-owes d past kept_now (item.Restart n) c = restart-owes d past kept_now c n
+shape-owes : (d : DocumentData) (past : List Act) → DecisionsKept d past → (i : Item) (c : Choice) (s : Shape d past i)
+    → OweAll d past (acts_by d past i c s)
+shape-owes d past kept_now i c (idle acts is) = calm-all d past acts (idle-pass is_calm (λ code. refl) (λ m. refl) (λ m. refl) acts is)
+shape-owes d past kept_now i c (arms n k how is) = (tt, tt)
+shape-owes d past kept_now i c (crashes n up) = (tt, tt)
+shape-owes d past kept_now i c (restarts n up) = restart-owes d past kept_now n (flag_of (node d past n).doubt c.finds) c.opens
+shape-owes d past kept_now i c (begins s is new up) = begin-owes d past s.home (view d past s.home) s (next_number past) c.keeps
+shape-owes d past kept_now i c (delivers m e is up) = (tt, given-owes d past e.to m (next_number past) c.keeps (answer e.to (view d past e.to) e.from e.message) (answer-given d past e.to e.from e.message (kept-own d past e.to kept_now)))
+shape-owes d past kept_now i c (again n os up is) = calm-all d past (acts_of past c n os) (plain-calm d n false c.keeps (next_number past) os (again-plain d past n os is))
 
 after-append : (past xs ys : List Act) → after past (xs ++ ys) ≡ after (after past xs) ys
 after-append past [] ys = refl
@@ -255,7 +198,7 @@ rows-keep : (d : DocumentData) (past : List Act) (es : List Item) (h : List Act)
 unfolding Rows
 rows-keep d past [] h kept_now is = rw is kept_now
 rows-keep d past (e ∷ es) h kept_now (c, rest, is, more) =
-    rw (is, after-append past (row d past e c) rest) (rows-keep d (after past (row d past e c)) es rest (kept-after d past (row d past e c) kept_now (row-owes d past kept_now e c)) more)
+    rw (is, after-append past (row d past e c) rest) (rows-keep d (after past (row d past e c)) es rest (kept-after d past (row d past e c) kept_now (by-shape d past e c (OweAll d past) (shape-owes d past kept_now e c))) more)
 
 start-calm : (opens : NodeId → Bool) (ns : List NodeId) → IsTrue (are_calm (map (start_act opens) ns))
 start-calm opens [] = refl
