@@ -1,19 +1,21 @@
 -- The bytes in which a document is read are its spelling.
-use Rattle.std.proofs.Common.{◌≡◌, ℕ, ◌+◌, ◌≤◌, ◌==◌, ◌&&◌, true, false, List, [], ◌∷◌, ◌++◌, length, None, Result, Ok, Err, IfOk, refl, sym, ap, ◌∙◌, subst, map, append_assoc, arith}
+use Rattle.std.proofs.Common.{◌≡◌, ℕ, ◌+◌, ◌≤◌, ◌==◌, ◌&&◌, nat_le, Bool, true, false, List, [], ◌∷◌, ◌++◌, length, None, Result, Ok, Err, IfOk, refl, sym, ap, ◌∙◌, subst, map, append_assoc, arith}
 use Rattle.std.specs.List.{list_all, flat_map, join_with_byte, slice_split}
 use Rattle.std.proofs.lemmas.Bool.Decides.{nat_tests}
 use Rattle.std.proofs.lemmas.Grind.{flat_map-append}
 use Rattle.std.proofs.lemmas.List.{append-nil}
 use Rattle.std.proofs.lemmas.List.Splits.{join_with_byte-slice_split}
-use Rattle.grid_model.specs.Documents.{DocumentData, IsDocument}
+use Rattle.score_base.specs.declared.ids.NodeId.{NodeId}
+use Rattle.script_lang.specs.Scripts.{ScriptData}
+use Rattle.grid_model.specs.Documents.{DocumentData, IsDocument, IsOne, is_body}
 use Rattle.cluster_file.specs.declared.drafts.Draft.{Draft}
 use Rattle.cluster_file.specs.declared.whys.Refusal.{Refusal}
 use Rattle.cluster_file.specs.Lines.{line_of}
 use Rattle.script_lang.specs.Words.{is_printed}
 use Rattle.cluster_file.specs.Doc.{◌>>>◌, at_line, is_whole, close, pieces_from, blank, document_of, doc}
-use Rattle.cluster_file.specs.Spelling.{IsInRange, IsBuilt, line, spelling, nodes_words, partition_lines, init_words, document_lines}
+use Rattle.cluster_file.specs.Spelling.{IsInRange, IsBuilt, is_node, is_script_in_range, line, spelling, nodes_words, partition_lines, init_words, document_lines}
 use Rattle.std.proofs.lemmas.Bool.{and_parts}
-use Rattle.script_lang.proofs.Readings.{either, weaken}
+use Rattle.script_lang.proofs.Readings.{at_ok, either, weaken}
 use Rattle.script_lang.proofs.ScriptRead.{empty_list}
 use Rattle.cluster_file.proofs.Steps.{numbered, below}
 use Rattle.cluster_file.proofs.SoFar.{IsStage, IsBegun}
@@ -88,10 +90,51 @@ whole_lines d w =
     let front = λ (l : List (List (List ℕ))). nodes_words d.nodes ∷ (partition_lines 0 d.places ++ (map init_words d.inits ++ (flat_map script_words d.scripts ++ l))) in
     ap (λ o. front (open_lines o ++ schedule_lines d.part d.items)) stage.0 ∙ ap (λ p. front (schedule_lines p d.items)) w.ended
 
+-- Each part of what was read is in the range of its type, so the document is all that the laws ask.
+
+all_pass : {A : Type 0} (p q : A → Bool) (xs : List A) → ((x : A) → p x ≡ true → q x ≡ true)
+    → list_all p xs ≡ true → list_all q xs ≡ true
+all_pass p q [] go h = refl
+all_pass p q (x ∷ xs) go h =
+    let parts = and_parts (p x) (list_all p xs) h in
+    rw (go x parts.0) (all_pass p q xs go parts.1)
+
+node_in : (n : NodeId) → is_node n ≡ true → nat_le 1 n ≡ true
+node_in n h = grind (arith, h)
+
+home_in : (s : ScriptData) → is_script_in_range s ≡ true → nat_le 1 s.home ≡ true
+home_in s h = grind (arith, h)
+
+body_in : (s : ScriptData) → is_script_in_range s ≡ true → is_body s.ops ≡ true
+body_in s h = grind (arith, h)
+
+one_of : (d : DocumentData) → IsDocument d → IsInRange d → IsOne d
+one_of d is ranges =
+    let places : list_all (list_all (λ n. nat_le 1 n)) d.cluster.places ≡ true =
+            all_pass (list_all is_node) (list_all (λ n. nat_le 1 n)) d.cluster.places
+                (λ ns h. all_pass is_node (λ n. nat_le 1 n) ns node_in h) ranges.places in
+    let homes : list_all (λ s. nat_le 1 s.home) d.scripts ≡ true =
+            all_pass is_script_in_range (λ s. nat_le 1 s.home) d.scripts home_in ranges.scripts in
+    record {
+      document = is;
+      bodies = all_pass is_script_in_range (λ s. is_body s.ops) d.scripts body_in ranges.scripts;
+      nodes = rw (places, homes) refl;
+    }
+
+ranges_of : (d : Draft) → IsInRangeSoFar d → IsInRange (document_of d)
+ranges_of d r = record { places = r.places; inits = r.inits; scripts = r.scripts; items = r.items }
+
+-- what is read of a text to its end is all that the laws ask of a document
+pub one-from_pieces : (xs : List (List ℕ)) (d : Draft) → pieces_from blank 1 xs ≡ Ok d → IsOne (document_of d)
+one-from_pieces xs d e =
+    let told = at_ok (pieces_from blank 1 xs) (λ e. (bytes_so_far e ≡ join_with_byte 10 xs) × IsInRangeSoFar e) d
+            (blank_pieces_told 1 xs) e in
+    one_of (document_of d) (IsDocument-from_pieces xs d e) (ranges_of d told.1)
+
 -- the bytes spell the document
 pub record IsSpelled (bytes : List ℕ) (d : DocumentData) : Type 0 where
   pub bytes_are : bytes ≡ spelling d
-  pub document : IsDocument d
+  pub one : IsOne d
   pub ranges : IsInRange d
   pub built : IsBuilt d
 
@@ -105,8 +148,8 @@ spelled bytes d h = by (pieces_from blank 1 (slice_split (λ b. b == 10) bytes))
         let found : document_of e ≡ d = cc in
         subst (IsSpelled bytes) found (record {
           bytes_are = sym (join_with_byte-slice_split 10 bytes) ∙ sym told.0 ∙ ap (flat_map line) (whole_lines e whole);
-          document = IsDocument-from_pieces (slice_split (λ b. b == 10) bytes) e read;
-          ranges = record { places = told.1.places; inits = told.1.inits; scripts = told.1.scripts; items = told.1.items };
+          one = one-from_pieces (slice_split (λ b. b == 10) bytes) e read;
+          ranges = ranges_of e told.1;
           built = record { items = told.1.built };
         })
     by (Err w) read told whole same = cc

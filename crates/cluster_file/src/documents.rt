@@ -1,5 +1,5 @@
 ghost use Rattle.std.specs.Prelude.{◌≡◌, [], map};
-ghost use Rattle.grid_model.specs.Documents.{IsDocument};
+ghost use Rattle.grid_model.specs.Documents.{IsOne};
 ghost use Rattle.cluster_file.specs.Lines.{line_of};
 ghost use Rattle.cluster_file.specs.Doc.{at_line, is_whole, close, pieces_from, blank, document_of, doc, GivesDoc};
 
@@ -70,7 +70,7 @@ fn read_pieces(alloc: Global, pieces: &[&[u8]]) -> Result<Draft, DocEnd>
 }
 
 fn document_of(draft: Draft) -> Document
-    requires { IsDocument (document_of draft) }
+    requires { IsOne (document_of draft) }
     ensures { result ≡ document_of draft }
 {
     Document {

@@ -11,7 +11,8 @@ pub type ScriptList = Members<Script>;
 
 /// A document: a cluster, at most 4,096 scripts of distinct numbers, whose homes are nodes of the
 /// cluster and which name, with the initial values, at most 4,096 distinct keys, and a schedule of at
-/// most 50,000 events, whose items name only scripts and nodes of the document.
+/// most 50,000 events, whose items name only scripts and nodes of the document. In contracts it is the
+/// record `DocumentData` of its parts, and all that the laws ask of a document holds of each.
 #[derive(Drop, Debug)]
 pub struct Document {
     pub cluster: Cluster,
@@ -20,22 +21,22 @@ pub struct Document {
 }
 
 impl Model for Document {
-    ghost use Rattle.grid_model.specs.Documents.{DocumentData, IsDocument};
+    ghost use Rattle.grid_model.specs.Documents.{DocumentData, IsOne};
 
     ghost Value = { DocumentData };
 
     ghost view = { λ d. record { cluster = d.cluster; scripts = d.scripts; items = d.items } };
 
-    ghost invariant = { λ d. IsDocument (record { cluster = d.cluster; scripts = d.scripts; items = d.items }) };
+    ghost invariant = { λ d. IsOne (record { cluster = d.cluster; scripts = d.scripts; items = d.items }) };
 }
 
 impl Document {
-    ghost use Rattle.grid_model.specs.Documents.{IsDocument};
+    ghost use Rattle.grid_model.specs.Documents.{IsOne};
 
     /// Its scripts, in the order of the document.
     pub fn scripts(&self) -> &[Script]
         ensures value { result.now ≡ self.now.scripts }
-        ensures document { IsDocument self.now }
+        ensures one { IsOne self.now }
     {
         self.scripts.as_slice()
     }
@@ -43,7 +44,7 @@ impl Document {
     /// Its schedule.
     pub fn items(&self) -> &[Item]
         ensures value { result.now ≡ self.now.items }
-        ensures document { IsDocument self.now }
+        ensures one { IsOne self.now }
     {
         self.items.as_slice()
     }
@@ -51,7 +52,7 @@ impl Document {
     /// Its cluster.
     pub fn cluster(&self) -> &Cluster
         ensures value { result.now ≡ self.now.cluster }
-        ensures document { IsDocument self.now }
+        ensures one { IsOne self.now }
     {
         &self.cluster
     }

@@ -13,7 +13,7 @@ use Rattle.cluster_file.specs.Spelling.{is_built_item}
 use Rattle.cluster_file.proofs.Bools.{and_parts}
 use Rattle.cluster_file.proofs.OneSpelling.{IsSpelled, spelled}
 use Rattle.schedule_replay.specs.Replays.{is_unfused, AreUnfused}
-use Rattle.score_cli.proofs.Headlines.{headline, read-one}
+use Rattle.score_cli.proofs.Headlines.{headline}
 use Rattle.score_cli.specs.Answers.{Ran, Done, Broken, IsRunText, IsTextOf}
 
 -- an item that is read sets no fuse
@@ -39,7 +39,7 @@ pub text_of_run : (bytes written : List ℕ) (d : DocumentData) → doc bytes �
 text_of_run bytes written d read run =
     let s : IsSpelled bytes d = spelled bytes d read in
     let r : IsRunText d written = run (built_are_unfused d.items s.built.items) in
-    record { document = d; spelled = read; acts = r.acts; headline = headline d r.acts (read-one d s.document s.ranges) r.lawful; printed = r.printed }
+    record { document = d; spelled = read; acts = r.acts; headline = headline d r.acts s.one r.lawful; printed = r.printed }
 
 ran : (lo ln : Option (List ℕ)) (bytes seen written : List ℕ) → ReadWhole lo ln bytes → length bytes ≤ 4194304 → seen ≡ bytes → IsTextOf seen written → Ran lo ln
 ran lo ln bytes seen written read short same t = record {

@@ -6,7 +6,7 @@ pub returns-clause-writes : goal.returns-clause-writes
 returns-clause-writes c = λ bytes d h. (spelled bytes d h).bytes_are
 
 pub returns-clause-fits : goal.returns-clause-fits
-returns-clause-fits c = λ bytes d h. ((spelled bytes d h).document, (spelled bytes d h).ranges, (spelled bytes d h).built)
+returns-clause-fits c = λ bytes d h. ((spelled bytes d h).one, (spelled bytes d h).ranges, (spelled bytes d h).built)
 
 pub returns-clause-reads : goal.returns-clause-reads
 returns-clause-reads c = read_again

@@ -17,7 +17,7 @@ loop-item-init c =
     let acts : c.in_ok-run.run'.acts ≡ start_row c.args.doc.now.cluster.nodes (λ n. true) = ap (λ r. r.acts) c.in_ok-run.ensures ∙ ap (λ r. r.acts ++ c.in_ok-start.start.items) c.in_ok-new.ensures ∙ c.in_ok-start.ensures ∙ ap (λ x. start_row x.nodes (λ n. true)) c.cluster.ensures.value in
     record {
       same = ap (λ r. r.doc) c.in_ok-run.ensures ∙ ap (λ r. r.doc) c.in_ok-new.ensures;
-      left = rw (acts, c.items-item-items.ensures.value) (room-start c.args.doc.now (sum_by events_of c.args.doc.now.items) c.items-item-items.ensures.document.events);
+      left = rw (acts, c.items-item-items.ensures.value) (room-start c.args.doc.now (sum_by events_of c.args.doc.now.items) c.items-item-items.ensures.one.document.events);
       told = rw (acts, c.items-item-items.ensures.value) refl;
     }
 
