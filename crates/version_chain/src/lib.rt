@@ -5,32 +5,35 @@
 //! record of its initial value, its versions in rising order, and `spare`, the number of versions
 //! for which there is room. A read at an identifier sees the greatest version at or below it.
 //!
+//! A read halves what is left: in a chain of n versions it compares p identifiers, where 2^p is at
+//! most 2n + 1. A put goes at the end and moves no version.
+//!
 //! Only `reserve` takes memory.
 #![tactic(auto)]
 
-ghost use Rattle.std.specs.Prelude.{◌≡◌, ◌+◌, ◌<◌, ◌≤◌, ◌++◌, ◌∷◌, [], OnOk};
+ghost use Rattle.std.specs.Prelude.{◌≡◌, ◌+◌, ◌-◌, ◌*◌, ◌<◌, ◌≤◌, ◌^◌, ◌++◌, ◌∷◌, [], length, OnOk};
 ghost use Rattle.version_chain.specs.Versions.{newest, version_at, RisesFrom};
 
-use score_base::{Ident, Memory, Value};
+use score_base::{Ident, Memory, Ordered, Steps, Value};
 use std::alloc::Global;
-use std::marker::Model;
+use std::marker::{Brand, Model};
+use std::sync::ledger::{Blank, Ledger};
 
 /// The versions of one key, the newest last.
-#[derive(Drop, Debug)]
+#[derive(Drop)]
 pub struct Chain {
     initial: Value,
-    versions: Vec<(Ident, Value)>,
+    versions: Ordered<Ident, Value>,
 }
 
 impl Model for Chain {
-    ghost use Rattle.std.specs.Prelude.{◌-◌, vec_len, vec_capacity};
     ghost use Rattle.version_chain.specs.Versions.{Versions, RisesFrom};
 
     ghost Value = { Versions };
 
-    ghost view = { λ c. record { initial = c.initial; versions = c.versions.items; spare = vec_capacity c.versions - vec_len c.versions } };
+    ghost view = { λ c. record { initial = c.initial; versions = c.versions.pairs; spare = c.versions.spare } };
 
-    ghost invariant = { λ c. RisesFrom 0 c.versions.items };
+    ghost invariant = { λ c. RisesFrom 0 c.versions.pairs };
 }
 
 impl Chain {
@@ -41,7 +44,7 @@ impl Chain {
     {
         Chain {
             initial,
-            versions: Vec::new(alloc),
+            versions: Ordered::new(alloc),
         }
     }
 
@@ -53,8 +56,7 @@ impl Chain {
         ensures initial { self.new.initial ≡ self.old.initial }
         ensures versions { self.new.versions ≡ self.old.versions }
     {
-        self.versions.reserve(n)?;
-        Ok(())
+        self.versions.reserve(n)
     }
 
     /// Puts a version that is newer than all others.
@@ -65,21 +67,28 @@ impl Chain {
         ensures initial { self.new.initial ≡ self.old.initial }
         ensures spare { self.old.spare ≤ self.new.spare + 1 }
     {
-        self.versions.push_reserved((vn, value));
+        self.versions.insert(self.versions.len(), vn, value);
     }
 
     /// The version that a read at `sid` sees: the greatest at or below it.
     pub fn at(&self, sid: Ident) -> (Ident, Value)
         ensures { result ≡ version_at self.now.initial self.now.versions sid }
     {
-        let mut seen = (Ident(0), self.initial);
-        for version in &self.versions {
-            if version.0 > sid {
-                break;
-            }
-            seen = *version;
+        at_alone::<Brand>(self, sid, Blank::new(1))
+    }
+
+    /// As [`Chain::at`], and counts its comparisons.
+    pub fn at_counted<L: Ledger>(&self, sid: Ident, steps: &mut Steps<L>) -> (Ident, Value)
+        requires { steps.old < 2 ^ 62 }
+        ensures version { result ≡ version_at self.now.initial self.now.versions sid }
+        ensures count { steps.old ≤ steps.new }
+        ensures cost { 2 ^ (steps.new - steps.old) ≤ 2 * length self.now.versions + 1 }
+    {
+        match self.versions.find(&sid, steps) {
+            Ok(i) => self.versions.pair(i),
+            Err(0) => (Ident(0), self.initial),
+            Err(i) => self.versions.pair(i - 1),
         }
-        seen
     }
 
     /// The identifier of the newest version, or 0 where there is none but the initial value.
@@ -87,31 +96,22 @@ impl Chain {
         ensures newest { result ≡ newest self.now.versions }
         ensures rising { RisesFrom 0 self.now.versions }
     {
-        match self.versions.last() {
-            Some(version) => version.0,
-            None => Ident(0),
+        match self.versions.len() {
+            0 => Ident(0),
+            n => self.versions.pair(n - 1).0,
         }
     }
 }
 
-#[cfg(test)]
-mod tests {
-    use super::*;
-
-    // A key with the initial value 10, then the value 3 from 2 on, and the value 7 from 5 on.
-    #[test]
-    fn reads_between_versions(rt: HostRuntime) {
-        let mut chain = Chain::new(rt.alloc(), Value(10));
-        assert_eq!(rt; chain.newest(), Ident(0));
-        assert_eq!(rt; chain.at(Ident(9)), (Ident(0), Value(10)));
-        assert!(rt; chain.reserve(2).is_ok());
-        chain.put(Ident(2), Value(3));
-        chain.put(Ident(5), Value(7));
-        assert_eq!(rt; chain.newest(), Ident(5));
-        assert_eq!(rt; chain.at(Ident(0)), (Ident(0), Value(10)));
-        assert_eq!(rt; chain.at(Ident(1)), (Ident(0), Value(10)));
-        assert_eq!(rt; chain.at(Ident(2)), (Ident(2), Value(3)));
-        assert_eq!(rt; chain.at(Ident(4)), (Ident(2), Value(3)));
-        assert_eq!(rt; chain.at(Ident(5)), (Ident(5), Value(7)));
-    }
+/// The version that a read sees, by a counter of its own.
+fn at_alone<L: Ledger>(chain: &Chain, sid: Ident, blank: Blank) -> (Ident, Value)
+    requires { (blank.name ≡ L.name) × (blank.parts ≡ L.parts) × (0 < L.parts) }
+    ensures { result ≡ version_at chain.now.initial chain.now.versions sid }
+{
+    let (book, share) = blank.open::<L>();
+    let mut steps = Steps::new(book, share);
+    chain.at_counted(sid, &mut steps)
 }
+
+#[cfg(test)]
+mod tests;
