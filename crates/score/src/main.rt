@@ -1,21 +1,36 @@
-// The program: the real words, input and output. Its exit status is the code of the top call.
+//! The program: the real words, input and output. Its exit status is the code of the top call.
 #![tactic(auto)]
 
+use score_base::Memory;
 use score_cli::score;
 use score_io::{StdSink, StdSource};
 use std::env;
+use std::io::ErrorKind;
 use std::process::ExitCode;
 
-fn main(rt: HostRuntime) -> ExitCode {
-    let Ok(args) = env::args(&rt) else {
-        return ExitCode::from(6);
-    };
+/// The words behind the program's name. Where one of them is not UTF-8 there are none, and no words are
+/// no command.
+fn words(rt: &HostRuntime) -> Result<Vec<String>, Memory> {
     let mut words = Vec::new(rt.alloc());
-    for word in args.skip(1) {
-        if words.push(word).is_err() {
-            return ExitCode::from(6);
+    match env::args(rt) {
+        Ok(args) => {
+            for word in args.skip(1) {
+                words.push(word)?;
+            }
+        }
+        Err(e) => {
+            if e.kind() == ErrorKind::OutOfMemory {
+                return Err(Memory);
+            }
         }
     }
+    Ok(words)
+}
+
+fn main(rt: HostRuntime) -> ExitCode {
+    let Ok(words) = words(&rt) else {
+        return ExitCode::from(6);
+    };
     let mut source = StdSource::new(rt.stdin());
     let mut sink = StdSink::new(rt.stdout());
     let status = score(rt.alloc(), &words, &mut source, &mut sink);

@@ -1,3 +1,4 @@
+//! The lines that say why no text was written.
 ghost use Rattle.std.specs.Prelude.{◌≡◌, ◌≤◌, IfOk, codes};
 ghost use Rattle.score_base.specs.Faults.{Rose};
 ghost use Rattle.score_cli.specs.Answers.{Wrote, refused_line};

@@ -1,3 +1,4 @@
+//! How a command ends: its code, and what it wrote.
 ghost use Rattle.std.specs.Prelude.{◌≡◌, ◌⊎◌, ◌↔◌, ℕ, List, Some, true, false, map, codes, IfOk, IfErr, string_bytes};
 ghost use Rattle.std.specs.Io.KnownBytes.{Keeps};
 ghost use Rattle.score_base.specs.Faults.{Rose};
@@ -125,8 +126,11 @@ fn respond<S: Source, K: Sink>(
 ///
 /// The code is 2 exactly where the words are no command; 3 where the input, read whole, is no document
 /// or more than 4,194,304 bytes came; 4 only where the count of faults of `input` rose, and 5 only where
-/// that of `out` rose; 6 for want of memory; and 0 where the text of the document's lawful run was
-/// written whole. Clauses on bytes speak where `input` and `out` tell them.
+/// that of `out` rose; 6 for want of memory; and 0 where the text of acts was written whole of which the
+/// headline holds (`Headline` of `specs/`): they are a lawful run of the document in which no disk failed,
+/// committed updates and finished read-only transactions were shown what one serial copy gives, what a
+/// client was told is kept, each abort has its shown cause, and only the home of a transaction and the
+/// holders of its keys send and get its messages. Clauses on bytes speak where `input` and `out` tell them.
 pub fn score<S: Source, K: Sink>(
     alloc: Global,
     words: &Vec<String>,

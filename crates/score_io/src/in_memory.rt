@@ -1,3 +1,4 @@
+//! Sources and sinks in memory: which bytes come and go, and which of their calls fail.
 ghost use Rattle.std.specs.Prelude.{◌≡◌, ◌<◌, ◌↔◌, [], ℕ, Some, Contains, IfOk, IsTrue, OnErr, IsErr, length, take};
 ghost use Rattle.std.specs.Io.{ReadsAtMost, WritesAtMost};
 ghost use Rattle.std.specs.Io.KnownBytes.{ReadConsumes, WriteAppends};

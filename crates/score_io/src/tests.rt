@@ -1,3 +1,5 @@
+//! Whole reads and writes over memory: what comes, what is held, and which calls fail.
+
 use super::*;
 use std::test::Fail;
 

@@ -1,12 +1,13 @@
-ghost use Rattle.std.specs.Prelude.{◌≡◌, ◌<◌, ℕ, List, Option, IfOk, is_some, length};
+//! What a source and a sink of bytes promise, whatever stands behind them.
+ghost use Rattle.std.specs.Prelude.{◌≡◌, ◌<◌, ℕ, List, Option, IfOk, IsSome, length};
 ghost use Rattle.std.specs.Io.{ReadsAtMost, WritesAtMost};
 ghost use Rattle.std.specs.Io.KnownBytes.{ReadConsumes, WriteAppends};
 ghost use Rattle.score_base.specs.Faults.{HasCause};
 
 use score_base::Failed;
 
-/// A source of bytes that counts its faults. The count never falls. Whether a source tells its bytes
-/// never changes.
+/// A source of bytes that counts its faults. The count never falls. A source that tells its bytes goes
+/// on telling them.
 pub trait Source: Drop {
     /// The bytes left, where the source tells them.
     ghost left: { Self → Option (List ℕ) };
@@ -20,12 +21,12 @@ pub trait Source: Drop {
     fn read(&mut self, buf: &mut [u8]) -> Result<usize, Failed>
         ensures bound { ReadsAtMost result buf.new }
         ensures bytes { ReadConsumes (left self.old) (left self.new) result buf.new }
-        ensures tells { is_some (left self.new) ≡ is_some (left self.old) }
+        ensures tells { IsSome (left self.old) → IsSome (left self.new) }
         ensures cause { HasCause (faults self.old) (faults self.new) result };
 }
 
-/// A sink of bytes that counts its faults. The count never falls. Whether a sink tells its bytes
-/// never changes.
+/// A sink of bytes that counts its faults. The count never falls. A sink that tells its bytes goes on
+/// telling them.
 pub trait Sink: Drop {
     /// The bytes held, where the sink tells them.
     ghost held: { Self → Option (List ℕ) };
@@ -39,6 +40,6 @@ pub trait Sink: Drop {
         ensures bound { WritesAtMost result bytes.now }
         ensures some { IfOk result (λ n. 0 < length bytes.now → 0 < n) }
         ensures bytes { WriteAppends (held self.old) (held self.new) result bytes.now }
-        ensures tells { is_some (held self.new) ≡ is_some (held self.old) }
+        ensures tells { IsSome (held self.old) → IsSome (held self.new) }
         ensures cause { HasCause (faults self.old) (faults self.new) result };
 }

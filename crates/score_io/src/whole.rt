@@ -1,4 +1,5 @@
-ghost use Rattle.std.specs.Prelude.{◌≡◌, ◌+◌, ◌<◌, ◌≤◌, ℕ, List, [], Option, Some, length, is_some, IfOk, OnOk, OnErr, IsErrOf};
+//! What a whole read gives and a whole write appends, and what each leaves where it ends early.
+ghost use Rattle.std.specs.Prelude.{◌≡◌, ◌+◌, ◌<◌, ◌≤◌, ℕ, List, [], Option, Some, length, IsSome, IfOk, OnOk, OnErr, IsErrOf};
 ghost use Rattle.std.specs.Io.KnownBytes.{IsAtEnd, Appends};
 ghost use Rattle.score_base.specs.Faults.{Rose};
 ghost use Rattle.score_io.specs.Streams.{ReadWhole, Lost, LostAtMost, Gained, AppendsPart};
@@ -35,7 +36,7 @@ fn read_piece<S: Source>(source: &mut S, bytes: &mut Vec<u8>, most: usize) -> Re
     ensures fault { IsErrOf result ReadEnd.ReadFault → Rose (S.faults source.old) (S.faults source.new) }
     ensures fault_lost { IsErrOf result ReadEnd.ReadFault → LostAtMost (S.left source.old) (S.left source.new) 0 }
     ensures lost { OnErr result (LostAtMost (S.left source.old) (S.left source.new) most) }
-    ensures tells { is_some (S.left source.new) ≡ is_some (S.left source.old) }
+    ensures tells { IsSome (S.left source.old) → IsSome (S.left source.new) }
     ensures later { S.faults source.old ≤ S.faults source.new }
 {
     let mut buf = [0u8; PIECE];
@@ -58,7 +59,7 @@ pub fn read_all<S: Source>(alloc: Global, source: &mut S, max: usize) -> Result<
     ensures fault { IsErrOf result ReadEnd.ReadFault → Rose (S.faults source.old) (S.faults source.new) }
     ensures fault_lost { IsErrOf result ReadEnd.ReadFault → LostAtMost (S.left source.old) (S.left source.new) max }
     ensures lost { OnErr result (LostAtMost (S.left source.old) (S.left source.new) (max + 1)) }
-    ensures tells { is_some (S.left source.new) ≡ is_some (S.left source.old) }
+    ensures tells { IsSome (S.left source.old) → IsSome (S.left source.new) }
     ensures later { S.faults source.old ≤ S.faults source.new }
 {
     let mut bytes = Vec::new(alloc);
@@ -82,7 +83,7 @@ pub fn write_all<K: Sink>(sink: &mut K, bytes: &[u8]) -> Result<(), WriteFault>
     ensures all { OnOk result (Appends (K.held sink.old) (K.held sink.new) bytes.now) }
     ensures part { OnErr result (AppendsPart (K.held sink.old) (K.held sink.new) bytes.now) }
     ensures fault { OnErr result (Rose (K.faults sink.old) (K.faults sink.new)) }
-    ensures tells { is_some (K.held sink.new) ≡ is_some (K.held sink.old) }
+    ensures tells { IsSome (K.held sink.old) → IsSome (K.held sink.new) }
     ensures later { K.faults sink.old ≤ K.faults sink.new }
 {
     let mut at = 0;

@@ -1,4 +1,4 @@
-use Rattle.std.proofs.Common.{◌≡◌, ◌≤◌, ◌-◌, length, take, is_some}
+use Rattle.std.proofs.Common.{◌≤◌, ◌-◌, length, take, IsSome}
 use Rattle.std.specs.Io.KnownBytes.{Appends}
 use Rattle.score_io.proofs.whole.write_all.Given as goal
 
@@ -7,7 +7,7 @@ invariant-loop-at g l = record {
   within : l.at ≤ length l.bytes;
   sent : Appends (g.K.Sink.held l.fn.sink) (g.K.Sink.held l.sink) (take l.at l.bytes);
   later : g.K.Sink.faults l.fn.sink ≤ g.K.Sink.faults l.sink;
-  tells : is_some (g.K.Sink.held l.sink) ≡ is_some (g.K.Sink.held l.fn.sink);
+  tells : IsSome (g.K.Sink.held l.fn.sink) → IsSome (g.K.Sink.held l.sink);
 }
 
 abbrev pub decreases-loop-at : goal.decreases-loop-at
