@@ -19,7 +19,7 @@ use std::sync::ledger::Ledger;
 
 /// Pairs of a key and a value, in rising order of distinct keys. Contracts see the list of the pairs
 /// and `spare`, the number of pairs for which there is room.
-#[derive(Drop)]
+#[derive(Drop, Debug)]
 pub struct Ordered<K: Copy + Ord, V: Copy> {
     items: Vec<(K, V)>,
 }

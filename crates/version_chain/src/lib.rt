@@ -20,7 +20,7 @@ use std::marker::{Brand, Model};
 use std::sync::ledger::{Blank, Ledger};
 
 /// The versions of one key, the newest last.
-#[derive(Drop)]
+#[derive(Drop, Debug)]
 pub struct Chain {
     initial: Value,
     versions: Ordered<Ident, Value>,
