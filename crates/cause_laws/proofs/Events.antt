@@ -16,7 +16,7 @@ use Rattle.grid_model.specs.Rows.{answer, ask_outs, begin_outs, retry_row}
 use Rattle.grid_model.specs.Runs.{IsRun, Rows}
 use Rattle.grid_model.specs.Schedules.{Choice, acts_of, begin_row, deliver_row, drop_row, events_in, flag_of, kept, next_left, next_number, next_row, numbered, opened_row, or_void, retry_at, row, start_row}
 use Rattle.grid_model.specs.Stories.{story, told}
-use Rattle.grid_model.specs.Views.{stage, view}
+use Rattle.grid_model.specs.Views.{stage, view, participant}
 use Rattle.grid_model.specs.declared.acts.Act.TheVariants as act
 use Rattle.grid_model.specs.declared.acts.Act.{Act}
 use Rattle.grid_model.specs.declared.acts.Flag.{Flag}
@@ -43,7 +43,7 @@ is_idle a = false
 -- what a home sends again, or what a node asks
 pub data IsAgain (d : DocumentData) (past : List Act) (n : NodeId) (os : List Out) : Type 0 where
   retries : (t : TxId) → os ≡ retry_row d.cluster t (stage (view d past n) t) → IsAgain d past n os
-  asks : (t : TxId) → os ≡ ask_outs (view d past n) t → IsAgain d past n os
+  asks : (t : TxId) → os ≡ ask_outs (participant (view d past n)) t → IsAgain d past n os
 
 -- these acts are those of an event behind this past
 pub data IsEvent (d : DocumentData) (past acts : List Act) : Type 0 where
@@ -51,13 +51,13 @@ pub data IsEvent (d : DocumentData) (past acts : List Act) : Type 0 where
   fails : (n : NodeId) → (node d past n).up ≡ false → acts ≡ act.StillDown n ∷ [] → IsEvent d past acts
   opens : (n : NodeId) (f : Flag) → (node d past n).up ≡ false → acts ≡ opened_row d past n f → IsEvent d past acts
   crashes : (n : NodeId) → (node d past n).up ≡ true → acts ≡ act.Down n None ∷ [] → IsEvent d past acts
-  begins : (s : ScriptData) (b : Bool) → script_of s.number d.scripts ≡ Some s → story d past s.number ≡ None → (node d past s.home).up ≡ true → acts ≡ numbered (next_number past) s.home (kept b s.home (begin_outs s.home (view d past s.home) s)) → IsEvent d past acts
+  begins : (s : ScriptData) (b : Bool) → script_of s.number d.scripts ≡ Some s → story d past s.number ≡ None → (node d past s.home).up ≡ true → acts ≡ numbered (next_number past) s.home (kept b s.home (begin_outs s.home (participant (view d past s.home)) s)) → IsEvent d past acts
   delivers : (m : ℕ) (e : Envelope) (b : Bool) → sent_at m (sent past) ≡ Some e → (node d past e.to).up ≡ true → acts ≡ act.Got m ∷ numbered (next_number past) e.to (kept b e.to (answer e.to (view d past e.to) e.from e.message)) → IsEvent d past acts
   again : (n : NodeId) (b : Bool) (os : List Out) → (node d past n).up ≡ true → IsAgain d past n os → acts ≡ numbered (next_number past) n (kept b n os) → IsEvent d past acts
 
 -- ---- each row is an event
 
-event-begin_at : (d : DocumentData) (past : List Act) (c : Choice) (s : ScriptData) (b : Bool) → script_of s.number d.scripts ≡ Some s → story d past s.number ≡ None → (node d past s.home).up ≡ b → IsEvent d past (if b then acts_of past c s.home (begin_outs s.home (view d past s.home) s) else act.Void 2 ∷ [])
+event-begin_at : (d : DocumentData) (past : List Act) (c : Choice) (s : ScriptData) (b : Bool) → script_of s.number d.scripts ≡ Some s → story d past s.number ≡ None → (node d past s.home).up ≡ b → IsEvent d past (if b then acts_of past c s.home (begin_outs s.home (participant (view d past s.home)) s) else act.Void 2 ∷ [])
 event-begin_at d past c s true is new up = begins s c.keeps is new up refl
 event-begin_at d past c s false is new up = idle refl
 
@@ -101,8 +101,8 @@ event-retry_at d past c t (Some s) = go (node d past s.home).up refl
     go true up = event-or_void d past c s.home 5 os up (retries t refl)
     go false up = idle refl
 
-event-ask_row : (d : DocumentData) (past : List Act) (c : Choice) (n : NodeId) (t : TxId) (b : Bool) → (node d past n).up ≡ b → IsEvent d past (if b then or_void 6 (ask_outs (view d past n) t) (acts_of past c n (ask_outs (view d past n) t)) else act.Void 6 ∷ [])
-event-ask_row d past c n t true up = event-or_void d past c n 6 (ask_outs (view d past n) t) up (asks t refl)
+event-ask_row : (d : DocumentData) (past : List Act) (c : Choice) (n : NodeId) (t : TxId) (b : Bool) → (node d past n).up ≡ b → IsEvent d past (if b then or_void 6 (ask_outs (participant (view d past n)) t) (acts_of past c n (ask_outs (participant (view d past n)) t)) else act.Void 6 ∷ [])
+event-ask_row d past c n t true up = event-or_void d past c n 6 (ask_outs (participant (view d past n)) t) up (asks t refl)
 event-ask_row d past c n t false up = idle refl
 
 event-crash_row : (d : DocumentData) (past : List Act) (n : NodeId) (b : Bool) → (node d past n).up ≡ b → IsEvent d past (if b then act.Down n None ∷ [] else act.Void 7 ∷ [])

@@ -16,7 +16,7 @@ use Rattle.journal_words.specs.Journals.{commit_id, floor, is_clear}
 use Rattle.grid_model.specs.Nodes.{Node, Starts, Stays, changed, found, got, is_kept, journal, node, where_at}
 use Rattle.grid_model.specs.Rows.{answer, begin_outs, begun_at, ceiling_of, dated, version_for}
 use Rattle.grid_model.specs.Schedules.{kept, losses, next_number, numbered, opened_row}
-use Rattle.grid_model.specs.Views.{View, view}
+use Rattle.grid_model.specs.Views.{View, view, participant}
 use Rattle.grid_model.specs.declared.acts.Act.TheVariants as act
 use Rattle.grid_model.specs.declared.acts.Act.{Act}
 use Rattle.grid_model.specs.declared.acts.Flag.{Flag}
@@ -146,6 +146,6 @@ event-kept d past acts event h = go event.is
     go (fails n up e) = subst P (sym e) (failed-event d past n up h)
     go (opens n f up e) = subst P (sym e) (opened-event d past n f up h)
     go (crashes n up e) = subst P (sym e) (unheld-event d past (act.Down n None ∷ []) refl h)
-    go (begins s b is new up e) = subst P (sym e) (unheld-event d past (numbered (next_number past) s.home (kept b s.home (begin_outs s.home (view d past s.home) s))) (unheld-acts (next_number past) s.home b (begin_outs s.home (view d past s.home) s) (unheld-advance d.cluster (begun_at s (commit_id (journal d past s.home))) 0)) h)
+    go (begins s b is new up e) = subst P (sym e) (unheld-event d past (numbered (next_number past) s.home (kept b s.home (begin_outs s.home (participant (view d past s.home)) s))) (unheld-acts (next_number past) s.home b (begin_outs s.home (participant (view d past s.home)) s) (unheld-advance d.cluster (begun_at s (commit_id (journal d past s.home))) 0)) h)
     go (delivers m e b is up k) = subst P (sym k) (got-event d past m e b is (fit-first d past m e (numbered (next_number past) e.to (kept b e.to (answer e.to (view d past e.to) e.from e.message))) is (subst F k event.fit)) up h)
     go (again n b os up a e) = subst P (sym e) (unheld-event d past (numbered (next_number past) n (kept b n os)) (unheld-acts (next_number past) n b os (unheld-again d past n os a)) h)

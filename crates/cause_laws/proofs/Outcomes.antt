@@ -13,7 +13,7 @@ use Rattle.grid_model.specs.Nodes.{journal, node}
 use Rattle.grid_model.specs.Rows.{answer, begin_outs, begun_at}
 use Rattle.grid_model.specs.Runs.{IsRun}
 use Rattle.grid_model.specs.Schedules.{kept, next_number, numbered, opened_row}
-use Rattle.grid_model.specs.Views.{view}
+use Rattle.grid_model.specs.Views.{view, participant}
 use Rattle.grid_model.specs.declared.acts.Act.TheVariants as act
 use Rattle.grid_model.specs.declared.acts.Act.{Act}
 use Rattle.grid_model.specs.declared.acts.Flag.{Flag}
@@ -39,7 +39,7 @@ well-event d past acts one all (idle h) = well-idle d acts h
 well-event d past acts one all (fails n up e) = rw e refl
 well-event d past acts one all (opens n f up e) = rw e (losses-pass (is_well_act d) d (act.Up n f ∷ past) n (number_order (script_numbers d.scripts)) (λ t. refl))
 well-event d past acts one all (crashes n up e) = rw e refl
-well-event d past acts one all (begins s b is new up e) = rw e (well-outs d (next_number past) s.home b (begin_outs s.home (view d past s.home) s) (well-advance d s.home (begun_at s (commit_id (journal d past s.home))) 0))
+well-event d past acts one all (begins s b is new up e) = rw e (well-outs d (next_number past) s.home b (begin_outs s.home (participant (view d past s.home)) s) (well-advance d s.home (begun_at s (commit_id (journal d past s.home))) 0))
 well-event d past acts one all (delivers m e b is up k) = rw k (well-outs d (next_number past) e.to b (answer e.to (view d past e.to) e.from e.message) (well-answer d past e.to e.from e.message (sent-ends d past one all m e is)))
 well-event d past acts one all (again n b os up h e) = rw e (well-outs d (next_number past) n b os (well-again d past n os all h))
 
@@ -68,7 +68,7 @@ event-kind d past acts one all (idle h) = plain (middle-idle acts h)
 event-kind d past acts one all (fails n up e) = failed n up e
 event-kind d past acts one all (opens n f up e) = opened n f up e
 event-kind d past acts one all (crashes n up e) = plain (rw e refl)
-event-kind d past acts one all (begins s b is new up e) = plain (rw e (middle-outs d (next_number past) s.home b (begin_outs s.home (view d past s.home) s) (well-advance d s.home (begun_at s (commit_id (journal d past s.home))) 0)))
+event-kind d past acts one all (begins s b is new up e) = plain (rw e (middle-outs d (next_number past) s.home b (begin_outs s.home (participant (view d past s.home)) s) (well-advance d s.home (begun_at s (commit_id (journal d past s.home))) 0)))
 event-kind d past acts one all (delivers m e b is up k) = got_first m e b (numbered (next_number past) e.to (kept b e.to (answer e.to (view d past e.to) e.from e.message))) is up refl k (middle-outs d (next_number past) e.to b (answer e.to (view d past e.to) e.from e.message) (well-answer d past e.to e.from e.message (sent-ends d past one all m e is)))
 event-kind d past acts one all (again n b os up h e) = plain (rw e (middle-outs d (next_number past) n b os (well-again d past n os all h)))
 

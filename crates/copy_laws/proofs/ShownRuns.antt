@@ -27,7 +27,7 @@ use Rattle.journal_words.specs.Journals.{commit_id}
 use Rattle.grid_model.specs.Nodes.{node, journal, script_of}
 use Rattle.grid_model.specs.Stories.{begun, story, with_value}
 use Rattle.script_runs.specs.Waits.{waiting}
-use Rattle.grid_model.specs.Views.{view, stage, Stage, Open, Reads, Collects, Commits, Apart, open_of}
+use Rattle.grid_model.specs.Views.{view, stage, Stage, Open, Reads, Collects, Commits, Apart, open_of, participant}
 use Rattle.grid_model.specs.Advances.{advance}
 use Rattle.script_runs.specs.Walks.{own_reads, unread}
 use Rattle.grid_model.specs.Fitness.{is_fit_at}
@@ -111,7 +111,7 @@ shown-answer : (d : DocumentData) (past : List Act) (k m : ℕ) (n x : NodeId) (
 shown-answer d past k m n x b (message.ReadRep q) c quiet is due all =
     let now : List Act = act.Got k ∷ past in
     let same : stage (view d now n) q.t ≡ stage (view d past n) q.t = stage-quiet d past k x n (message.ReadRep q) q.t is refl in
-    let fit : Bool = is_fit_at n (view d past n) (stage (view d past n) q.t) x (message.ReadRep q) in
+    let fit : Bool = is_fit_at n (participant (view d past n)) (stage (view d past n) q.t) x (message.ReadRep q) in
     shown-if d now m n b fit fit (reply_row d.cluster q (stage (view d past n) q.t)) refl all (λ e. shown-reply d now m n b q (stage (view d past n) q.t) same due all)
 shown-answer d past k m n x b said true quiet is due all = cc
 shown-answer d past k m n x b said false quiet is due all = silent-all d (act.Got k ∷ past) (numbered m n (kept b n (answer n (view d past n) x said))) (silent-acts m n b (answer n (view d past n) x said) (silent-answer n (view d past n) x said quiet)) all
@@ -122,7 +122,7 @@ began-kept : (m : ℕ) (n : NodeId) (b : Bool) (t : TxId) (sid0 : Ident) (os : L
 began-kept m n true t sid0 os = refl
 began-kept m n false t sid0 os = refl
 
-shown-begin : (d : DocumentData) (past : List Act) (m : ℕ) (b : Bool) (s : ScriptData) → script_of s.number d.scripts ≡ Some s → story d past s.number ≡ None → AllShown d past → AllShown d (after past (numbered m s.home (kept b s.home (begin_outs s.home (view d past s.home) s))))
+shown-begin : (d : DocumentData) (past : List Act) (m : ℕ) (b : Bool) (s : ScriptData) → script_of s.number d.scripts ≡ Some s → story d past s.number ≡ None → AllShown d past → AllShown d (after past (numbered m s.home (kept b s.home (begin_outs s.home (participant (view d past s.home)) s))))
 shown-begin d past m b s is new all =
     let sid0 : Ident = commit_id (journal d past s.home) in
     let now : List Act = act.Began s.number s.home sid0 ∷ past in
@@ -134,7 +134,7 @@ shown-begin d past m b s is new all =
     subst T (sym (began-kept m s.home b s.number sid0 (advance d.cluster (open_of s (begun sid0)) 0)))
     (shown-advance d now m s.home b s (begun sid0) 0 is (story-began d past s.number s.home sid0) left (λ t w other e. other-began d past s.number t s.home sid0 w other (all t w e)))
 
-shown-begin_at : (d : DocumentData) (past : List Act) (c : Choice) (s : ScriptData) (b : Bool) → script_of s.number d.scripts ≡ Some s → story d past s.number ≡ None → AllShown d past → AllShown d (after past (if b then acts_of past c s.home (begin_outs s.home (view d past s.home) s) else act.Void 2 ∷ []))
+shown-begin_at : (d : DocumentData) (past : List Act) (c : Choice) (s : ScriptData) (b : Bool) → script_of s.number d.scripts ≡ Some s → story d past s.number ≡ None → AllShown d past → AllShown d (after past (if b then acts_of past c s.home (begin_outs s.home (participant (view d past s.home)) s) else act.Void 2 ∷ []))
 shown-begin_at d past c s true is new all = shown-begin d past (next_number past) c.keeps s is new all
 shown-begin_at d past c s false is new all = silent-all d past (act.Void 2 ∷ []) refl all
 
@@ -177,7 +177,7 @@ silent-retry_at d past c t (Some s) =
 
 silent-ask_row : (d : DocumentData) (past : List Act) (c : Choice) (n : NodeId) (t : TxId) → all_silent (ask_row d past c n t) ≡ true
 silent-ask_row d past c n t =
-    let os : List Out = ask_outs (view d past n) t in
+    let os : List Out = ask_outs (participant (view d past n)) t in
     silent-either (node d past n).up (or_void 6 os (acts_of past c n os)) (act.Void 6 ∷ []) (silent-void past 6 c n os (silent-asks (view d past n) t)) refl
 
 silent-opened_row : (d : DocumentData) (past : List Act) (n : NodeId) (f : Flag) → all_silent (opened_row d past n f) ≡ true

@@ -22,7 +22,7 @@ use Rattle.grid_model.specs.Histories.{after, sent, sent_at}
 use Rattle.journal_words.specs.Journals.{commit_id}
 use Rattle.grid_model.specs.Nodes.{node, journal, script_of}
 use Rattle.grid_model.specs.Stories.{begun, story, with_value}
-use Rattle.grid_model.specs.Views.{view, stage, Stage, Open, Reads, Collects, Commits, Apart, open_of}
+use Rattle.grid_model.specs.Views.{view, stage, Stage, Open, Reads, Collects, Commits, Apart, open_of, participant}
 use Rattle.grid_model.specs.Advances.{advance}
 use Rattle.grid_model.specs.Fitness.{is_fit_at}
 use Rattle.grid_model.specs.Rows.{answer, ask_outs, begin_outs, reply_row, retry_row}
@@ -76,7 +76,7 @@ told-answer : (d : DocumentData) (past : List Act) (k m : ℕ) (n x : NodeId) (b
 told-answer d past k m n x b (message.ReadRep q) c quiet is all =
     let now : List Act = act.Got k ∷ past in
     let same : stage (view d now n) q.t ≡ stage (view d past n) q.t = stage-quiet d past k x n (message.ReadRep q) q.t is refl in
-    told-if d now m n b (is_fit_at n (view d past n) (stage (view d past n) q.t) x (message.ReadRep q)) (reply_row d.cluster q (stage (view d past n) q.t)) all (told-reply d now m n b q (stage (view d past n) q.t) same all)
+    told-if d now m n b (is_fit_at n (participant (view d past n)) (stage (view d past n) q.t) x (message.ReadRep q)) (reply_row d.cluster q (stage (view d past n) q.t)) all (told-reply d now m n b q (stage (view d past n) q.t) same all)
 told-answer d past k m n x b said true quiet is all = cc
 told-answer d past k m n x b said false quiet is all = calm-all d (act.Got k ∷ past) (numbered m n (kept b n (answer n (view d past n) x said))) (calm-acts m n b (answer n (view d past n) x said) (calm-answer n (view d past n) x said quiet)) all
 
@@ -86,7 +86,7 @@ numbered-began : (m : ℕ) (n : NodeId) (b : Bool) (t : TxId) (sid0 : Ident) (os
 numbered-began m n true t sid0 os = refl
 numbered-began m n false t sid0 os = refl
 
-told-begin : (d : DocumentData) (past : List Act) (m : ℕ) (b : Bool) (s : ScriptData) → script_of s.number d.scripts ≡ Some s → AllTold d past → AllTold d (after past (numbered m s.home (kept b s.home (begin_outs s.home (view d past s.home) s))))
+told-begin : (d : DocumentData) (past : List Act) (m : ℕ) (b : Bool) (s : ScriptData) → script_of s.number d.scripts ≡ Some s → AllTold d past → AllTold d (after past (numbered m s.home (kept b s.home (begin_outs s.home (participant (view d past s.home)) s))))
 told-begin d past m b s is all =
     let sid0 : Ident = commit_id (journal d past s.home) in
     let now : List Act = act.Began s.number s.home sid0 ∷ past in
@@ -94,7 +94,7 @@ told-begin d past m b s is all =
     subst T (sym (numbered-began m s.home b s.number sid0 (advance d.cluster (open_of s (begun sid0)) 0)))
     (told-advance d now m s.home b s (begun sid0) 0 is (story-began d past s.number s.home sid0) (λ t w other e. other-told w d past (act.Void 0) s.number t s.home sid0 other (all t w e)))
 
-told-begin_at : (d : DocumentData) (past : List Act) (c : Choice) (s : ScriptData) (b : Bool) → script_of s.number d.scripts ≡ Some s → AllTold d past → AllTold d (after past (if b then acts_of past c s.home (begin_outs s.home (view d past s.home) s) else act.Void 2 ∷ []))
+told-begin_at : (d : DocumentData) (past : List Act) (c : Choice) (s : ScriptData) (b : Bool) → script_of s.number d.scripts ≡ Some s → AllTold d past → AllTold d (after past (if b then acts_of past c s.home (begin_outs s.home (participant (view d past s.home)) s) else act.Void 2 ∷ []))
 told-begin_at d past c s true is all = told-begin d past (next_number past) c.keeps s is all
 told-begin_at d past c s false is all = all
 
@@ -126,8 +126,8 @@ told-retry_at d past c t (Some s) all = go (node d past s.home).up
     go true = calm-all d past (or_void 5 os (acts_of past c s.home os)) (calm-void past 5 c s.home os (calm-retry d.cluster t (stage (view d past s.home) t))) all
     go false = all
 
-told-ask_row : (d : DocumentData) (past : List Act) (c : Choice) (n : NodeId) (t : TxId) (b : Bool) → AllTold d past → AllTold d (after past (if b then or_void 6 (ask_outs (view d past n) t) (acts_of past c n (ask_outs (view d past n) t)) else act.Void 6 ∷ []))
-told-ask_row d past c n t true all = calm-all d past (or_void 6 (ask_outs (view d past n) t) (acts_of past c n (ask_outs (view d past n) t))) (calm-void past 6 c n (ask_outs (view d past n) t) (calm-asks (view d past n) t)) all
+told-ask_row : (d : DocumentData) (past : List Act) (c : Choice) (n : NodeId) (t : TxId) (b : Bool) → AllTold d past → AllTold d (after past (if b then or_void 6 (ask_outs (participant (view d past n)) t) (acts_of past c n (ask_outs (participant (view d past n)) t)) else act.Void 6 ∷ []))
+told-ask_row d past c n t true all = calm-all d past (or_void 6 (ask_outs (participant (view d past n)) t) (acts_of past c n (ask_outs (participant (view d past n)) t))) (calm-void past 6 c n (ask_outs (participant (view d past n)) t) (calm-asks (view d past n) t)) all
 told-ask_row d past c n t false all = all
 
 told-crash_row : (d : DocumentData) (past : List Act) (n : NodeId) (b : Bool) → AllTold d past → AllTold d (after past (if b then act.Down n None ∷ [] else act.Void 7 ∷ []))

@@ -10,7 +10,7 @@ use Rattle.grid_model.specs.Schedules.{start_act, kept, broken, numbered, Choice
 use Rattle.grid_model.specs.declared.events.Out.{Out}
 use Rattle.grid_model.specs.declared.events.Out.TheVariants as out
 use Rattle.grid_model.specs.declared.messages.Message.{Message}
-use Rattle.grid_model.specs.Views.{Open, Stage, View}
+use Rattle.grid_model.specs.Views.{Open, Stage, View, participant}
 use Rattle.grid_model.specs.Advances.{advance_end}
 use Rattle.grid_model.specs.Rows.{answer, ask_outs, retry_row}
 use Rattle.grid_model.specs.declared.acts.Act.{Act}
@@ -74,8 +74,8 @@ calm-answer n v x said h = silent-calm (answer n v x said) (silent-answer n v x 
 pub calm-retry : (c : ClusterData) (t : TxId) (g : Stage) → calm_outs (retry_row c t g) ≡ true
 calm-retry c t g = silent-calm (retry_row c t g) (silent-retry c t g)
 
-pub calm-asks : (v : View) (t : TxId) → calm_outs (ask_outs v t) ≡ true
-calm-asks v t = silent-calm (ask_outs v t) (silent-asks v t)
+pub calm-asks : (v : View) (t : TxId) → calm_outs (ask_outs (participant v) t) ≡ true
+calm-asks v t = silent-calm (ask_outs (participant v) t) (silent-asks v t)
 
 -- what stands at the end of Advance
 pub calm-end : (c : ClusterData) (x : Open) (w : Option ℕ) → calm_outs (advance_end c x w) ≡ true

@@ -18,7 +18,7 @@ use Rattle.grid_model.specs.Documents.{DocumentData}
 use Rattle.grid_model.specs.Histories.{sent, sent_at}
 use Rattle.grid_model.specs.Nodes.{node, script_of, journal}
 use Rattle.grid_model.specs.Stories.{story}
-use Rattle.grid_model.specs.Views.{view, stage}
+use Rattle.grid_model.specs.Views.{view, stage, participant}
 use Rattle.grid_model.specs.Rows.{answer, begin_outs, retry_row, ask_outs}
 use Rattle.grid_model.specs.Schedules.{Choice, acts_of, begin_row, deliver_row, drop_row, next_left, next_number, next_row, opened_row, or_void, retry_at, row, start_act, start_row}
 use Rattle.grid_model.proofs.Undecided.{script-number}
@@ -43,8 +43,8 @@ due-void d past c n code (o ∷ os) due = due-outs d past c n (o ∷ os) due
 abbrev pub UnbegunUndecided : DocumentData → List Act → Type 0
 UnbegunUndecided d past = (t : TxId) (s : ScriptData) → script_of t d.scripts ≡ Some s → story d past t ≡ None → decision t (journal d past s.home) ≡ None
 
-due-begin_at : (d : DocumentData) (past : List Act) (c : Choice) (s : ScriptData) (b : Bool) → UnbegunUndecided d past → script_of s.number d.scripts ≡ Some s → story d past s.number ≡ None → (node d past s.home).up ≡ b → AreDue d past (if b then acts_of past c s.home (begin_outs s.home (view d past s.home) s) else act.Void 2 ∷ [])
-due-begin_at d past c s true none is new up = due-outs d past c s.home (begin_outs s.home (view d past s.home) s) (due-begin d past (next_number past) s is up new (none s.number s is new))
+due-begin_at : (d : DocumentData) (past : List Act) (c : Choice) (s : ScriptData) (b : Bool) → UnbegunUndecided d past → script_of s.number d.scripts ≡ Some s → story d past s.number ≡ None → (node d past s.home).up ≡ b → AreDue d past (if b then acts_of past c s.home (begin_outs s.home (participant (view d past s.home)) s) else act.Void 2 ∷ [])
+due-begin_at d past c s true none is new up = due-outs d past c s.home (begin_outs s.home (participant (view d past s.home)) s) (due-begin d past (next_number past) s is up new (none s.number s is new))
 due-begin_at d past c s false none is new up = (tt, tt)
 
 due-begin_row : (d : DocumentData) (past : List Act) (c : Choice) (t : TxId) (x : Option Story) (s : Option ScriptData) → UnbegunUndecided d past → story d past t ≡ x → script_of t d.scripts ≡ s → AreDue d past (begin_row d past c x s)
@@ -80,8 +80,8 @@ due-retry_at d past c t (Some s) answered = go (node d past s.home).up
     go true = due-void d past c s.home 5 (retry_row d.cluster t (stage (view d past s.home) t)) (due-retry d past s.home (next_number past) t (stage (view d past s.home) t) answered refl)
     go false = (tt, tt)
 
-due-ask_row : (d : DocumentData) (past : List Act) (c : Choice) (n : NodeId) (t : TxId) (b : Bool) → AreDue d past (if b then or_void 6 (ask_outs (view d past n) t) (acts_of past c n (ask_outs (view d past n) t)) else act.Void 6 ∷ [])
-due-ask_row d past c n t true = due-void d past c n 6 (ask_outs (view d past n) t) (due-ask d past n (next_number past) (view d past n) t refl)
+due-ask_row : (d : DocumentData) (past : List Act) (c : Choice) (n : NodeId) (t : TxId) (b : Bool) → AreDue d past (if b then or_void 6 (ask_outs (participant (view d past n)) t) (acts_of past c n (ask_outs (participant (view d past n)) t)) else act.Void 6 ∷ [])
+due-ask_row d past c n t true = due-void d past c n 6 (ask_outs (participant (view d past n)) t) (due-ask d past n (next_number past) (view d past n) t refl)
 due-ask_row d past c n t false = (tt, tt)
 
 due-crash_row : (d : DocumentData) (past : List Act) (n : NodeId) (b : Bool) → (node d past n).up ≡ b → AreDue d past (if b then act.Down n None ∷ [] else act.Void 7 ∷ [])

@@ -19,7 +19,7 @@ use Rattle.grid_model.specs.Documents.{DocumentData, events_of, number_order, sc
 use Rattle.grid_model.specs.Histories.{after, sent, sent_at}
 use Rattle.grid_model.specs.Nodes.{node, script_of}
 use Rattle.grid_model.specs.Stories.{story}
-use Rattle.grid_model.specs.Views.{stage, view}
+use Rattle.grid_model.specs.Views.{stage, view, participant}
 use Rattle.grid_model.specs.Rows.{answer, ask_outs, begin_outs, retry_row}
 use Rattle.grid_model.specs.Schedules.{Choice, acts_of, begin_row, deliver_row, drop_row, events_in, flag_of, lost_at, next_left, next_number, next_row, opened_row, or_void, retry_at, row, start_row}
 use Rattle.grid_model.specs.Runs.{Rows, IsRun}
@@ -47,7 +47,7 @@ one-begin_row : (d : DocumentData) (past : List Act) (c : Choice) (x : Option St
 one-begin_row d past c (Some x) s = omega arith
 one-begin_row d past c None None = omega arith
 one-begin_row d past c None (Some s) =
-    let os : List Out = begin_outs s.home (view d past s.home) s in
+    let os : List Out = begin_outs s.home (participant (view d past s.home)) s in
     one-either (node d past s.home).up (acts_of past c s.home os) (act.Void 2) (one-acts past c s.home os (from-none os (none-begin s.home (view d past s.home) s))) (omega arith)
 
 one-deliver_row : (d : DocumentData) (past : List Act) (c : Choice) (m : ℕ) (o : Option Envelope) → proposals (deliver_row d past c m o) ≤ 1
@@ -73,7 +73,7 @@ one-retry_at d past c t (Some s) =
 
 one-ask_row : (d : DocumentData) (past : List Act) (c : Choice) (n : NodeId) (t : TxId) → proposals (row d past (item.Ask n t) c) ≤ 1
 one-ask_row d past c n t =
-    let os : List Out = ask_outs (view d past n) t in
+    let os : List Out = ask_outs (participant (view d past n)) t in
     one-either (node d past n).up (or_void 6 os (acts_of past c n os)) (act.Void 6) (one-void past 6 c n os (from-none os (none-asks (view d past n) t))) (omega arith)
 
 proposals-append : (xs ys : List Act) → proposals (xs ++ ys) ≡ proposals xs + proposals ys

@@ -24,7 +24,7 @@ use Rattle.grid_model.specs.Histories.{after, sent, sent_at}
 use Rattle.journal_words.specs.Journals.{Decision, commit_id, decision, is_closed}
 use Rattle.grid_model.specs.Nodes.{Node, node, script_of, is_home}
 use Rattle.grid_model.specs.Stories.{story, phase, phase_by, is_open}
-use Rattle.grid_model.specs.Views.{View, Open, open_at, view, stage}
+use Rattle.grid_model.specs.Views.{View, Open, open_at, view, stage, participant}
 use Rattle.grid_model.specs.Advances.{advance}
 use Rattle.grid_model.specs.Rows.{answer, begin_outs, begun_at, retry_row, ask_outs}
 use Rattle.grid_model.specs.Schedules.{Choice, numbered, kept, broken, next_number, acts_of, begin_at, begin_row, deliver_row, drop_row, next_left, next_row, or_void, retry_at, ask_row, crash_row, flag_of, lost_at, opened_row, restart_row, row, start_act, start_row, events_in}
@@ -115,15 +115,15 @@ given-owes d past n m k keeps os given = elim given [
 void-owes : (d : DocumentData) (past : List Act) (code : ℕ) → OweAll d past (act.Void code ∷ [])
 void-owes d past code = (tt, tt)
 
-begin-owes : (d : DocumentData) (past : List Act) (n : NodeId) (v : View) (s : ScriptData) (k : ℕ) (keeps : Bool) → OweAll d past (numbered k n (kept keeps n (begin_outs n v s)))
-begin-owes d past n v s k true = calm-all d past (numbered k n (kept true n (begin_outs n v s))) (plain-kept d n false k (advance v.cluster (begun_at s (commit_id v.journal)) 0) (advance-plain d n false v.cluster (begun_at s (commit_id v.journal)) 0))
-begin-owes d past n v s k false = calm-all d past (numbered k n (kept false n (begin_outs n v s))) (plain-broken d n false k (advance v.cluster (begun_at s (commit_id v.journal)) 0) (advance-plain d n false v.cluster (begun_at s (commit_id v.journal)) 0))
+begin-owes : (d : DocumentData) (past : List Act) (n : NodeId) (v : View) (s : ScriptData) (k : ℕ) (keeps : Bool) → OweAll d past (numbered k n (kept keeps n (begin_outs n (participant v) s)))
+begin-owes d past n v s k true = calm-all d past (numbered k n (kept true n (begin_outs n (participant v) s))) (plain-kept d n false k (advance v.cluster (begun_at s (commit_id v.journal)) 0) (advance-plain d n false v.cluster (begun_at s (commit_id v.journal)) 0))
+begin-owes d past n v s k false = calm-all d past (numbered k n (kept false n (begin_outs n (participant v) s))) (plain-broken d n false k (advance v.cluster (begun_at s (commit_id v.journal)) 0) (advance-plain d n false v.cluster (begun_at s (commit_id v.journal)) 0))
 
 begun-owes : (d : DocumentData) (past : List Act) (c : Choice) (so : Option ScriptData) → OweAll d past (begin_at d past c so)
 begun-owes d past c None = tt
 begun-owes d past c (Some s) = go (node d past s.home).up
   where
-    go : (up : Bool) → OweAll d past (if up then acts_of past c s.home (begin_outs s.home (view d past s.home) s) else act.Void 2 ∷ [])
+    go : (up : Bool) → OweAll d past (if up then acts_of past c s.home (begin_outs s.home (participant (view d past s.home)) s) else act.Void 2 ∷ [])
     go true = begin-owes d past s.home (view d past s.home) s (next_number past) c.keeps
     go false = (tt, tt)
 
@@ -160,7 +160,7 @@ retry-owes d past c t (Some s) = go (node d past s.home).up (retry_row d.cluster
     go false os plain = (tt, tt)
 
 ask-owes : (d : DocumentData) (past : List Act) (c : Choice) (n : NodeId) (t : TxId) → OweAll d past (ask_row d past c n t)
-ask-owes d past c n t = go (node d past n).up (ask_outs (view d past n) t) (asks-plain d n (view d past n) t)
+ask-owes d past c n t = go (node d past n).up (ask_outs (participant (view d past n)) t) (asks-plain d n (view d past n) t)
   where
     go : (up : Bool) (os : List Out) → IsTrue (are_plain d n false os) → OweAll d past (if up then or_void 6 os (acts_of past c n os) else act.Void 6 ∷ [])
     go true os plain = void_or-owes d past 6 os (acts_of past c n os) (calm-all d past (acts_of past c n os) (plain-calm d n false c.keeps (next_number past) os plain))
