@@ -19,7 +19,7 @@ use Rattle.grid_model.specs.Rows.{answer, begin_outs, reply_row}
 use Rattle.grid_model.specs.Runs.{IsRun}
 use Rattle.grid_model.specs.Schedules.{kept, next_number, numbered, start_row}
 use Rattle.grid_model.specs.Stories.{begun, if_told, story, with_value}
-use Rattle.grid_model.specs.Views.{Apart, Collects, Commits, Open, Reads, Stage, open_of, stage, view}
+use Rattle.grid_model.specs.Views.{Apart, Collects, Commits, Open, Reads, Stage, open_of, stage, view, participant}
 use Rattle.grid_model.specs.declared.acts.Act.TheVariants as act
 use Rattle.grid_model.specs.declared.acts.Act.{Act}
 use Rattle.grid_model.specs.declared.events.Out.TheVariants as out
@@ -62,7 +62,7 @@ all-but d past now acts u is others calm mine s script = elim (cases_eq u.number
 
 -- ---- each event
 
-asked-begin : (d : DocumentData) (past acts : List Act) (u : ScriptData) (b : Bool) → IsOne d → script_of u.number d.scripts ≡ Some u → acts ≡ numbered (next_number past) u.home (kept b u.home (begin_outs u.home (view d past u.home) u)) → AllAsked d past → AllAsked d (after past acts)
+asked-begin : (d : DocumentData) (past acts : List Act) (u : ScriptData) (b : Bool) → IsOne d → script_of u.number d.scripts ≡ Some u → acts ≡ numbered (next_number past) u.home (kept b u.home (begin_outs u.home (participant (view d past u.home)) u)) → AllAsked d past → AllAsked d (after past acts)
 asked-begin d past acts u b one is k all =
     let sid0 : Ident = commit_id (journal d past u.home) in
     let now : List Act = act.Began u.number u.home sid0 ∷ past in
@@ -74,7 +74,7 @@ asked-begin d past acts u b one is k all =
     (advance-calm d.cluster (open_of u (begun sid0)) 0 b (next_number past) u.home)
     (self-asked d now (next_number past) u.home b u (begun sid0) 0 one (story-began d past u.number u.home sid0)))
   where
-    began : (b : Bool) → numbered (next_number past) u.home (kept b u.home (begin_outs u.home (view d past u.home) u)) ≡ act.Began u.number u.home (commit_id (journal d past u.home)) ∷ numbered (next_number past) u.home (kept b u.home (advance d.cluster (open_of u (begun (commit_id (journal d past u.home)))) 0))
+    began : (b : Bool) → numbered (next_number past) u.home (kept b u.home (begin_outs u.home (participant (view d past u.home)) u)) ≡ act.Began u.number u.home (commit_id (journal d past u.home)) ∷ numbered (next_number past) u.home (kept b u.home (advance d.cluster (open_of u (begun (commit_id (journal d past u.home)))) 0))
     began true = refl
     began false = refl
 
@@ -113,7 +113,7 @@ asked-answered d past acts k n x q b one is e all =
     let same : stage (view d now n) q.t ≡ stage (view d past n) q.t = stage-quiet d past k x n (message.ReadRep q) q.t is refl in
     let here : AllAsked d now = (λ s script. calm-asked d past (act.Got k ∷ []) s refl (all s script)) in
     let P : List Act → Type 0 = λ z. AllAsked d (after past z) in
-    subst P (sym e) (asked-if d now (next_number past) n b (is_fit_at n (view d past n) (stage (view d past n) q.t) x (message.ReadRep q)) (reply_row d.cluster q (stage (view d past n) q.t)) here (λ fit. asked-reply d now (next_number past) n b q (stage (view d past n) q.t) one same here))
+    subst P (sym e) (asked-if d now (next_number past) n b (is_fit_at n (participant (view d past n)) (stage (view d past n) q.t) x (message.ReadRep q)) (reply_row d.cluster q (stage (view d past n) q.t)) here (λ fit. asked-reply d now (next_number past) n b q (stage (view d past n) q.t) one same here))
 
 asked-event : (d : DocumentData) (past acts : List Act) → IsOne d → Event d past acts → AllAsked d past → AllAsked d (after past acts)
 asked-event d past acts one event all = go (event-turn d past acts event.is)

@@ -16,7 +16,7 @@ use Rattle.grid_model.specs.Rows.{answer, begin_outs}
 use Rattle.grid_model.specs.Schedules.{Choice, flag_of, kept, next_number, numbered, opened_row}
 use Rattle.grid_model.specs.Stories.{story}
 use Rattle.script_runs.specs.Waits.{waiting}
-use Rattle.grid_model.specs.Views.{Open, view}
+use Rattle.grid_model.specs.Views.{Open, view, stage, participant}
 use Rattle.grid_model.specs.declared.acts.Act.TheVariants as act
 use Rattle.grid_model.specs.declared.acts.Act.{Act}
 use Rattle.grid_model.specs.declared.events.Out.TheVariants as out
@@ -108,7 +108,7 @@ advance-calm c x i b m n = calm-acts m n b (advance c x i) (quiet-both (advance 
 -- an event begins a transaction, delivers a reply, or does neither
 pub data IsTurn (d : DocumentData) (past acts : List Act) : Type 0 where
   calm_turn : all_calm acts ≡ true → IsTurn d past acts
-  begun_by : (s : ScriptData) (b : Bool) → script_of s.number d.scripts ≡ Some s → (node d past s.home).up ≡ true → acts ≡ numbered (next_number past) s.home (kept b s.home (begin_outs s.home (view d past s.home) s)) → IsTurn d past acts
+  begun_by : (s : ScriptData) (b : Bool) → script_of s.number d.scripts ≡ Some s → (node d past s.home).up ≡ true → acts ≡ numbered (next_number past) s.home (kept b s.home (begin_outs s.home (participant (view d past s.home)) s)) → IsTurn d past acts
   answered_by : (m : ℕ) (n x : NodeId) (q : ReadRep) (b : Bool) → sent_at m (sent past) ≡ Some (record { from = x; to = n; message = message.ReadRep q }) → acts ≡ act.Got m ∷ numbered (next_number past) n (kept b n (answer n (view d past n) x (message.ReadRep q))) → IsTurn d past acts
 
 turn-delivered : (d : DocumentData) (past acts : List Act) (m : ℕ) (n x : NodeId) (said : Message) (b c : Bool) → is_reply said ≡ c → sent_at m (sent past) ≡ Some (record { from = x; to = n; message = said }) → acts ≡ act.Got m ∷ numbered (next_number past) n (kept b n (answer n (view d past n) x said)) → IsTurn d past acts

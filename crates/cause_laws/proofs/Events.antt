@@ -12,8 +12,10 @@ use Rattle.grid_model.specs.Documents.{DocumentData, IsOne}
 use Rattle.grid_model.specs.Facts.{AllFit, GotIsFit}
 use Rattle.grid_model.specs.Histories.{after}
 use Rattle.grid_model.specs.Runs.{IsRun, Rows}
-use Rattle.grid_model.specs.Schedules.{Choice, events_in, row, start_row}
-use Rattle.grid_model.specs.Stories.{told}
+use Rattle.grid_model.specs.Schedules.{Choice, events_in, row, start_row, acts_of, begin_row, deliver_row, drop_row, flag_of, kept, next_left, next_number, next_row, numbered, opened_row, or_void, retry_at}
+use Rattle.grid_model.specs.Stories.{told, story}
+use Rattle.grid_model.specs.Views.{stage, view, participant}
+use Rattle.grid_model.specs.declared.acts.Act.TheVariants as act
 use Rattle.grid_model.specs.declared.acts.Act.{Act}
 use Rattle.grid_model.specs.declared.items.Item.{Item}
 use Rattle.score_base.specs.declared.ids.NodeId.{NodeId}

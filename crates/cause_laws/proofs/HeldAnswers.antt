@@ -1,17 +1,17 @@
 -- What a request and an outcome that are got leave of the held reads of their node.
 use Rattle.cause_laws.proofs.HeldNodes.{HoldsWaiting, IsKeptRead, has_read, is_serving, is_waiting_read, kept-behind, unheld-kept, unheld-read, unheld-waiting, waiting-later}
 use Rattle.cause_laws.proofs.ReleasedReads.{Released, release-kept}
-use Rattle.cause_laws.proofs.UnheldOuts.{AreUnheld, is_unheld, unheld-acts, unheld-to_node}
+use Rattle.cause_laws.proofs.UnheldOuts.{AreUnheld, is_unheld, unheld-acts, unheld-to_node, unheld-append}
 use Rattle.grid_laws.proofs.Frames.{same-number, up-stays}
 use Rattle.grid_model.specs.Advances.{to_node}
 use Rattle.grid_model.specs.Documents.{DocumentData}
 use Rattle.grid_model.specs.Histories.{after, sent, sent_at}
 use Rattle.journal_words.specs.Journals.{ended, home_of, is_clear, is_commit, pending}
 use Rattle.grid_model.specs.Nodes.{Holds, Node, Raises, Writes, changed, got, is_request, journal, node, said_by, where_at}
-use Rattle.grid_model.specs.Rows.{abort_row, answered, commit_row, release, served, tell_outs}
+use Rattle.grid_model.specs.Rows.{abort_row, answered, commit_row, release, served, tell_outs, if_pending}
 use Rattle.grid_model.specs.Schedules.{broken, kept, numbered, row}
 use Rattle.grid_model.specs.Stories.{asked}
-use Rattle.grid_model.specs.Views.{view}
+use Rattle.grid_model.specs.Views.{view, participant}
 use Rattle.grid_model.specs.declared.acts.Act.TheVariants as act
 use Rattle.grid_model.specs.declared.acts.Act.{Act}
 use Rattle.grid_model.specs.declared.acts.Head.TheVariants as head
@@ -169,16 +169,16 @@ kept-ended d now m k t o ack false quiet up h = row-unheld d now (act.Down k (So
 pub unheld-row : (d : DocumentData) (now : List Act) (m : ℕ) (k : NodeId) (b : Bool) (os : List Out) → AreUnheld os → HoldsWaiting (node d now k) → RowKept d now (numbered m k (kept b k os)) k nothing
 unheld-row d now m k b os u h = row-unheld d now (numbered m k (kept b k os)) k (unheld-acts m k b os u) h
 
-commit-kept : (d : DocumentData) (now : List Act) (m : ℕ) (k : NodeId) (t : TxId) (f : Ident) (p : Option Ident) (done : Bool) (ack : Option NodeId) (b : Bool) → is_request (said_by (got now)) ≡ false → (node d now k).up ≡ true → HoldsWaiting (node d now k) → RowKept d now (numbered m k (kept b k (commit_row k t f p done (to_node ack (message.Ack t)) (release d.cluster (record'.Ended t (outcome.Commit f) ∷ journal d now k) k (node d now k).held)))) k nothing
+commit-kept : (d : DocumentData) (now : List Act) (m : ℕ) (k : NodeId) (t : TxId) (f : Ident) (p : Option Ident) (done : Bool) (ack : Option NodeId) (b : Bool) → is_request (said_by (got now)) ≡ false → (node d now k).up ≡ true → HoldsWaiting (node d now k) → RowKept d now (numbered m k (kept b k (commit_row k t f p done (to_node ack (message.Ack t)) ++ if_pending p (release d.cluster (record'.Ended t (outcome.Commit f) ∷ journal d now k) k (node d now k).held)))) k nothing
 commit-kept d now m k t f (Some p) done ack b quiet up h = kept-ended d now m k t (outcome.Commit f) ack b quiet up h
-commit-kept d now m k t f None true ack b quiet up h = unheld-row d now m k b (to_node ack (message.Ack t)) (unheld-to_node ack (message.Ack t)) h
+commit-kept d now m k t f None true ack b quiet up h = unheld-row d now m k b (to_node ack (message.Ack t) ++ []) (unheld-append (to_node ack (message.Ack t)) [] (unheld-to_node ack (message.Ack t)) refl) h
 commit-kept d now m k t f None false ack b quiet up h = unheld-row d now m k b [] refl h
 
-abort-kept : (d : DocumentData) (now : List Act) (m : ℕ) (k : NodeId) (t : TxId) (p : Option Ident) (b : Bool) → is_request (said_by (got now)) ≡ false → (node d now k).up ≡ true → HoldsWaiting (node d now k) → RowKept d now (numbered m k (kept b k (abort_row k t p (release d.cluster (record'.Ended t outcome.Abort ∷ journal d now k) k (node d now k).held)))) k nothing
+abort-kept : (d : DocumentData) (now : List Act) (m : ℕ) (k : NodeId) (t : TxId) (p : Option Ident) (b : Bool) → is_request (said_by (got now)) ≡ false → (node d now k).up ≡ true → HoldsWaiting (node d now k) → RowKept d now (numbered m k (kept b k (abort_row k t p ++ if_pending p (release d.cluster (record'.Ended t outcome.Abort ∷ journal d now k) k (node d now k).held)))) k nothing
 abort-kept d now m k t (Some p) b quiet up h = kept-ended d now m k t outcome.Abort None b quiet up h
 abort-kept d now m k t None b quiet up h = unheld-row d now m k b [] refl h
 
 -- a row of an outcome, behind its Got
-pub outcome-row : (d : DocumentData) (past : List Act) (g m : ℕ) (k x : NodeId) (t : TxId) (o : Outcome) (b : Bool) → sent_at g (sent past) ≡ Some (record { from = x; to = k; message = message.Tell t o }) → (node d past k).up ≡ true → HoldsWaiting (node d past k) → RowKept d (act.Got g ∷ past) (numbered m k (kept b k (tell_outs k (view d past k) t o))) k nothing
+pub outcome-row : (d : DocumentData) (past : List Act) (g m : ℕ) (k x : NodeId) (t : TxId) (o : Outcome) (b : Bool) → sent_at g (sent past) ≡ Some (record { from = x; to = k; message = message.Tell t o }) → (node d past k).up ≡ true → HoldsWaiting (node d past k) → RowKept d (act.Got g ∷ past) (numbered m k (kept b k (tell_outs k (participant (view d past k)) (view d past k).held t o))) k nothing
 outcome-row d past g m k x t (outcome.Commit f) b at up h = commit-kept d (act.Got g ∷ past) m k t f (pending t (journal d past k)) (is_commit (ended t (journal d past k))) (home_of t (journal d past k)) b (rw at refl) up h
 outcome-row d past g m k x t outcome.Abort b at up h = abort-kept d (act.Got g ∷ past) m k t (pending t (journal d past k)) b (rw at refl) up h

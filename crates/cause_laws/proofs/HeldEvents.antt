@@ -18,7 +18,7 @@ use Rattle.journal_words.specs.Journals.{commit_id, floor, is_clear}
 use Rattle.grid_model.specs.Nodes.{Node, Starts, Stays, changed, found, got, is_kept, journal, node, where_at}
 use Rattle.grid_model.specs.Rows.{answer, begin_outs, begun_at, ceiling_of, dated, version_for}
 use Rattle.grid_model.specs.Schedules.{Choice, acts_of, flag_of, kept, losses, next_number, numbered, opened_row}
-use Rattle.grid_model.specs.Views.{View, view}
+use Rattle.grid_model.specs.Views.{View, view, participant}
 use Rattle.grid_model.specs.declared.acts.Act.TheVariants as act
 use Rattle.grid_model.specs.declared.acts.Act.{Act}
 use Rattle.grid_model.specs.declared.acts.Flag.{Flag}
@@ -145,7 +145,7 @@ shape-kept d past h i c (idle acts is) fit = unheld-event d past acts (unheld-id
 shape-kept d past h i c (arms n k how is) fit = unheld-event d past (act.Armed n k how ∷ []) refl h
 shape-kept d past h i c (crashes n up) fit = unheld-event d past (act.Down n None ∷ []) refl h
 shape-kept d past h i c (restarts n up) fit = restart-event d past n (flag_of (node d past n).doubt c.finds) c.opens up h
-shape-kept d past h i c (begins s is new up) fit = unheld-event d past (acts_of past c s.home (begin_outs s.home (view d past s.home) s)) (unheld-acts (next_number past) s.home c.keeps (begin_outs s.home (view d past s.home) s) (unheld-advance d.cluster (begun_at s (commit_id (journal d past s.home))) 0)) h
+shape-kept d past h i c (begins s is new up) fit = unheld-event d past (acts_of past c s.home (begin_outs s.home (participant (view d past s.home)) s)) (unheld-acts (next_number past) s.home c.keeps (begin_outs s.home (participant (view d past s.home)) s) (unheld-advance d.cluster (begun_at s (commit_id (journal d past s.home))) 0)) h
 shape-kept d past h i c (delivers m e is up) fit = got-event d past m e c.keeps is (fit-first d past m e (acts_of past c e.to (answer e.to (view d past e.to) e.from e.message)) is fit) up h
 shape-kept d past h i c (again n os up is) fit = unheld-event d past (acts_of past c n os) (unheld-acts (next_number past) n c.keeps os (unheld-again d past n os is)) h
 

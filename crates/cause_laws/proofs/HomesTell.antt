@@ -17,7 +17,7 @@ use Rattle.journal_words.specs.Journals.{Decision, home_of, pending}
 use Rattle.grid_model.specs.Nodes.{is_home, journal, node, parts_in, parts_of}
 use Rattle.grid_model.specs.Rows.{answer, ask_row, ballot_row, decides, full_row, greatest_vote, have_voted, not_among, not_voted, retry_row, row_of, tells, vote_row}
 use Rattle.grid_model.specs.Stories.{has_voted}
-use Rattle.grid_model.specs.Views.{Apart, Collects, Commits, Open, Reads, Stage, stage, view}
+use Rattle.grid_model.specs.Views.{Apart, Collects, Commits, Open, Reads, Stage, stage, view, participant}
 use Rattle.grid_model.specs.declared.acts.Act.{Act}
 use Rattle.grid_model.specs.declared.events.Out.{Out}
 use Rattle.grid_model.specs.declared.messages.Message.TheVariants as message
@@ -89,7 +89,7 @@ well-asked d n t x g h = go g
 
 -- ---- each row
 
-well-row_of : (d : DocumentData) (past : List Act) (n x : NodeId) (said : Message) → HasEnds d x n said → AreWell d n (row_of n (view d past n) (stage (view d past n) (tx_in said)) x said)
+well-row_of : (d : DocumentData) (past : List Act) (n x : NodeId) (said : Message) → HasEnds d x n said → AreWell d n (row_of n (participant (view d past n)) (view d past n).held (stage (view d past n) (tx_in said)) x said)
 well-row_of d past n x (message.ReadReq q) h = well-read d n (view d past n) x q _
 well-row_of d past n x (message.ReadRep q) h = well-reply d n q _
 well-row_of d past n x (message.Prepare q) h = well-prepare d n x q.t _ _ _ _ _
@@ -99,7 +99,7 @@ well-row_of d past n x (message.Ack t) h = well-acks d n t x _
 well-row_of d past n x (message.Ask t) h = well-asked d n t x _ h
 
 pub well-answer : (d : DocumentData) (past : List Act) (n x : NodeId) (said : Message) → HasEnds d x n said → AreWell d n (answer n (view d past n) x said)
-well-answer d past n x said h = well-if d n (is_fit_at n (view d past n) (stage (view d past n) (tx_in said)) x said) _ [] (well-row_of d past n x said h) refl
+well-answer d past n x said h = well-if d n (is_fit_at n (participant (view d past n)) (stage (view d past n) (tx_in said)) x said) _ [] (well-row_of d past n x said h) refl
 
 well-retry : (d : DocumentData) (past : List Act) (n : NodeId) (t : TxId) (g : Stage) → AllDue d past → stage (view d past n) t ≡ g → AreWell d n (retry_row d.cluster t g)
 well-retry d past n t (Reads x j) all e = well-request d n x j x.turn (op_at x.script.ops j)

@@ -7,9 +7,9 @@ use Rattle.grid_model.specs.Fitness.{is_fit_at, tx_in}
 use Rattle.grid_model.specs.Histories.{after}
 use Rattle.journal_words.specs.Journals.{commit_id, ended, floor, home_of, is_clear, is_commit, pending}
 use Rattle.grid_model.specs.Nodes.{Change, Holds, Node, Raises, Stops, Writes, changed, doubt_of, freed, got, held_by, is_request, node, said_by, where_at}
-use Rattle.grid_model.specs.Rows.{abort_row, answer, answered, ceiling_of, ceilings, commit_row, dated, freed_by, raises, release, row_of, served, version_for}
+use Rattle.grid_model.specs.Rows.{abort_row, answer, answered, ceiling_of, ceilings, commit_row, dated, freed_by, raises, release, row_of, served, version_for, if_pending}
 use Rattle.grid_model.specs.Schedules.{broken, head_at, kept, numbered, stopped}
-use Rattle.grid_model.specs.Views.{Stage, View, stage}
+use Rattle.grid_model.specs.Views.{Stage, View, stage, participant}
 use Rattle.grid_model.specs.declared.acts.Act.TheVariants as act
 use Rattle.grid_model.specs.declared.acts.Act.{Act}
 use Rattle.grid_model.specs.declared.acts.Head.{Head}
@@ -116,17 +116,17 @@ local-to_node : (k : NodeId) (w : Option NodeId) (said : Message) → AreLocal k
 local-to_node k None said = refl
 local-to_node k (Some y) said = refl
 
-local-commit : (k : NodeId) (t : TxId) (f : Ident) (p : Option Ident) (b : Bool) (ack outs : List Out) → AreLocal k ack → AreLocal k outs → AreLocal k (commit_row k t f p b ack outs)
+local-commit : (k : NodeId) (t : TxId) (f : Ident) (p : Option Ident) (b : Bool) (ack outs : List Out) → AreLocal k ack → AreLocal k outs → AreLocal k (commit_row k t f p b ack ++ if_pending p outs)
 local-commit k t f (Some p) b ack outs h i = and_from (k == k) (list_all (is_local_out k) (ack ++ outs)) (same-number k) (local-append k ack outs h i)
-local-commit k t f None true ack outs h i = h
+local-commit k t f None true ack outs h i = local-append k ack [] h refl
 local-commit k t f None false ack outs h i = refl
 
-local-abort : (k : NodeId) (t : TxId) (p : Option Ident) (outs : List Out) → AreLocal k outs → AreLocal k (abort_row k t p outs)
+local-abort : (k : NodeId) (t : TxId) (p : Option Ident) (outs : List Out) → AreLocal k outs → AreLocal k (abort_row k t p ++ if_pending p outs)
 local-abort k t (Some p) outs i = and_from (k == k) (list_all (is_local_out k) outs) (same-number k) i
 local-abort k t None outs i = refl
 
 -- a request or an outcome changes its node alone
-local-row : (k : NodeId) (v : View) (g : Stage) (x : NodeId) (said : Message) → is_touching said ≡ true → AreLocal k (row_of k v g x said)
+local-row : (k : NodeId) (v : View) (g : Stage) (x : NodeId) (said : Message) → is_touching said ≡ true → AreLocal k (row_of k (participant v) v.held g x said)
 local-row k v g x (message.ReadReq q) h =
     let sid : Ident = dated q.date (commit_id v.journal) in
     local-append k (ceilings k (floor v.journal) sid) (raises k v.next sid ++ answered (is_clear sid v.journal) k x q sid (version_for v.cluster v.journal q.key sid))
@@ -134,8 +134,8 @@ local-row k v g x (message.ReadReq q) h =
     (local-append k (raises k v.next sid) (answered (is_clear sid v.journal) k x q sid (version_for v.cluster v.journal q.key sid))
     (local-if k (nat_lt v.next sid) (out.Act (act.Raised k sid) ∷ []) [] (and_from (k == k) true (same-number k) refl) refl)
     (local-answered k (is_clear sid v.journal) x q sid (version_for v.cluster v.journal q.key sid)))
-local-row k v g x (message.Tell t (outcome.Commit f)) h = local-commit k t f (pending t v.journal) (is_commit (ended t v.journal)) (to_node (home_of t v.journal) (message.Ack t)) (freed_by k v t (outcome.Commit f)) (local-to_node k (home_of t v.journal) (message.Ack t)) (local-release k v.cluster (record'.Ended t (outcome.Commit f) ∷ v.journal) v.held)
-local-row k v g x (message.Tell t outcome.Abort) h = local-abort k t (pending t v.journal) (freed_by k v t outcome.Abort) (local-release k v.cluster (record'.Ended t outcome.Abort ∷ v.journal) v.held)
+local-row k v g x (message.Tell t (outcome.Commit f)) h = local-commit k t f (pending t v.journal) (is_commit (ended t v.journal)) (to_node (home_of t v.journal) (message.Ack t)) (freed_by k (participant v) v.held t (outcome.Commit f)) (local-to_node k (home_of t v.journal) (message.Ack t)) (local-release k v.cluster (record'.Ended t (outcome.Commit f) ∷ v.journal) v.held)
+local-row k v g x (message.Tell t outcome.Abort) h = local-abort k t (pending t v.journal) (freed_by k (participant v) v.held t outcome.Abort) (local-release k v.cluster (record'.Ended t outcome.Abort ∷ v.journal) v.held)
 local-row k v g x (message.ReadRep q) h = cc
 local-row k v g x (message.Prepare q) h = cc
 local-row k v g x (message.Vote t b) h = cc
@@ -143,4 +143,4 @@ local-row k v g x (message.Ack t) h = cc
 local-row k v g x (message.Ask t) h = cc
 
 pub local-answer : (k : NodeId) (v : View) (x : NodeId) (said : Message) → is_touching said ≡ true → AreLocal k (answer k v x said)
-local-answer k v x said h = local-if k (is_fit_at k v (stage v (tx_in said)) x said) (row_of k v (stage v (tx_in said)) x said) [] (local-row k v (stage v (tx_in said)) x said h) refl
+local-answer k v x said h = local-if k (is_fit_at k (participant v) (stage v (tx_in said)) x said) (row_of k (participant v) v.held (stage v (tx_in said)) x said) [] (local-row k v (stage v (tx_in said)) x said h) refl

@@ -23,7 +23,7 @@ use Rattle.grid_model.specs.Runs.{IsRun}
 use Rattle.grid_model.specs.Schedules.{kept, next_number, numbered}
 use Rattle.grid_model.specs.Stories.{story, told}
 use Rattle.script_runs.specs.Waits.{value_taken, waiting}
-use Rattle.grid_model.specs.Views.{Open, Reads, View, open_of, open_stage, stage, view}
+use Rattle.grid_model.specs.Views.{Open, Reads, View, open_of, open_stage, stage, view, participant}
 use Rattle.grid_model.specs.declared.acts.Act.TheVariants as act
 use Rattle.grid_model.specs.declared.acts.Act.{Act}
 use Rattle.grid_model.specs.declared.events.Out.TheVariants as out
@@ -57,7 +57,7 @@ reply-taken : (d : DocumentData) (past : List Act) (m : ℕ) (n x : NodeId) (b :
 reply-taken d past m n x b q o e fit =
     let v : View = view d past n in
     let os : List Out = advance d.cluster (with_reply q o) q.op in
-    let is : answer n v x (message.ReadRep q) ≡ out.Act (act.Taken q.t q.op q.sid q.value) ∷ os = fit-answer (is_fit_at n v (stage v q.t) x (message.ReadRep q)) fit (reply_row d.cluster q (stage v q.t)) ∙ ap (reply_row d.cluster q) e ∙ same-op (q.op == q.op) (same-number q.op) (out.Act (act.Taken q.t q.op q.sid q.value) ∷ os) in
+    let is : answer n v x (message.ReadRep q) ≡ out.Act (act.Taken q.t q.op q.sid q.value) ∷ os = fit-answer (is_fit_at n (participant v) (stage v q.t) x (message.ReadRep q)) fit (reply_row d.cluster q (stage v q.t)) ∙ ap (reply_row d.cluster q) e ∙ same-op (q.op == q.op) (same-number q.op) (out.Act (act.Taken q.t q.op q.sid q.value) ∷ os) in
     (numbered m n (kept b n os), ap (λ z. numbered m n (kept b n z)) is ∙ numbered-taken m n b q.t q.op q.sid q.value os)
   where
     fit-answer : (c : Bool) → c ≡ true → (os : List Out) → (if c then os else []) ≡ os

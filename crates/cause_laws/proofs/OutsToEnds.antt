@@ -6,10 +6,10 @@ use Rattle.grid_model.specs.Claims.{is_end}
 use Rattle.grid_model.specs.Documents.{DocumentData}
 use Rattle.grid_model.specs.Histories.{after}
 use Rattle.journal_words.specs.Journals.{ended, floor, home_of, is_clear, is_commit, pending}
-use Rattle.grid_model.specs.Rows.{abort_row, ack_row, answered, are_all_among, ceiling_of, ceilings, commit_row, freed_by, judged, prepare_row, raises, read_row, release, reply_row, served, tell_outs, version_for}
+use Rattle.grid_model.specs.Rows.{abort_row, ack_row, answered, are_all_among, ceiling_of, ceilings, commit_row, freed_by, judged, prepare_row, raises, read_row, release, reply_row, served, tell_outs, version_for, if_pending}
 use Rattle.grid_model.specs.Schedules.{broken, head_at, kept, numbered, stopped}
 use Rattle.script_runs.specs.Waits.{waiting}
-use Rattle.grid_model.specs.Views.{Apart, Collects, Commits, Open, Reads, Stage, View}
+use Rattle.grid_model.specs.Views.{Apart, Collects, Commits, Open, Reads, Stage, View, participant}
 use Rattle.grid_model.specs.declared.acts.Act.TheVariants as act
 use Rattle.grid_model.specs.declared.acts.Act.{Act}
 use Rattle.grid_model.specs.declared.acts.Head.{Head}
@@ -132,7 +132,7 @@ well-answered : (d : DocumentData) (n : NodeId) (b : Bool) (x : NodeId) (q : Rea
 well-answered d n true x q sid w = refl
 well-answered d n false x q sid w = refl
 
-pub well-read : (d : DocumentData) (n : NodeId) (v : View) (x : NodeId) (q : ReadReq) (sid : Ident) → AreWell d n (read_row n v x q sid)
+pub well-read : (d : DocumentData) (n : NodeId) (v : View) (x : NodeId) (q : ReadReq) (sid : Ident) → AreWell d n (read_row n (participant v) x q sid)
 well-read d n v x q sid =
     well-append d n (ceilings n (floor v.journal) sid) _ (well-if d n (nat_lt (floor v.journal) sid) (out.Act (act.Ceiling n (ceiling_of sid)) ∷ []) [] refl refl)
     (well-append d n (raises n v.next sid) _ (well-if d n (nat_lt v.next sid) (out.Act (act.Raised n sid) ∷ []) [] refl refl)
@@ -154,18 +154,18 @@ well-prepare d n x t (Some o) mine u y p = refl
 well-prepare d n x t None (Some q) u y p = refl
 well-prepare d n x t None None u y p = well-judged d n x t u y p
 
-well-commit : (d : DocumentData) (n : NodeId) (t : TxId) (f : Ident) (p : Option Ident) (b : Bool) (ack freed : List Out) → AreWell d n ack → AreWell d n freed → AreWell d n (commit_row n t f p b ack freed)
+well-commit : (d : DocumentData) (n : NodeId) (t : TxId) (f : Ident) (p : Option Ident) (b : Bool) (ack freed : List Out) → AreWell d n ack → AreWell d n freed → AreWell d n (commit_row n t f p b ack ++ if_pending p freed)
 well-commit d n t f (Some p) b ack freed h k = well-append d n ack freed h k
-well-commit d n t f None true ack freed h k = h
+well-commit d n t f None true ack freed h k = well-append d n ack [] h refl
 well-commit d n t f None false ack freed h k = refl
 
-well-abort : (d : DocumentData) (n : NodeId) (t : TxId) (p : Option Ident) (freed : List Out) → AreWell d n freed → AreWell d n (abort_row n t p freed)
+well-abort : (d : DocumentData) (n : NodeId) (t : TxId) (p : Option Ident) (freed : List Out) → AreWell d n freed → AreWell d n (abort_row n t p ++ if_pending p freed)
 well-abort d n t (Some p) freed k = k
 well-abort d n t None freed k = refl
 
-pub well-tell : (d : DocumentData) (n : NodeId) (v : View) (t : TxId) (o : Outcome) → AreWell d n (tell_outs n v t o)
-well-tell d n v t (outcome.Commit f) = well-commit d n t f (pending t v.journal) (is_commit (ended t v.journal)) _ (freed_by n v t (outcome.Commit f)) (well-to_node d n (home_of t v.journal) (message.Ack t) (λ y. refl)) (well-release d n v.cluster (record'.Ended t (outcome.Commit f) ∷ v.journal) v.held)
-well-tell d n v t outcome.Abort = well-abort d n t (pending t v.journal) (freed_by n v t outcome.Abort) (well-release d n v.cluster (record'.Ended t outcome.Abort ∷ v.journal) v.held)
+pub well-tell : (d : DocumentData) (n : NodeId) (v : View) (t : TxId) (o : Outcome) → AreWell d n (tell_outs n (participant v) v.held t o)
+well-tell d n v t (outcome.Commit f) = well-commit d n t f (pending t v.journal) (is_commit (ended t v.journal)) _ (freed_by n (participant v) v.held t (outcome.Commit f)) (well-to_node d n (home_of t v.journal) (message.Ack t) (λ y. refl)) (well-release d n v.cluster (record'.Ended t (outcome.Commit f) ∷ v.journal) v.held)
+well-tell d n v t outcome.Abort = well-abort d n t (pending t v.journal) (freed_by n (participant v) v.held t outcome.Abort) (well-release d n v.cluster (record'.Ended t outcome.Abort ∷ v.journal) v.held)
 
 pub well-acks : (d : DocumentData) (n : NodeId) (t : TxId) (x : NodeId) (g : Stage) → AreWell d n (ack_row t x g)
 well-acks d n t x (Commits y acks) = well-if d n (is_among x acks) [] _ refl (well-if d n (are_all_among y.parts (acks ++ x ∷ [])) (out.Act (act.Closed t) ∷ []) [] refl refl)

@@ -11,7 +11,7 @@ use Rattle.grid_model.specs.Rows.{ack_row, answer, are_all_among, ask_row, ballo
 use Rattle.grid_model.specs.Schedules.{broken, head_at, kept, numbered, stopped}
 use Rattle.grid_model.specs.Stories.{has_voted}
 use Rattle.script_runs.specs.Waits.{waiting}
-use Rattle.grid_model.specs.Views.{Apart, Collects, Commits, Open, Reads, Stage, View, stage, view}
+use Rattle.grid_model.specs.Views.{Apart, Collects, Commits, Open, Reads, Stage, View, stage, view, participant}
 use Rattle.grid_model.specs.declared.acts.Act.TheVariants as act
 use Rattle.grid_model.specs.declared.acts.Act.{Act}
 use Rattle.grid_model.specs.declared.acts.Head.{Head}
@@ -73,7 +73,7 @@ pub unheld-acts : (m : ℕ) (n : NodeId) (b : Bool) (os : List Out) → AreUnhel
 unheld-acts m n true os h = unheld-numbered m n os h
 unheld-acts m n false os h = unheld-numbered m n (broken n os) (unheld-broken n os h)
 
-unheld-append : (xs ys : List Out) → AreUnheld xs → AreUnheld ys → AreUnheld (xs ++ ys)
+pub unheld-append : (xs ys : List Out) → AreUnheld xs → AreUnheld ys → AreUnheld (xs ++ ys)
 unheld-append [] ys h k = k
 unheld-append (x ∷ xs) ys h k = let both = and_parts (is_unheld_out x) (list_all is_unheld_out xs) h in and_from (is_unheld_out x) (list_all is_unheld_out (xs ++ ys)) both.0 (unheld-append xs ys both.1 k)
 
@@ -152,7 +152,7 @@ is_touching (message.ReadReq q) = true
 is_touching (message.Tell t o) = true
 is_touching said = false
 
-unheld-row_of : (n : NodeId) (v : View) (g : Stage) (x : NodeId) (said : Message) → is_touching said ≡ false → AreUnheld (row_of n v g x said)
+unheld-row_of : (n : NodeId) (v : View) (g : Stage) (x : NodeId) (said : Message) → is_touching said ≡ false → AreUnheld (row_of n (participant v) v.held g x said)
 unheld-row_of n v g x (message.ReadReq q) h = cc
 unheld-row_of n v g x (message.ReadRep q) h = unheld-reply v.cluster q g
 unheld-row_of n v g x (message.Prepare q) h = unheld-prepare n x q.t _ _ _ _ _
@@ -162,7 +162,7 @@ unheld-row_of n v g x (message.Ack t) h = unheld-acks t x g
 unheld-row_of n v g x (message.Ask t) h = unheld-asked t x g
 
 pub unheld-answer : (n : NodeId) (v : View) (x : NodeId) (said : Message) → is_touching said ≡ false → AreUnheld (answer n v x said)
-unheld-answer n v x said h = unheld-if (is_fit_at n v (stage v (tx_in said)) x said) (row_of n v (stage v (tx_in said)) x said) [] (unheld-row_of n v (stage v (tx_in said)) x said h) refl
+unheld-answer n v x said h = unheld-if (is_fit_at n (participant v) (stage v (tx_in said)) x said) (row_of n (participant v) v.held (stage v (tx_in said)) x said) [] (unheld-row_of n v (stage v (tx_in said)) x said h) refl
 
 unheld-retry : (c : ClusterData) (t : TxId) (g : Stage) → AreUnheld (retry_row c t g)
 unheld-retry c t (Reads x j) = unheld-request c x j x.turn (op_at x.script.ops j)

@@ -16,7 +16,7 @@ use Rattle.grid_model.specs.Rows.{answer, ballot_row, decides, full_row, greates
 use Rattle.grid_model.specs.Schedules.{kept, next_number, numbered}
 use Rattle.grid_model.specs.Stories.{Collecting, has_voted, heard_at, if_told, is_counted_vote, is_fit_ballot, is_open, is_small_node, phase_at, story, told, with_vote}
 use Rattle.script_runs.specs.Waits.{waiting}
-use Rattle.grid_model.specs.Views.{Collects, Stage, View, open_of, open_stage, stage, view}
+use Rattle.grid_model.specs.Views.{Collects, Stage, View, open_of, open_stage, stage, view, participant}
 use Rattle.grid_model.specs.declared.acts.Act.TheVariants as act
 use Rattle.grid_model.specs.declared.acts.Act.{Act}
 use Rattle.grid_model.specs.declared.acts.Head.TheVariants as head
@@ -172,8 +172,8 @@ vote-result d past m n x b s a y rest is home got fit r told unsettled full = go
     same : story d (act.Got m ∷ past) s.number ≡ heard_at d past (Some s) (Some (record { from = x; to = n; message = message.Vote s.number a })) (Some y)
     same = ap (λ w. heard_at d past w (sent_at m (sent past)) (story d past s.number)) is ∙ ap (λ o. heard_at d past (Some s) o (story d past s.number)) got ∙ ap (λ o. heard_at d past (Some s) (Some (record { from = x; to = n; message = message.Vote s.number a })) o) told
 
-    fits : is_fit_at n v (Collects (open_of s y)) x (message.Vote s.number a) ≡ true
-    fits = (let P : Stage → Type 0 = λ g. is_fit_at n v g x (message.Vote s.number a) ≡ true in subst P gathers fit)
+    fits : is_fit_at n (participant v) (Collects (open_of s y)) x (message.Vote s.number a) ≡ true
+    fits = (let P : Stage → Type 0 = λ g. is_fit_at n (participant v) g x (message.Vote s.number a) ≡ true in subst P gathers fit)
 
     small : is_small_node (journal d past n) (node d past n).next ≡ true
     small = (and_parts (is_small_node (journal d past n) (node d past n).next) (is_fit_ballot a && is_among x (parts_of d s)) fits).0

@@ -14,7 +14,7 @@ use Rattle.grid_model.specs.Nodes.{journal}
 use Rattle.grid_model.specs.Rows.{answer, judged, prepare_row, row_of}
 use Rattle.grid_model.specs.Runs.{IsRun}
 use Rattle.grid_model.specs.Schedules.{kept, next_number, numbered, start_row}
-use Rattle.grid_model.specs.Views.{View, stage, view}
+use Rattle.grid_model.specs.Views.{View, stage, view, participant}
 use Rattle.grid_model.specs.declared.acts.Act.TheVariants as act
 use Rattle.grid_model.specs.declared.acts.Act.{Act}
 use Rattle.grid_model.specs.declared.events.Out.{Out}
@@ -103,10 +103,10 @@ prepare-of t (message.Ack u) h = cc
 prepare-of t (message.Ask u) h = cc
 
 -- a fit message is answered by its row
-pub fit-row : (n x : NodeId) (v : View) (said : Message) → is_fit n v x said ≡ true → answer n v x said ≡ row_of n v (stage v (tx_in said)) x said
-fit-row n x v said h = go (is_fit_at n v (stage v (tx_in said)) x said) h
+pub fit-row : (n x : NodeId) (v : View) (said : Message) → is_fit n v x said ≡ true → answer n v x said ≡ row_of n (participant v) v.held (stage v (tx_in said)) x said
+fit-row n x v said h = go (is_fit_at n (participant v) (stage v (tx_in said)) x said) h
   where
-    go : (b : Bool) → b ≡ true → (if b then row_of n v (stage v (tx_in said)) x said else []) ≡ row_of n v (stage v (tx_in said)) x said
+    go : (b : Bool) → b ≡ true → (if b then row_of n (participant v) v.held (stage v (tx_in said)) x said else []) ≡ row_of n (participant v) v.held (stage v (tx_in said)) x said
     go true e = refl
     go false e = cc
 

@@ -25,7 +25,7 @@ use Rattle.journal_words.specs.Journals.{commit_id}
 use Rattle.grid_model.specs.Nodes.{node, journal, script_of}
 use Rattle.grid_model.specs.Stories.{begun, story, with_value}
 use Rattle.script_runs.specs.Waits.{waiting}
-use Rattle.grid_model.specs.Views.{view, stage, Stage, Open, Reads, Collects, Commits, Apart, open_of}
+use Rattle.grid_model.specs.Views.{view, stage, Stage, Open, Reads, Collects, Commits, Apart, open_of, participant}
 use Rattle.grid_model.specs.Advances.{advance}
 use Rattle.script_runs.specs.Walks.{own_reads, unread}
 use Rattle.grid_model.specs.Fitness.{is_fit_at}
@@ -110,7 +110,7 @@ shown-answer : (d : DocumentData) (past : List Act) (k m : ℕ) (n x : NodeId) (
 shown-answer d past k m n x b (message.ReadRep q) c quiet is due all =
     let now : List Act = act.Got k ∷ past in
     let same : stage (view d now n) q.t ≡ stage (view d past n) q.t = stage-quiet d past k x n (message.ReadRep q) q.t is refl in
-    let fit : Bool = is_fit_at n (view d past n) (stage (view d past n) q.t) x (message.ReadRep q) in
+    let fit : Bool = is_fit_at n (participant (view d past n)) (stage (view d past n) q.t) x (message.ReadRep q) in
     shown-if d now m n b fit fit (reply_row d.cluster q (stage (view d past n) q.t)) refl all (λ e. shown-reply d now m n b q (stage (view d past n) q.t) same due all)
 shown-answer d past k m n x b said true quiet is due all = cc
 shown-answer d past k m n x b said false quiet is due all = silent-all d (act.Got k ∷ past) (numbered m n (kept b n (answer n (view d past n) x said))) (silent-acts m n b (answer n (view d past n) x said) (silent-answer n (view d past n) x said quiet)) all
@@ -121,7 +121,7 @@ began-kept : (m : ℕ) (n : NodeId) (b : Bool) (t : TxId) (sid0 : Ident) (os : L
 began-kept m n true t sid0 os = refl
 began-kept m n false t sid0 os = refl
 
-shown-begin : (d : DocumentData) (past : List Act) (m : ℕ) (b : Bool) (s : ScriptData) → script_of s.number d.scripts ≡ Some s → story d past s.number ≡ None → AllShown d past → AllShown d (after past (numbered m s.home (kept b s.home (begin_outs s.home (view d past s.home) s))))
+shown-begin : (d : DocumentData) (past : List Act) (m : ℕ) (b : Bool) (s : ScriptData) → script_of s.number d.scripts ≡ Some s → story d past s.number ≡ None → AllShown d past → AllShown d (after past (numbered m s.home (kept b s.home (begin_outs s.home (participant (view d past s.home)) s))))
 shown-begin d past m b s is new all =
     let sid0 : Ident = commit_id (journal d past s.home) in
     let now : List Act = act.Began s.number s.home sid0 ∷ past in

@@ -19,7 +19,7 @@ use Rattle.grid_model.specs.Histories.{after, sent, sent_at}
 use Rattle.journal_words.specs.Journals.{commit_id}
 use Rattle.grid_model.specs.Nodes.{node, journal, script_of}
 use Rattle.grid_model.specs.Stories.{begun, story, with_value}
-use Rattle.grid_model.specs.Views.{view, stage, Stage, Open, Reads, Collects, Commits, Apart, open_of}
+use Rattle.grid_model.specs.Views.{view, stage, Stage, Open, Reads, Collects, Commits, Apart, open_of, participant}
 use Rattle.grid_model.specs.Advances.{advance}
 use Rattle.grid_model.specs.Fitness.{is_fit_at}
 use Rattle.grid_model.specs.Rows.{answer, begin_outs, reply_row}
@@ -74,7 +74,7 @@ told-answer : (d : DocumentData) (past : List Act) (k m : ℕ) (n x : NodeId) (b
 told-answer d past k m n x b (message.ReadRep q) c quiet is all =
     let now : List Act = act.Got k ∷ past in
     let same : stage (view d now n) q.t ≡ stage (view d past n) q.t = stage-quiet d past k x n (message.ReadRep q) q.t is refl in
-    told-if d now m n b (is_fit_at n (view d past n) (stage (view d past n) q.t) x (message.ReadRep q)) (reply_row d.cluster q (stage (view d past n) q.t)) all (told-reply d now m n b q (stage (view d past n) q.t) same all)
+    told-if d now m n b (is_fit_at n (participant (view d past n)) (stage (view d past n) q.t) x (message.ReadRep q)) (reply_row d.cluster q (stage (view d past n) q.t)) all (told-reply d now m n b q (stage (view d past n) q.t) same all)
 told-answer d past k m n x b said true quiet is all = cc
 told-answer d past k m n x b said false quiet is all = calm-all d (act.Got k ∷ past) (numbered m n (kept b n (answer n (view d past n) x said))) (calm-acts m n b (answer n (view d past n) x said) (calm-answer n (view d past n) x said quiet)) all
 
@@ -84,7 +84,7 @@ numbered-began : (m : ℕ) (n : NodeId) (b : Bool) (t : TxId) (sid0 : Ident) (os
 numbered-began m n true t sid0 os = refl
 numbered-began m n false t sid0 os = refl
 
-told-begin : (d : DocumentData) (past : List Act) (m : ℕ) (b : Bool) (s : ScriptData) → script_of s.number d.scripts ≡ Some s → AllTold d past → AllTold d (after past (numbered m s.home (kept b s.home (begin_outs s.home (view d past s.home) s))))
+told-begin : (d : DocumentData) (past : List Act) (m : ℕ) (b : Bool) (s : ScriptData) → script_of s.number d.scripts ≡ Some s → AllTold d past → AllTold d (after past (numbered m s.home (kept b s.home (begin_outs s.home (participant (view d past s.home)) s))))
 told-begin d past m b s is all =
     let sid0 : Ident = commit_id (journal d past s.home) in
     let now : List Act = act.Began s.number s.home sid0 ∷ past in

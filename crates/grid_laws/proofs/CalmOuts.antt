@@ -10,7 +10,7 @@ use Rattle.grid_model.specs.Schedules.{start_act, kept, broken, numbered, lost_a
 use Rattle.grid_model.specs.declared.events.Out.{Out}
 use Rattle.grid_model.specs.declared.events.Out.TheVariants as out
 use Rattle.grid_model.specs.declared.messages.Message.{Message}
-use Rattle.grid_model.specs.Views.{Open, View}
+use Rattle.grid_model.specs.Views.{Open, View, Stage, participant}
 use Rattle.grid_model.specs.Advances.{advance_end}
 use Rattle.grid_model.specs.Rows.{answer}
 use Rattle.grid_model.specs.declared.acts.Act.{Act}

@@ -15,7 +15,7 @@ use Rattle.grid_model.specs.Documents.{DocumentData, IsOne}
 use Rattle.grid_model.specs.Histories.{after, sent, sent_at}
 use Rattle.grid_model.specs.Nodes.{journal, node}
 use Rattle.grid_model.specs.Stories.{is_small, is_small_cause, is_small_node, is_fit_ballot}
-use Rattle.grid_model.specs.Views.{view, stage}
+use Rattle.grid_model.specs.Views.{view, stage, participant}
 use Rattle.grid_model.specs.Fitness.{is_fit, is_fit_content, tx_in}
 use Rattle.grid_model.specs.Runs.{IsRun}
 use Rattle.grid_model.specs.Facts.{DeliveredFit, AllFit, GotIsFit, IsFitAt, cause_ident, message_ident}
@@ -36,7 +36,7 @@ small-cause (cause.Holder u) h = refl
 small-cause (cause.Newer k f) h = h
 
 -- what it says is fit at its receiver, where its identifier is small
-content-fit : (d : DocumentData) (past : List Act) → IsOne d → AllDue d past → (m : ℕ) (x y : NodeId) (said : Message) → IsSaid past m x y said → is_small (message_ident said) ≡ true → is_fit_content y (view d past y) (stage (view d past y) (tx_in said)) x said ≡ true
+content-fit : (d : DocumentData) (past : List Act) → IsOne d → AllDue d past → (m : ℕ) (x y : NodeId) (said : Message) → IsSaid past m x y said → is_small (message_ident said) ≡ true → is_fit_content y (participant (view d past y)) (stage (view d past y) (tx_in said)) x said ≡ true
 content-fit d past one due m x y (message.ReadReq q) is small = request-fit d past m x y q one due is small
 content-fit d past one due m x y (message.ReadRep q) is small = and_from (is_small q.sid) _ small (reply-fit d past m x y y q due is)
 content-fit d past one due m x y (message.Prepare q) is small = prepare-fit d past one due m x y q is small

@@ -29,7 +29,7 @@ use Rattle.journal_words.specs.Journals.{Decision, commit_id, undone}
 use Rattle.grid_model.specs.Nodes.{node, journal, script_of, parts_of, parts_in, is_home}
 use Rattle.grid_model.specs.Stories.{Collecting, phase_at, is_open, is_fit_ballot, is_small_node, story, first_sid, has_voted, heard_at, with_value}
 use Rattle.script_runs.specs.Waits.{waiting}
-use Rattle.grid_model.specs.Views.{Open, Stage, Apart, Reads, Collects, Commits, stage, stage_at, view, View}
+use Rattle.grid_model.specs.Views.{Open, Stage, Apart, Reads, Collects, Commits, stage, stage_at, view, View, participant}
 use Rattle.grid_model.specs.Advances.{advance, parts_now}
 use Rattle.grid_model.specs.Fitness.{is_fit_at, is_same_ident, tx_in}
 use Rattle.grid_model.specs.Rows.{answer, row_of, reply_row, vote_row, ballot_row, decides, tells, ack_row, ask_row, greatest_vote, have_voted, are_all_among, dated}
@@ -151,7 +151,7 @@ due-ballot d before n k m t x (ballot.Yes p) o c told up got new small fit part 
       new = c.new;
     })
 
-due-vote : (d : DocumentData) (before : List Act) (n : NodeId) (k m : ℕ) (t : TxId) (x : NodeId) (b : Ballot) (g : Stage) → stage (view d before n) t ≡ g → ReadersAnswered d before → IsUp d before n → sent_at k (sent before) ≡ Some (record { from = x; to = n; message = message.Vote t b }) → is_fit_at n (view d before n) g x (message.Vote t b) ≡ true → OutsDue d (act.Got k ∷ before) n m (vote_row d.cluster t x b g)
+due-vote : (d : DocumentData) (before : List Act) (n : NodeId) (k m : ℕ) (t : TxId) (x : NodeId) (b : Ballot) (g : Stage) → stage (view d before n) t ≡ g → ReadersAnswered d before → IsUp d before n → sent_at k (sent before) ≡ Some (record { from = x; to = n; message = message.Vote t b }) → is_fit_at n (participant (view d before n)) g x (message.Vote t b) ≡ true → OutsDue d (act.Got k ∷ before) n m (vote_row d.cluster t x b g)
 due-vote d before n k m t x b (Collects o) e told up got fit = rw c.is (go (has_voted x c.story.votes) refl)
   where
     c : Opens d before n t o None
@@ -199,13 +199,13 @@ due-asked d past n m t x Apart e got = (apart got e, tt)
 pub stage-quiet : (d : DocumentData) (before : List Act) (k : ℕ) (x n : NodeId) (said : Message) (t : TxId) → sent_at k (sent before) ≡ Some (record { from = x; to = n; message = said }) → is_counted said ≡ false → stage (view d (act.Got k ∷ before) n) t ≡ stage (view d before n) t
 stage-quiet d before k x n said t got quiet = ap (λ o. stage_at n (node d before n) t (script_of t d.scripts) o) (story-quiet d before k x n said t got quiet)
 
-due-row_of : (d : DocumentData) (before : List Act) (n : NodeId) (k m : ℕ) (x : NodeId) (said : Message) → ReadersAnswered d before → IsUp d before n → sent_at k (sent before) ≡ Some (record { from = x; to = n; message = said }) → is_fit_at n (view d before n) (stage (view d before n) (tx_in said)) x said ≡ true → OutsDue d (act.Got k ∷ before) n m (row_of n (view d before n) (stage (view d before n) (tx_in said)) x said)
+due-row_of : (d : DocumentData) (before : List Act) (n : NodeId) (k m : ℕ) (x : NodeId) (said : Message) → ReadersAnswered d before → IsUp d before n → sent_at k (sent before) ≡ Some (record { from = x; to = n; message = said }) → is_fit_at n (participant (view d before n)) (stage (view d before n) (tx_in said)) x said ≡ true → OutsDue d (act.Got k ∷ before) n m (row_of n (participant (view d before n)) (view d before n).held (stage (view d before n) (tx_in said)) x said)
 due-row_of d before n k m x (message.ReadReq q) told up got fit = due-read d (act.Got k ∷ before) n m (view d before n) x q (dated q.date (commit_id (journal d before n))) refl refl refl up (record { request = q; got = got; fit = (and_parts _ _ fit).1; t = refl; op = refl; key = refl; sid = refl })
 due-row_of d before n k m x (message.ReadRep q) told up got fit =
     let same : stage (view d (act.Got k ∷ before) n) q.t ≡ stage (view d before n) q.t = stage-quiet d before k x n (message.ReadRep q) q.t got refl in
     due-reply d (act.Got k ∷ before) n m x q (stage (view d before n) q.t) same got (λ y j e here. reply-fit n (view d before n) y j x q (rw e at fit) here)
   where
-    reply-fit : (n : NodeId) (v : View) (y : Open) (j : ℕ) (x : NodeId) (q : ReadRep) → is_fit_at n v (Reads y j) x (message.ReadRep q) ≡ true → (j == q.op) ≡ true → is_same_ident q.sid y.sid ≡ true
+    reply-fit : (n : NodeId) (v : View) (y : Open) (j : ℕ) (x : NodeId) (q : ReadRep) → is_fit_at n (participant v) (Reads y j) x (message.ReadRep q) ≡ true → (j == q.op) ≡ true → is_same_ident q.sid y.sid ≡ true
     reply-fit n v y j x q fit here = grind (arith, fit, here)
 due-row_of d before n k m x (message.Prepare q) told up got fit = due-prepare d (act.Got k ∷ before) n m (view d before n) x q refl refl up got (and_parts _ _ fit).1
 due-row_of d before n k m x (message.Vote t b) told up got fit = due-vote d before n k m t x b (stage (view d before n) t) refl told up got fit
@@ -220,4 +220,4 @@ due-if_fit d past n m os true go = go refl
 due-if_fit d past n m os false go = tt
 
 pub due-answer : (d : DocumentData) (before : List Act) (n : NodeId) (k m : ℕ) (x : NodeId) (said : Message) → ReadersAnswered d before → IsUp d before n → sent_at k (sent before) ≡ Some (record { from = x; to = n; message = said }) → OutsDue d (act.Got k ∷ before) n m (answer n (view d before n) x said)
-due-answer d before n k m x said told up got = due-if_fit d (act.Got k ∷ before) n m _ (is_fit_at n (view d before n) (stage (view d before n) (tx_in said)) x said) (λ fit. due-row_of d before n k m x said told up got fit)
+due-answer d before n k m x said told up got = due-if_fit d (act.Got k ∷ before) n m _ (is_fit_at n (participant (view d before n)) (stage (view d before n) (tx_in said)) x said) (λ fit. due-row_of d before n k m x said told up got fit)

@@ -15,10 +15,10 @@ use Rattle.grid_model.specs.declared.messages.Prepare.{Prepare}
 use Rattle.grid_model.specs.Documents.{DocumentData}
 use Rattle.journal_words.specs.Journals.{ended, holder, home_of, is_commit, newer, pending}
 use Rattle.grid_model.specs.Nodes.{node, journal}
-use Rattle.grid_model.specs.Views.{View}
+use Rattle.grid_model.specs.Views.{View, participant}
 use Rattle.grid_model.specs.Advances.{to_node}
 use Rattle.grid_model.specs.Fitness.{is_fit_outcome, is_at_least, is_fit_prepare}
-use Rattle.grid_model.specs.Rows.{prepare_row, prepare_outs, judged, commit_row, abort_row, tell_outs, ask_outs, freed_by}
+use Rattle.grid_model.specs.Rows.{prepare_row, prepare_outs, judged, commit_row, abort_row, tell_outs, ask_outs, freed_by, if_pending}
 use Rattle.grid_laws.proofs.Causes.{IsUp, IsGot, Asked}
 use Rattle.grid_laws.proofs.Frames.{up-stays, same-number, in-held}
 use Rattle.grid_laws.proofs.DueActs.{OutsDue}
@@ -44,7 +44,7 @@ due-prepare_row d past n m x t a (Some o) mine up new free = tt
 due-prepare_row d past n m x t a None (Some q) up new free = ((a, free), tt)
 due-prepare_row d past n m x t a None None up new free = due-judged d past n m x t a (holder (journal d past n) t a.prepare.reads a.prepare.writes) (newer (journal d past n) a.prepare.reads a.prepare.sid) up new free refl refl
 
-pub due-prepare : (d : DocumentData) (past : List Act) (n : NodeId) (m : ℕ) (v : View) (x : NodeId) (q : Prepare) → v.journal ≡ journal d past n → v.next ≡ (node d past n).next → IsUp d past n → IsGot past n x (message.Prepare q) → is_fit_prepare d.cluster n q ≡ true → OutsDue d past n m (prepare_outs n v x q)
+pub due-prepare : (d : DocumentData) (past : List Act) (n : NodeId) (m : ℕ) (v : View) (x : NodeId) (q : Prepare) → v.journal ≡ journal d past n → v.next ≡ (node d past n).next → IsUp d past n → IsGot past n x (message.Prepare q) → is_fit_prepare d.cluster n q ≡ true → OutsDue d past n m (prepare_outs n (participant v) x q)
 due-prepare d past n m v x q is clock up got fit = rw (is, clock) (due-prepare_row d past n m x q.t (record { prepare = q; is = refl; got = got; fit = fit }) (ended q.t (journal d past n)) (pending q.t (journal d past n)) up refl refl)
 
 -- ---- an end
@@ -52,37 +52,37 @@ due-prepare d past n m v x q is clock up got fit = rw (is, clock) (due-prepare_r
 journal-ended : (d : DocumentData) (past : List Act) (n : NodeId) (t : TxId) (o : Outcome) → journal d (act.Ended n t o ∷ past) n ≡ record'.Ended t o ∷ journal d past n
 journal-ended d past n t o = rw (same-number n, journal) refl
 
-due-freed : (d : DocumentData) (past : List Act) (n : NodeId) (m : ℕ) (v : View) (t : TxId) (o : Outcome) → v.cluster ≡ d.cluster → v.journal ≡ journal d past n → v.held ≡ (node d past n).held → IsUp d past n → OutsDue d (act.Ended n t o ∷ past) n m (freed_by n v t o)
+due-freed : (d : DocumentData) (past : List Act) (n : NodeId) (m : ℕ) (v : View) (t : TxId) (o : Outcome) → v.cluster ≡ d.cluster → v.journal ≡ journal d past n → v.held ≡ (node d past n).held → IsUp d past n → OutsDue d (act.Ended n t o ∷ past) n m (freed_by n (participant v) v.held t o)
 due-freed d past n m v t o cluster is holds up =
     rw (cluster, is, holds)
     (due-release d (act.Ended n t o ∷ past) n m (record'.Ended t o ∷ journal d past n) (node d past n).held (up-stays d past (act.Ended n t o) n refl ∙ up) (journal-ended d past n t o) (λ h i. in-held d past n h i))
 
-due-freed_acked : (d : DocumentData) (past : List Act) (n : NodeId) (m : ℕ) (v : View) (t : TxId) (o : Outcome) (y : NodeId) → v.cluster ≡ d.cluster → v.journal ≡ journal d past n → v.held ≡ (node d past n).held → IsUp d past n → (k : ℕ) → OutsDue d (act.Sent k n y (message.Ack t) ∷ (act.Ended n t o ∷ past)) n m (freed_by n v t o)
+due-freed_acked : (d : DocumentData) (past : List Act) (n : NodeId) (m : ℕ) (v : View) (t : TxId) (o : Outcome) (y : NodeId) → v.cluster ≡ d.cluster → v.journal ≡ journal d past n → v.held ≡ (node d past n).held → IsUp d past n → (k : ℕ) → OutsDue d (act.Sent k n y (message.Ack t) ∷ (act.Ended n t o ∷ past)) n m (freed_by n (participant v) v.held t o)
 due-freed_acked d past n m v t o y cluster is holds up k =
     rw (cluster, is, holds)
     (due-release d (act.Sent k n y (message.Ack t) ∷ (act.Ended n t o ∷ past)) n m (record'.Ended t o ∷ journal d past n) (node d past n).held (up-stays d past (act.Ended n t o) n refl ∙ up) (journal-ended d past n t o) (λ h i. in-held d past n h i))
 
-due-ack : (d : DocumentData) (past : List Act) (n : NodeId) (m : ℕ) (v : View) (t : TxId) (f : Ident) (w : Option NodeId) → v.cluster ≡ d.cluster → v.journal ≡ journal d past n → v.held ≡ (node d past n).held → IsUp d past n → home_of t (journal d past n) ≡ w → OutsDue d (act.Ended n t (outcome.Commit f) ∷ past) n m (to_node w (message.Ack t) ++ freed_by n v t (outcome.Commit f))
+due-ack : (d : DocumentData) (past : List Act) (n : NodeId) (m : ℕ) (v : View) (t : TxId) (f : Ident) (w : Option NodeId) → v.cluster ≡ d.cluster → v.journal ≡ journal d past n → v.held ≡ (node d past n).held → IsUp d past n → home_of t (journal d past n) ≡ w → OutsDue d (act.Ended n t (outcome.Commit f) ∷ past) n m (to_node w (message.Ack t) ++ freed_by n (participant v) v.held t (outcome.Commit f))
 due-ack d past n m v t f None cluster is holds up home = due-freed d past n m v t (outcome.Commit f) cluster is holds up
 due-ack d past n m v t f (Some y) cluster is holds up home = (
   (rw (journal-ended d past n t (outcome.Commit f)) (rw (same-number t) refl), rw (journal-ended d past n t (outcome.Commit f)) home),
   due-freed_acked d past n (m + 1) v t (outcome.Commit f) y cluster is holds up m,
 )
 
-due-acked_again : (d : DocumentData) (past : List Act) (n : NodeId) (m : ℕ) (t : TxId) (w : Option NodeId) → is_commit (ended t (journal d past n)) ≡ true → home_of t (journal d past n) ≡ w → OutsDue d past n m (to_node w (message.Ack t))
+due-acked_again : (d : DocumentData) (past : List Act) (n : NodeId) (m : ℕ) (t : TxId) (w : Option NodeId) → is_commit (ended t (journal d past n)) ≡ true → home_of t (journal d past n) ≡ w → OutsDue d past n m (to_node w (message.Ack t) ++ [])
 due-acked_again d past n m t None done home = tt
 due-acked_again d past n m t (Some y) done home = ((done, home), tt)
 
-due-commit : (d : DocumentData) (past : List Act) (n : NodeId) (m : ℕ) (v : View) (x : NodeId) (t : TxId) (f : Ident) (p : Option Ident) (b : Bool) (w : Option NodeId) → v.cluster ≡ d.cluster → v.journal ≡ journal d past n → v.held ≡ (node d past n).held → IsUp d past n → IsGot past n x (message.Tell t (outcome.Commit f)) → pending t (journal d past n) ≡ p → is_commit (ended t (journal d past n)) ≡ b → home_of t (journal d past n) ≡ w → is_at_least p f ≡ true → OutsDue d past n m (commit_row n t f p b (to_node w (message.Ack t)) (freed_by n v t (outcome.Commit f)))
+due-commit : (d : DocumentData) (past : List Act) (n : NodeId) (m : ℕ) (v : View) (x : NodeId) (t : TxId) (f : Ident) (p : Option Ident) (b : Bool) (w : Option NodeId) → v.cluster ≡ d.cluster → v.journal ≡ journal d past n → v.held ≡ (node d past n).held → IsUp d past n → IsGot past n x (message.Tell t (outcome.Commit f)) → pending t (journal d past n) ≡ p → is_commit (ended t (journal d past n)) ≡ b → home_of t (journal d past n) ≡ w → is_at_least p f ≡ true → OutsDue d past n m (commit_row n t f p b (to_node w (message.Ack t)) ++ if_pending p (freed_by n (participant v) v.held t (outcome.Commit f)))
 due-commit d past n m v x t f (Some p) b w cluster is holds up got pends done home fit = ((refl, (up, record { from = x; got = got; fit = rw pends fit })), due-ack d past n m v t f w cluster is holds up home)
 due-commit d past n m v x t f None true w cluster is holds up got pends done home fit = due-acked_again d past n m t w done home
 due-commit d past n m v x t f None false w cluster is holds up got pends done home fit = tt
 
-due-abort : (d : DocumentData) (past : List Act) (n : NodeId) (m : ℕ) (v : View) (x : NodeId) (t : TxId) (p : Option Ident) → v.cluster ≡ d.cluster → v.journal ≡ journal d past n → v.held ≡ (node d past n).held → IsUp d past n → IsGot past n x (message.Tell t outcome.Abort) → pending t (journal d past n) ≡ p → OutsDue d past n m (abort_row n t p (freed_by n v t outcome.Abort))
+due-abort : (d : DocumentData) (past : List Act) (n : NodeId) (m : ℕ) (v : View) (x : NodeId) (t : TxId) (p : Option Ident) → v.cluster ≡ d.cluster → v.journal ≡ journal d past n → v.held ≡ (node d past n).held → IsUp d past n → IsGot past n x (message.Tell t outcome.Abort) → pending t (journal d past n) ≡ p → OutsDue d past n m (abort_row n t p ++ if_pending p (freed_by n (participant v) v.held t outcome.Abort))
 due-abort d past n m v x t (Some p) cluster is holds up got pends = ((refl, (up, record { from = x; got = got; fit = rw pends refl })), due-freed d past n m v t outcome.Abort cluster is holds up)
 due-abort d past n m v x t None cluster is holds up got pends = tt
 
-pub due-tell : (d : DocumentData) (past : List Act) (n : NodeId) (m : ℕ) (v : View) (x : NodeId) (t : TxId) (o : Outcome) → v.cluster ≡ d.cluster → v.journal ≡ journal d past n → v.held ≡ (node d past n).held → IsUp d past n → IsGot past n x (message.Tell t o) → is_fit_outcome (pending t (journal d past n)) o ≡ true → OutsDue d past n m (tell_outs n v t o)
+pub due-tell : (d : DocumentData) (past : List Act) (n : NodeId) (m : ℕ) (v : View) (x : NodeId) (t : TxId) (o : Outcome) → v.cluster ≡ d.cluster → v.journal ≡ journal d past n → v.held ≡ (node d past n).held → IsUp d past n → IsGot past n x (message.Tell t o) → is_fit_outcome (pending t (journal d past n)) o ≡ true → OutsDue d past n m (tell_outs n (participant v) v.held t o)
 due-tell d past n m v x t (outcome.Commit f) cluster is holds up got fit =
     let same : journal d past n ≡ v.journal = sym is in
     due-commit d past n m v x t f (pending t v.journal) (is_commit (ended t v.journal)) (home_of t v.journal) cluster is holds up got (ap (pending t) same) (ap (λ r. is_commit (ended t r)) same) (ap (home_of t) same) (rw is (grind (arith, fit)))
@@ -95,5 +95,5 @@ due-asks d past n m t true (Some y) pends home = ((pends, home), tt)
 due-asks d past n m t true None pends home = tt
 due-asks d past n m t false w pends home = tt
 
-pub due-ask : (d : DocumentData) (past : List Act) (n : NodeId) (m : ℕ) (v : View) (t : TxId) → v.journal ≡ journal d past n → OutsDue d past n m (ask_outs v t)
+pub due-ask : (d : DocumentData) (past : List Act) (n : NodeId) (m : ℕ) (v : View) (t : TxId) → v.journal ≡ journal d past n → OutsDue d past n m (ask_outs (participant v) t)
 due-ask d past n m v t is = rw is (due-asks d past n m t (is_some (pending t (journal d past n))) (home_of t (journal d past n)) refl refl)

@@ -15,9 +15,10 @@ use Rattle.grid_model.specs.declared.items.Item.TheVariants as item
 use Rattle.grid_model.specs.Documents.{DocumentData, events_of, number_order, script_numbers}
 use Rattle.grid_model.specs.Histories.{after}
 use Rattle.grid_model.specs.Nodes.{node, script_of}
-use Rattle.grid_model.specs.Views.{view}
-use Rattle.grid_model.specs.Rows.{answer, begin_outs}
-use Rattle.grid_model.specs.Schedules.{Choice, acts_of, events_in, flag_of, lost_at, next_number, opened_row, row, start_row}
+use Rattle.grid_model.specs.Views.{view, stage, participant}
+use Rattle.grid_model.specs.Rows.{answer, begin_outs, ask_outs, retry_row}
+use Rattle.grid_model.specs.Schedules.{Choice, acts_of, events_in, flag_of, lost_at, next_number, opened_row, row, start_row, begin_row, deliver_row, drop_row, next_left, next_row, or_void, retry_at}
+use Rattle.grid_model.specs.Stories.{story}
 use Rattle.grid_model.specs.Runs.{Rows, IsRun}
 use Rattle.grid_model.proofs.EventShapes.{Shape, idle, arms, crashes, restarts, begins, delivers, again, acts_by, by-shape}
 use Rattle.grid_laws.proofs.ActsLow.{weight, proposals}
@@ -52,7 +53,7 @@ one-shape d past i c (arms n k how is) = omega arith
 one-shape d past i c (crashes n up) = omega arith
 one-shape d past i c (restarts n up) = one-restart d past n (flag_of (node d past n).doubt c.finds) c.opens
 one-shape d past i c (begins s is new up) =
-    let os : List Out = begin_outs s.home (view d past s.home) s in
+    let os : List Out = begin_outs s.home (participant (view d past s.home)) s in
     one-acts past c s.home os (from-none os (none-begin s.home (view d past s.home) s))
 one-shape d past i c (delivers m e is up) =
     let os : List Out = answer e.to (view d past e.to) e.from e.message in

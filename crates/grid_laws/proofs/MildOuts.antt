@@ -31,10 +31,10 @@ use Rattle.grid_model.specs.declared.messages.Message.TheVariants as message
 use Rattle.grid_model.specs.declared.messages.ReadReq.{ReadReq}
 use Rattle.grid_model.specs.declared.stories.HeldRead.{HeldRead}
 use Rattle.journal_words.specs.Journals.{ended, is_commit, pending, home_of}
-use Rattle.grid_model.specs.Views.{Stage, View, Open, Reads, Collects, Commits, Apart, stage, view}
+use Rattle.grid_model.specs.Views.{Stage, View, Open, Reads, Collects, Commits, Apart, stage, view, participant}
 use Rattle.grid_model.specs.Advances.{advance_end, parts_now, prepares, request_of, to_node}
 use Rattle.script_runs.specs.Walks.{op_at}
-use Rattle.grid_model.specs.Rows.{greatest_vote, have_voted, not_voted, not_among, ack_row, ask_outs, ask_row, ballot_row, commit_row, abort_row, decides, freed_by, full_row, read_row, release, retry_row, tell_outs, tells, vote_row}
+use Rattle.grid_model.specs.Rows.{greatest_vote, have_voted, not_voted, not_among, ack_row, ask_outs, ask_row, ballot_row, commit_row, abort_row, decides, freed_by, full_row, read_row, release, retry_row, tell_outs, tells, vote_row, if_pending}
 
 -- an act that begins nothing, takes no reply, shows no own read and proposes nothing (as a stop may)
 abbrev pub is_mild : Act → Bool
@@ -71,7 +71,7 @@ mild-tells : (t : TxId) (o : Outcome) (ns : List NodeId) → mild_outs (tells t 
 mild-tells t o [] = refl
 mild-tells t o (n ∷ ns) = mild-tells t o ns
 
-pub mild-read : (n : NodeId) (v : View) (x : NodeId) (q : ReadReq) (sid : Ident) → mild_outs (read_row n v x q sid) ≡ true
+pub mild-read : (n : NodeId) (v : View) (x : NodeId) (q : ReadReq) (sid : Ident) → mild_outs (read_row n (participant v) x q sid) ≡ true
 mild-read n v x q sid = grind arith
 
 mild-if : (b : Bool) (os : List Out) → mild_outs os ≡ true → mild_outs (if b then os else []) ≡ true
@@ -93,18 +93,18 @@ mild-to_node : (w : Option NodeId) (said : Message) → mild_outs (to_node w sai
 mild-to_node None said = refl
 mild-to_node (Some n) said = refl
 
-mild-commit : (n : NodeId) (t : TxId) (f : Ident) (p : Option Ident) (b : Bool) (ack freed : List Out) → mild_outs ack ≡ true → mild_outs freed ≡ true → mild_outs (commit_row n t f p b ack freed) ≡ true
+mild-commit : (n : NodeId) (t : TxId) (f : Ident) (p : Option Ident) (b : Bool) (ack freed : List Out) → mild_outs ack ≡ true → mild_outs freed ≡ true → mild_outs (commit_row n t f p b ack ++ if_pending p freed) ≡ true
 mild-commit n t f (Some p) b ack freed h k = mild-append ack freed h k
-mild-commit n t f None true ack freed h k = h
+mild-commit n t f None true ack freed h k = mild-append ack [] h refl
 mild-commit n t f None false ack freed h k = refl
 
-mild-abort : (n : NodeId) (t : TxId) (p : Option Ident) (freed : List Out) → mild_outs freed ≡ true → mild_outs (abort_row n t p freed) ≡ true
+mild-abort : (n : NodeId) (t : TxId) (p : Option Ident) (freed : List Out) → mild_outs freed ≡ true → mild_outs (abort_row n t p ++ if_pending p freed) ≡ true
 mild-abort n t (Some p) freed k = k
 mild-abort n t None freed k = refl
 
-pub mild-tell : (n : NodeId) (v : View) (t : TxId) (o : Outcome) → mild_outs (tell_outs n v t o) ≡ true
-mild-tell n v t (outcome.Commit f) = mild-commit n t f (pending t v.journal) (is_commit (ended t v.journal)) _ (freed_by n v t (outcome.Commit f)) (mild-to_node (home_of t v.journal) (message.Ack t)) (mild-release v.cluster (record'.Ended t (outcome.Commit f) ∷ v.journal) n v.held)
-mild-tell n v t outcome.Abort = mild-abort n t (pending t v.journal) (freed_by n v t outcome.Abort) (mild-release v.cluster (record'.Ended t outcome.Abort ∷ v.journal) n v.held)
+pub mild-tell : (n : NodeId) (v : View) (t : TxId) (o : Outcome) → mild_outs (tell_outs n (participant v) v.held t o) ≡ true
+mild-tell n v t (outcome.Commit f) = mild-commit n t f (pending t v.journal) (is_commit (ended t v.journal)) _ (freed_by n (participant v) v.held t (outcome.Commit f)) (mild-to_node (home_of t v.journal) (message.Ack t)) (mild-release v.cluster (record'.Ended t (outcome.Commit f) ∷ v.journal) n v.held)
+mild-tell n v t outcome.Abort = mild-abort n t (pending t v.journal) (freed_by n (participant v) v.held t outcome.Abort) (mild-release v.cluster (record'.Ended t outcome.Abort ∷ v.journal) n v.held)
 
 pub mild-ack : (t : TxId) (x : NodeId) (g : Stage) → mild_outs (ack_row t x g) ≡ true
 mild-ack t x g = grind arith
@@ -128,7 +128,7 @@ mild-retry c t (Collects x) = mild-prepares c x (not_voted (parts_now c x) x.vot
 mild-retry c t (Commits y acks) = mild-tells t (outcome.Commit y.final) (not_among y.parts acks)
 mild-retry c t Apart = refl
 
-mild-asks : (v : View) (t : TxId) → mild_outs (ask_outs v t) ≡ true
+mild-asks : (v : View) (t : TxId) → mild_outs (ask_outs (participant v) t) ≡ true
 mild-asks v t = mild-if (is_some (pending t v.journal)) _ (mild-to_node (home_of t v.journal) (message.Ask t))
 
 -- what a home sends again, or what a node asks

@@ -20,7 +20,7 @@ use Rattle.grid_model.specs.declared.messages.ReadRep.{ReadRep}
 use Rattle.journal_words.specs.Journals.{commit_id}
 use Rattle.grid_model.specs.Stories.{first_sid}
 use Rattle.script_runs.specs.Waits.{waiting}
-use Rattle.grid_model.specs.Views.{stage, Stage, View, Open, Reads, Collects, Commits, Apart}
+use Rattle.grid_model.specs.Views.{stage, Stage, View, Open, Reads, Collects, Commits, Apart, participant}
 use Rattle.grid_model.specs.Advances.{advance, advance_end, owns}
 use Rattle.script_runs.specs.Walks.{own_reads, unread}
 use Rattle.grid_model.specs.Fitness.{is_fit_at, tx_in}
@@ -125,7 +125,7 @@ none-reply c q Apart = refl
 pub none-again : (d : DocumentData) (past : List Act) (n : NodeId) (os : List Out) → IsAgain d past n os → outs_weight os ≡ 0
 none-again d past n os is = none-mild os (mild-again d past n os is)
 
-pub none-begin : (n : NodeId) (v : View) (s : ScriptData) → outs_weight (begin_outs n v s) ≡ 0
+pub none-begin : (n : NodeId) (v : View) (s : ScriptData) → outs_weight (begin_outs n (participant v) s) ≡ 0
 none-begin n v s =
     let x : Open = begun_at s (commit_id v.journal) in
     none-behind (out.Act (act.Began s.number n (commit_id v.journal))) (advance v.cluster x 0) refl (none-advance v.cluster x 0)
@@ -145,12 +145,12 @@ one-prepare n x t None None u y p = one-judged n x t u y p
 pub from-none : (os : List Out) → outs_weight os ≡ 0 → outs_weight os ≤ 1
 from-none os h = omega (arith, h)
 
-one-row_of : (n : NodeId) (v : View) (g : Stage) (x : NodeId) (said : Message) → outs_weight (row_of n v g x said) ≤ 1
-one-row_of n v g x (message.ReadReq q) = from-none (row_of n v g x (message.ReadReq q)) (none-mild (row_of n v g x (message.ReadReq q)) (mild-read n v x q _))
+one-row_of : (n : NodeId) (v : View) (g : Stage) (x : NodeId) (said : Message) → outs_weight (row_of n (participant v) v.held g x said) ≤ 1
+one-row_of n v g x (message.ReadReq q) = from-none (row_of n (participant v) v.held g x (message.ReadReq q)) (none-mild (row_of n (participant v) v.held g x (message.ReadReq q)) (mild-read n v x q _))
 one-row_of n v g x (message.ReadRep q) = from-none (reply_row v.cluster q g) (none-reply v.cluster q g)
 one-row_of n v g x (message.Prepare q) = one-prepare n x q.t _ _ _ _ _
 one-row_of n v g x (message.Vote t b) = from-none (vote_row v.cluster t x b g) (none-mild (vote_row v.cluster t x b g) (mild-vote v.cluster t x b g))
-one-row_of n v g x (message.Tell t o) = from-none (tell_outs n v t o) (none-mild (tell_outs n v t o) (mild-tell n v t o))
+one-row_of n v g x (message.Tell t o) = from-none (tell_outs n (participant v) v.held t o) (none-mild (tell_outs n (participant v) v.held t o) (mild-tell n v t o))
 one-row_of n v g x (message.Ack t) = from-none (ack_row t x g) (none-mild (ack_row t x g) (mild-ack t x g))
 one-row_of n v g x (message.Ask t) = from-none (ask_row t x g) (none-mild (ask_row t x g) (mild-ask t x g))
 
@@ -160,4 +160,4 @@ one-if false os h = omega arith
 
 -- the answer to a message proposes at most once
 pub one-answer : (n : NodeId) (v : View) (x : NodeId) (said : Message) → outs_weight (answer n v x said) ≤ 1
-one-answer n v x said = one-if (is_fit_at n v (stage v (tx_in said)) x said) _ (one-row_of n v (stage v (tx_in said)) x said)
+one-answer n v x said = one-if (is_fit_at n (participant v) (stage v (tx_in said)) x said) _ (one-row_of n v (stage v (tx_in said)) x said)

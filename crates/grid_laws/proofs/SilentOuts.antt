@@ -18,7 +18,7 @@ use Rattle.grid_model.specs.declared.messages.Message.{Message}
 use Rattle.grid_model.specs.declared.messages.Message.TheVariants as message
 use Rattle.grid_model.specs.Documents.{DocumentData}
 use Rattle.grid_model.specs.Nodes.{script_of}
-use Rattle.grid_model.specs.Views.{stage, Stage, View, Open}
+use Rattle.grid_model.specs.Views.{stage, Stage, View, Open, participant}
 use Rattle.grid_model.specs.Advances.{advance_end}
 use Rattle.grid_model.specs.Fitness.{is_fit_at, tx_in}
 use Rattle.grid_model.specs.Rows.{answer, ack_row, ask_row, judged, prepare_row, row_of, tell_outs, vote_row}
@@ -102,17 +102,17 @@ abbrev pub is_reply : Message → Bool
 is_reply (message.ReadRep q) = true
 is_reply said = false
 
-silent-row_of : (n : NodeId) (v : View) (g : Stage) (x : NodeId) (said : Message) → is_reply said ≡ false → silent_outs (row_of n v g x said) ≡ true
-silent-row_of n v g x (message.ReadReq q) h = mild-silent (row_of n v g x (message.ReadReq q)) (mild-read n v x q _)
+silent-row_of : (n : NodeId) (v : View) (g : Stage) (x : NodeId) (said : Message) → is_reply said ≡ false → silent_outs (row_of n (participant v) v.held g x said) ≡ true
+silent-row_of n v g x (message.ReadReq q) h = mild-silent (row_of n (participant v) v.held g x (message.ReadReq q)) (mild-read n v x q _)
 silent-row_of n v g x (message.ReadRep q) h = cc
 silent-row_of n v g x (message.Prepare q) h = silent-prepare n x q.t _ _ _ _ _
 silent-row_of n v g x (message.Vote t b) h = mild-silent (vote_row v.cluster t x b g) (mild-vote v.cluster t x b g)
-silent-row_of n v g x (message.Tell t o) h = mild-silent (tell_outs n v t o) (mild-tell n v t o)
+silent-row_of n v g x (message.Tell t o) h = mild-silent (tell_outs n (participant v) v.held t o) (mild-tell n v t o)
 silent-row_of n v g x (message.Ack t) h = mild-silent (ack_row t x g) (mild-ack t x g)
 silent-row_of n v g x (message.Ask t) h = mild-silent (ask_row t x g) (mild-ask t x g)
 
 pub silent-answer : (n : NodeId) (v : View) (x : NodeId) (said : Message) → is_reply said ≡ false → silent_outs (answer n v x said) ≡ true
-silent-answer n v x said h = silent-if (is_fit_at n v (stage v (tx_in said)) x said) _ (silent-row_of n v (stage v (tx_in said)) x said h)
+silent-answer n v x said h = silent-if (is_fit_at n (participant v) (stage v (tx_in said)) x said) _ (silent-row_of n v (stage v (tx_in said)) x said h)
 
 -- what a home sends again, or what a node asks
 pub silent-again : (d : DocumentData) (past : List Act) (n : NodeId) (os : List Out) → IsAgain d past n os → silent_outs os ≡ true

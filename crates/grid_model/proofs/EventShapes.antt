@@ -16,7 +16,7 @@ use Rattle.grid_model.specs.Documents.{DocumentData}
 use Rattle.grid_model.specs.Histories.{sent, sent_at}
 use Rattle.grid_model.specs.Nodes.{node, script_of}
 use Rattle.grid_model.specs.Stories.{story}
-use Rattle.grid_model.specs.Views.{view, stage}
+use Rattle.grid_model.specs.Views.{participant, view, stage}
 use Rattle.grid_model.specs.Rows.{answer, begin_outs, retry_row, ask_outs}
 use Rattle.grid_model.specs.Schedules.{Choice, acts_of, begin_row, deliver_row, drop_row, flag_of, next_left, next_row, opened_row, or_void, retry_at, row}
 use Rattle.grid_model.proofs.Undecided.{script-number}
@@ -40,7 +40,7 @@ idle-pass f void missed dropped (a ∷ acts) is = cc
 -- what a home sends again, or what a node asks
 pub data IsAgain (d : DocumentData) (past : List Act) (n : NodeId) (os : List Out) : Type 0 where
   retries : (t : TxId) → os ≡ retry_row d.cluster t (stage (view d past n) t) → IsAgain d past n os
-  asks : (t : TxId) → os ≡ ask_outs (view d past n) t → IsAgain d past n os
+  asks : (t : TxId) → os ≡ ask_outs (participant (view d past n)) t → IsAgain d past n os
 
 -- an item is an event of one of these shapes behind a past
 pub data Shape (d : DocumentData) (past : List Act) (i : Item) : Type 0 where
@@ -60,7 +60,7 @@ acts_by d past i c (arms n k how is) = act.Armed n k how ∷ []
 acts_by d past i c (crashes n up) = act.Down n None ∷ []
 acts_by d past i c (restarts n up) =
     if c.opens then opened_row d past n (flag_of (node d past n).doubt c.finds) else act.StillDown n ∷ []
-acts_by d past i c (begins s is new up) = acts_of past c s.home (begin_outs s.home (view d past s.home) s)
+acts_by d past i c (begins s is new up) = acts_of past c s.home (begin_outs s.home (participant (view d past s.home)) s)
 acts_by d past i c (delivers m e is up) =
     act.Got m ∷ acts_of past c e.to (answer e.to (view d past e.to) e.from e.message)
 acts_by d past i c (again n os up is) = acts_of past c n os
@@ -80,7 +80,7 @@ none d past i = record { shape = idle [] refl; same = λ c. refl }
 
 begin-shaped : (d : DocumentData) (past : List Act) (i : Item) (s : ScriptData) (b : Bool)
     → script_of s.number d.scripts ≡ Some s → story d past s.number ≡ None → (node d past s.home).up ≡ b
-    → IsShaped d past i (λ c. if b then acts_of past c s.home (begin_outs s.home (view d past s.home) s) else act.Void 2 ∷ [])
+    → IsShaped d past i (λ c. if b then acts_of past c s.home (begin_outs s.home (participant (view d past s.home)) s) else act.Void 2 ∷ [])
 begin-shaped d past i s true is new up = record { shape = begins s is new up; same = λ c. refl }
 begin-shaped d past i s false is new up = alone d past i (act.Void 2) refl
 
@@ -147,7 +147,7 @@ row-shaped d past (item.Drop m) = drop_row-shaped d past (item.Drop m) m (sent_a
 row-shaped d past (item.Next k) = next_row-shaped d past (item.Next k) (next_left past)
 row-shaped d past (item.Retry t) = retry_at-shaped d past (item.Retry t) t (script_of t d.scripts)
 row-shaped d past (item.Ask n t) =
-    again-shaped d past (item.Ask n t) n (ask_outs (view d past n) t) 6 6 (node d past n).up refl (asks t refl)
+    again-shaped d past (item.Ask n t) n (ask_outs (participant (view d past n)) t) 6 6 (node d past n).up refl (asks t refl)
 row-shaped d past (item.Crash n how) = crash_row-shaped d past (item.Crash n how) n (node d past n).up refl
 row-shaped d past (item.Fuse n k how) = record { shape = arms n k how refl; same = λ c. refl }
 row-shaped d past (item.Restart n) = restart_row-shaped d past (item.Restart n) n (node d past n).up refl

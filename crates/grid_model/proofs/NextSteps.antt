@@ -31,11 +31,11 @@ use Rattle.journal_words.specs.Journals.{Decision, commit_id, floor, is_clear, u
 use Rattle.grid_model.specs.Nodes.{node, is_home, journal, script_of}
 use Rattle.grid_model.specs.Stories.{story, has_voted, first_sid}
 use Rattle.script_runs.specs.Waits.{waiting}
-use Rattle.grid_model.specs.Views.{View, Open, Stage, Apart, Reads, Collects, Commits, view, stage, stage_by, open_stage}
+use Rattle.grid_model.specs.Views.{View, Open, Stage, Apart, Reads, Collects, Commits, view, stage, stage_by, open_stage, participant}
 use Rattle.grid_model.specs.Advances.{advance, advance_end, request_of, to_node, prepares, prepare_for, date_by, owns, parts_now}
 use Rattle.script_runs.specs.Walks.{own_reads, unread}
 use Rattle.grid_model.specs.Fitness.{is_fit, is_fit_at, tx_in}
-use Rattle.grid_model.specs.Rows.{release, served, ceiling_of, ceilings, raises, answered, read_row, version_for, dated, reply_row, prepare_row, tells, have_voted, decides, greatest_vote, ballot_row, vote_row, are_all_among, ack_row, ask_row, commit_row, abort_row, tell_outs, freed_by, row_of, answer, begin_outs, begun_at, retry_row, not_voted, not_among, ask_outs}
+use Rattle.grid_model.specs.Rows.{release, served, ceiling_of, ceilings, raises, answered, read_row, version_for, dated, reply_row, prepare_row, tells, have_voted, decides, greatest_vote, ballot_row, vote_row, are_all_among, ack_row, ask_row, commit_row, abort_row, tell_outs, freed_by, row_of, answer, begin_outs, begun_at, retry_row, not_voted, not_among, ask_outs, if_pending}
 use Rattle.grid_model.specs.Schedules.{numbered}
 use Rattle.grid_model.specs.NextViews.{is_running, OwnDecisions, behind, behind_all, heard_view, next_view, changed_open, is_collects, desk_heard, with_yes}
 use Rattle.grid_model.proofs.ViewSteps.{here, step-began, step-decided}
@@ -97,7 +97,7 @@ retry-plain d n c t Apart = refl
 
 -- ---- the server's and the participant's rows
 
-read-plain : (d : DocumentData) (n : NodeId) (v : View) (x : NodeId) (q : ReadReq) (sid : Ident) → IsTrue (are_plain d n true (read_row n v x q sid))
+read-plain : (d : DocumentData) (n : NodeId) (v : View) (x : NodeId) (q : ReadReq) (sid : Ident) → IsTrue (are_plain d n true (read_row n (participant v) x q sid))
 read-plain d n v x q sid =
     plain-append d n true (ceilings n (floor v.journal) sid) (raises n v.next sid ++ answered (is_clear sid v.journal) n x q sid (version_for v.cluster v.journal q.key sid))
     (above (nat_lt (floor v.journal) sid))
@@ -130,18 +130,18 @@ prepare-plain d n x t None None (Some u) y p = refl
 prepare-plain d n x t None None None (Some y) p = refl
 prepare-plain d n x t None None None None p = rw (here n) refl
 
-commit-plain : (d : DocumentData) (n : NodeId) (t : TxId) (f : Ident) (mine : Option Ident) (done : Bool) (ack freed : List Out) → IsTrue (are_plain d n true ack) → IsTrue (are_plain d n true freed) → IsTrue (are_plain d n true (commit_row n t f mine done ack freed))
+commit-plain : (d : DocumentData) (n : NodeId) (t : TxId) (f : Ident) (mine : Option Ident) (done : Bool) (ack freed : List Out) → IsTrue (are_plain d n true ack) → IsTrue (are_plain d n true freed) → IsTrue (are_plain d n true (commit_row n t f mine done ack ++ if_pending mine freed))
 commit-plain d n t f (Some p) done ack freed is are = rw (here n) (plain-append d n true ack freed is are)
-commit-plain d n t f None true ack freed is are = is
+commit-plain d n t f None true ack freed is are = plain-append d n true ack [] is refl
 commit-plain d n t f None false ack freed is are = refl
 
-abort-plain : (d : DocumentData) (n : NodeId) (t : TxId) (mine : Option Ident) (freed : List Out) → IsTrue (are_plain d n true freed) → IsTrue (are_plain d n true (abort_row n t mine freed))
+abort-plain : (d : DocumentData) (n : NodeId) (t : TxId) (mine : Option Ident) (freed : List Out) → IsTrue (are_plain d n true freed) → IsTrue (are_plain d n true (abort_row n t mine ++ if_pending mine freed))
 abort-plain d n t (Some p) freed are = rw (here n) are
 abort-plain d n t None freed are = refl
 
-tell-plain : (d : DocumentData) (n : NodeId) (v : View) (t : TxId) (o : Outcome) → IsTrue (are_plain d n true (tell_outs n v t o))
-tell-plain d n v t (outcome.Commit f) = commit-plain d n t f (pending t v.journal) (is_commit (ended t v.journal)) (to_node (home_of t v.journal) (message.Ack t)) (freed_by n v t (outcome.Commit f)) (to-plain d n true (home_of t v.journal) (message.Ack t)) (release-plain d n v.cluster (record'.Ended t (outcome.Commit f) ∷ v.journal) v.held)
-tell-plain d n v t outcome.Abort = abort-plain d n t (pending t v.journal) (freed_by n v t outcome.Abort) (release-plain d n v.cluster (record'.Ended t outcome.Abort ∷ v.journal) v.held)
+tell-plain : (d : DocumentData) (n : NodeId) (v : View) (t : TxId) (o : Outcome) → IsTrue (are_plain d n true (tell_outs n (participant v) v.held t o))
+tell-plain d n v t (outcome.Commit f) = commit-plain d n t f (pending t v.journal) (is_commit (ended t v.journal)) (to_node (home_of t v.journal) (message.Ack t)) (freed_by n (participant v) v.held t (outcome.Commit f)) (to-plain d n true (home_of t v.journal) (message.Ack t)) (release-plain d n v.cluster (record'.Ended t (outcome.Commit f) ∷ v.journal) v.held)
+tell-plain d n v t outcome.Abort = abort-plain d n t (pending t v.journal) (freed_by n (participant v) v.held t outcome.Abort) (release-plain d n v.cluster (record'.Ended t outcome.Abort ∷ v.journal) v.held)
 
 -- ---- the table
 
@@ -204,7 +204,7 @@ vote-given d n v c t x (ballot.Yes p) (Collects o) desk = go (has_voted x o.vote
     })
 vote-given d n v c t x b s desk = inl refl
 
-row-given : (d : DocumentData) (past : List Act) (n x : NodeId) (said : Message) → OwnDecisions d past n → Given d n (view d past n) (row_of n (view d past n) (stage (view d past n) (tx_in said)) x said)
+row-given : (d : DocumentData) (past : List Act) (n x : NodeId) (said : Message) → OwnDecisions d past n → Given d n (view d past n) (row_of n (participant (view d past n)) (view d past n).held (stage (view d past n) (tx_in said)) x said)
 row-given d past n x (message.ReadReq q) own = inl (read-plain d n (view d past n) x q (dated q.date (commit_id (journal d past n))))
 row-given d past n x (message.ReadRep q) own = inl (reply-plain d n d.cluster q (stage (view d past n) q.t))
 row-given d past n x (message.Prepare q) own = inl (prepare-plain d n x q.t (ended q.t (journal d past n)) (pending q.t (journal d past n)) (holder (journal d past n) q.t q.reads q.writes) (newer (journal d past n) q.reads q.sid) (1 + max (node d past n).next q.sid))
@@ -214,9 +214,9 @@ row-given d past n x (message.Ack t) own = inl (ack-plain d n t x (stage (view d
 row-given d past n x (message.Ask t) own = inl (ask-plain d n t x (stage (view d past n) t))
 
 pub answer-given : (d : DocumentData) (past : List Act) (n x : NodeId) (said : Message) → OwnDecisions d past n → Given d n (view d past n) (answer n (view d past n) x said)
-answer-given d past n x said own = go (is_fit_at n (view d past n) (stage (view d past n) (tx_in said)) x said)
+answer-given d past n x said own = go (is_fit_at n (participant (view d past n)) (stage (view d past n) (tx_in said)) x said)
   where
-    go : (fit : Bool) → Given d n (view d past n) (if fit then row_of n (view d past n) (stage (view d past n) (tx_in said)) x said else [])
+    go : (fit : Bool) → Given d n (view d past n) (if fit then row_of n (participant (view d past n)) (view d past n).held (stage (view d past n) (tx_in said)) x said else [])
     go true = row-given d past n x said own
     go false = inl refl
 
@@ -250,7 +250,7 @@ deliver-view d past n x m k said is own = elim (answer-given d past n x said own
 ]
 
 -- a transaction begins
-pub begin-view : (d : DocumentData) (past : List Act) (n : NodeId) (k : ℕ) (s : ScriptData) → script_of s.number d.scripts ≡ Some s → s.home ≡ n → view d (after past (numbered k n (begin_outs n (view d past n) s))) n ≡ next_view n (view d past n) (event.Begin s) (begin_outs n (view d past n) s)
+pub begin-view : (d : DocumentData) (past : List Act) (n : NodeId) (k : ℕ) (s : ScriptData) → script_of s.number d.scripts ≡ Some s → s.home ≡ n → view d (after past (numbered k n (begin_outs n (participant (view d past n)) s))) n ≡ next_view n (view d past n) (event.Begin s) (begin_outs n (participant (view d past n)) s)
 begin-view d past n k s script home =
     plain-view d (act.Began s.number n (commit_id (journal d past n)) ∷ past) n false None (Some s) k (advance d.cluster (begun_at s (commit_id (journal d past n))) 0) (advance-plain d n false d.cluster (begun_at s (commit_id (journal d past n))) 0) (λ is. never is)
     ∙ ap (λ w. behind_all None (Some s) w (advance d.cluster (begun_at s (commit_id (journal d past n))) 0)) (step-began d past n n s (commit_id (journal d past n)) None script home)
@@ -259,7 +259,7 @@ begin-view d past n k s script home =
 pub retry-view : (d : DocumentData) (past : List Act) (n : NodeId) (k : ℕ) (t : TxId) → view d (after past (numbered k n (retry_row d.cluster t (stage (view d past n) t)))) n ≡ next_view n (view d past n) (event.Retry t) (retry_row d.cluster t (stage (view d past n) t))
 retry-view d past n k t = plain-view d past n false None None k (retry_row d.cluster t (stage (view d past n) t)) (retry-plain d n d.cluster t (stage (view d past n) t)) (λ is. never is)
 
-pub asks-plain : (d : DocumentData) (n : NodeId) (v : View) (t : TxId) → IsTrue (are_plain d n false (ask_outs v t))
+pub asks-plain : (d : DocumentData) (n : NodeId) (v : View) (t : TxId) → IsTrue (are_plain d n false (ask_outs (participant v) t))
 asks-plain d n v t = go (is_some (pending t v.journal))
   where
     go : (b : Bool) → IsTrue (are_plain d n false (if b then to_node (home_of t v.journal) (message.Ask t) else []))
@@ -267,5 +267,5 @@ asks-plain d n v t = go (is_some (pending t v.journal))
     go false = refl
 
 -- a participant asks
-pub ask-view : (d : DocumentData) (past : List Act) (n : NodeId) (k : ℕ) (t : TxId) → view d (after past (numbered k n (ask_outs (view d past n) t))) n ≡ next_view n (view d past n) (event.Ask t) (ask_outs (view d past n) t)
-ask-view d past n k t = plain-view d past n false None None k (ask_outs (view d past n) t) (asks-plain d n (view d past n) t) (λ is. never is)
+pub ask-view : (d : DocumentData) (past : List Act) (n : NodeId) (k : ℕ) (t : TxId) → view d (after past (numbered k n (ask_outs (participant (view d past n)) t))) n ≡ next_view n (view d past n) (event.Ask t) (ask_outs (participant (view d past n)) t)
+ask-view d past n k t = plain-view d past n false None None k (ask_outs (participant (view d past n)) t) (asks-plain d n (view d past n) t) (λ is. never is)

@@ -22,7 +22,7 @@ use Rattle.grid_model.specs.Histories.{after}
 use Rattle.journal_words.specs.Journals.{Decision, commit_id, decision, is_closed}
 use Rattle.grid_model.specs.Nodes.{Node, node, script_of, is_home}
 use Rattle.grid_model.specs.Stories.{story, phase, phase_by, is_open}
-use Rattle.grid_model.specs.Views.{View, Open, open_at, view, stage}
+use Rattle.grid_model.specs.Views.{View, Open, open_at, view, stage, participant}
 use Rattle.grid_model.specs.Advances.{advance}
 use Rattle.grid_model.specs.Rows.{answer, begin_outs, begun_at}
 use Rattle.grid_model.specs.Schedules.{Choice, numbered, kept, broken, next_number, acts_of, flag_of, lost_at, opened_row, row, start_act, start_row, events_in}
@@ -112,9 +112,9 @@ given-owes d past n m k keeps os given = elim given [
 -- ---- the outs of an event
 
 begin-owes : (d : DocumentData) (past : List Act) (n : NodeId) (v : View) (s : ScriptData) (k : ℕ) (keeps : Bool)
-    → OweAll d past (numbered k n (kept keeps n (begin_outs n v s)))
-begin-owes d past n v s k true = calm-all d past (numbered k n (kept true n (begin_outs n v s))) (plain-kept d n false k (advance v.cluster (begun_at s (commit_id v.journal)) 0) (advance-plain d n false v.cluster (begun_at s (commit_id v.journal)) 0))
-begin-owes d past n v s k false = calm-all d past (numbered k n (kept false n (begin_outs n v s))) (plain-broken d n false k (advance v.cluster (begun_at s (commit_id v.journal)) 0) (advance-plain d n false v.cluster (begun_at s (commit_id v.journal)) 0))
+    → OweAll d past (numbered k n (kept keeps n (begin_outs n (participant v) s)))
+begin-owes d past n v s k true = calm-all d past (numbered k n (kept true n (begin_outs n (participant v) s))) (plain-kept d n false k (advance v.cluster (begun_at s (commit_id v.journal)) 0) (advance-plain d n false v.cluster (begun_at s (commit_id v.journal)) 0))
+begin-owes d past n v s k false = calm-all d past (numbered k n (kept false n (begin_outs n (participant v) s))) (plain-broken d n false k (advance v.cluster (begun_at s (commit_id v.journal)) 0) (advance-plain d n false v.cluster (begun_at s (commit_id v.journal)) 0))
 
 again-plain : (d : DocumentData) (past : List Act) (n : NodeId) (os : List Out) → IsAgain d past n os → IsTrue (are_plain d n false os)
 again-plain d past n os (retries t is) = rw is (retry-plain d n d.cluster t (stage (view d past n) t))

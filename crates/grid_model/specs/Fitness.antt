@@ -16,7 +16,7 @@ use Rattle.grid_model.specs.declared.messages.ReadReq.{ReadReq}
 use Rattle.grid_model.specs.declared.messages.ReadRep.{ReadRep}
 use Rattle.journal_words.specs.Journals.{are_own_keys, keys_in, pending}
 use Rattle.grid_model.specs.Stories.{is_small, is_small_node, is_fit_ballot}
-use Rattle.grid_model.specs.Views.{View, Stage, Reads, Collects, Commits, stage}
+use Rattle.grid_model.specs.Views.{Participant, View, participant, Stage, Reads, Collects, Commits, stage}
 use Rattle.grid_model.specs.Advances.{parts_now}
 
 -- the number of a date
@@ -70,14 +70,14 @@ is_fit_outcome p (outcome.Commit f) = is_small f && is_at_least p f
 is_fit_outcome p outcome.Abort = true
 
 -- what the message says is fit at n, which got it from x and where its transaction stands so
-abbrev pub is_fit_content : NodeId → View → Stage → NodeId → Message → Bool
-is_fit_content n v s x (message.ReadReq q) = is_fit_request v.cluster n q
-is_fit_content n v s x (message.ReadRep q) = is_small q.sid && is_fit_reply q s
-is_fit_content n v s x (message.Prepare q) = is_fit_prepare v.cluster n q
-is_fit_content n v s x (message.Vote t b) = is_fit_ballot b && is_part_at v.cluster s x
-is_fit_content n v s x (message.Tell t o) = is_fit_outcome (pending t v.journal) o
-is_fit_content n v s x (message.Ack t) = is_part_at v.cluster s x
-is_fit_content n v s x (message.Ask t) = true
+abbrev pub is_fit_content : NodeId → Participant → Stage → NodeId → Message → Bool
+is_fit_content n p s x (message.ReadReq q) = is_fit_request p.cluster n q
+is_fit_content n p s x (message.ReadRep q) = is_small q.sid && is_fit_reply q s
+is_fit_content n p s x (message.Prepare q) = is_fit_prepare p.cluster n q
+is_fit_content n p s x (message.Vote t b) = is_fit_ballot b && is_part_at p.cluster s x
+is_fit_content n p s x (message.Tell t o) = is_fit_outcome (pending t p.journal) o
+is_fit_content n p s x (message.Ack t) = is_part_at p.cluster s x
+is_fit_content n p s x (message.Ask t) = true
 
 -- the transaction of a message
 abbrev pub tx_in : Message → TxId
@@ -90,9 +90,9 @@ tx_in (message.Ack t) = t
 tx_in (message.Ask t) = t
 
 -- the message is fit where its transaction stands so
-abbrev pub is_fit_at : NodeId → View → Stage → NodeId → Message → Bool
-is_fit_at n v s x said = is_small_node v.journal v.next && is_fit_content n v s x said
+abbrev pub is_fit_at : NodeId → Participant → Stage → NodeId → Message → Bool
+is_fit_at n p s x said = is_small_node p.journal p.next && is_fit_content n p s x said
 
 -- the message is fit at n, which got it from x
 abbrev pub is_fit : NodeId → View → NodeId → Message → Bool
-is_fit n v x said = is_fit_at n v (stage v (tx_in said)) x said
+is_fit n v x said = is_fit_at n (participant v) (stage v (tx_in said)) x said

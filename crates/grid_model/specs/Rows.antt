@@ -1,4 +1,4 @@
--- The rule table: what a node gives where a message comes, by its view. Outs are acts and messages
+-- The rule table: what a node gives where a message comes, by what it knows. Outs are acts and messages
 -- without a number. Each row is stated on the words that decide it.
 use Rattle.std.specs.Prelude.{ℕ, ◌+◌, ◌*◌, ◌/◌, max, Bool, true, false, ◌==◌, not, nat_lt, filter, map, List, [], ◌∷◌, ◌++◌, Option, Some, None, is_some, if◌then◌else◌}
 use Rattle.std.specs.List.{list_all}
@@ -32,7 +32,7 @@ use Rattle.grid_model.specs.declared.stories.Voted.{Voted}
 use Rattle.journal_words.specs.declared.versions.Version.{Version}
 use Rattle.journal_words.specs.Journals.{commit_id, floor, is_clear, version_at, ended, is_commit, pending, holder, newer, home_of}
 use Rattle.grid_model.specs.Stories.{has_voted, first_sid}
-use Rattle.grid_model.specs.Views.{View, Open, Stage, Apart, Reads, Collects, Commits, stage}
+use Rattle.grid_model.specs.Views.{Participant, View, participant, Open, Stage, Apart, Reads, Collects, Commits, stage}
 use Rattle.grid_model.specs.Advances.{advance, request, prepares, parts_now, to_node}
 use Rattle.grid_model.specs.Fitness.{is_fit_at, tx_in}
 
@@ -74,8 +74,10 @@ answered true n x q sid w = served n q.t q.op q.key sid x w
 answered false n x q sid w = out.Act (act.Held n q.t q.op sid) ∷ []
 
 -- a read request at n from x, at this identifier
-abbrev pub read_row : NodeId → View → NodeId → ReadReq → Ident → List Out
-read_row n v x q sid = ceilings n (floor v.journal) sid ++ (raises n v.next sid ++ answered (is_clear sid v.journal) n x q sid (version_for v.cluster v.journal q.key sid))
+abbrev pub read_row : NodeId → Participant → NodeId → ReadReq → Ident → List Out
+read_row n p x q sid =
+    ceilings n (floor p.journal) sid
+    ++ (raises n p.next sid ++ answered (is_clear sid p.journal) n x q sid (version_for p.cluster p.journal q.key sid))
 
 -- a read reply at the home
 abbrev pub reply_row : ClusterData → ReadRep → Stage → List Out
@@ -102,8 +104,10 @@ prepare_row n x t None (Some q) holder newer p = out.Send x (message.Vote t (bal
 prepare_row n x t None None holder newer p = judged n x t holder newer p
 
 -- a Prepare at n from x
-abbrev pub prepare_outs : NodeId → View → NodeId → Prepare → List Out
-prepare_outs n v x q = prepare_row n x q.t (ended q.t v.journal) (pending q.t v.journal) (holder v.journal q.t q.reads q.writes) (newer v.journal q.reads q.sid) (1 + max v.next q.sid)
+abbrev pub prepare_outs : NodeId → Participant → NodeId → Prepare → List Out
+prepare_outs n p x q =
+    prepare_row n x q.t (ended q.t p.journal) (pending q.t p.journal)
+    (holder p.journal q.t q.reads q.writes) (newer p.journal q.reads q.sid) (1 + max p.next q.sid)
 
 -- ---- the coordinator
 
@@ -160,53 +164,63 @@ ask_row t x Apart = out.Send x (message.Tell t outcome.Abort) ∷ []
 
 -- ---- ends
 
--- a commit that is told at n
-abbrev pub commit_row : NodeId → TxId → Ident → Option Ident → Bool → List Out → List Out → List Out
-commit_row n t f (Some p) done ack freed = out.Act (act.Ended n t (outcome.Commit f)) ∷ (ack ++ freed)
-commit_row n t f None true ack freed = ack
-commit_row n t f None false ack freed = []
+-- a commit that is told at n, by the proposal that t has there and by whether it ended so before
+abbrev pub commit_row : NodeId → TxId → Ident → Option Ident → Bool → List Out → List Out
+commit_row n t f (Some p) done ack = out.Act (act.Ended n t (outcome.Commit f)) ∷ ack
+commit_row n t f None true ack = ack
+commit_row n t f None false ack = []
 
--- an abort that is told at n
-abbrev pub abort_row : NodeId → TxId → Option Ident → List Out → List Out
-abort_row n t (Some p) freed = out.Act (act.Ended n t outcome.Abort) ∷ freed
-abort_row n t None freed = []
+-- an abort that is told at n, by the proposal that t has there
+abbrev pub abort_row : NodeId → TxId → Option Ident → List Out
+abort_row n t (Some p) = out.Act (act.Ended n t outcome.Abort) ∷ []
+abort_row n t None = []
+
+-- how t ended, told at n: what n gives but for its held reads
+abbrev pub end_outs : NodeId → Participant → TxId → Outcome → List Out
+end_outs n p t (outcome.Commit f) =
+    commit_row n t f (pending t p.journal) (is_commit (ended t p.journal)) (to_node (home_of t p.journal) (message.Ack t))
+end_outs n p t outcome.Abort = abort_row n t (pending t p.journal)
+
+-- these outs, where a transaction is pending
+abbrev pub if_pending : Option Ident → List Out → List Out
+if_pending (Some p) outs = outs
+if_pending None outs = []
 
 -- the held reads that an end of t frees
-abbrev pub freed_by : NodeId → View → TxId → Outcome → List Out
-freed_by n v t o = release v.cluster (record'.Ended t o ∷ v.journal) n v.held
+abbrev pub freed_by : NodeId → Participant → List HeldRead → TxId → Outcome → List Out
+freed_by n p held t o = release p.cluster (record'.Ended t o ∷ p.journal) n held
 
--- how t ended, told at n
-abbrev pub tell_outs : NodeId → View → TxId → Outcome → List Out
-tell_outs n v t (outcome.Commit f) = commit_row n t f (pending t v.journal) (is_commit (ended t v.journal)) (to_node (home_of t v.journal) (message.Ack t)) (freed_by n v t (outcome.Commit f))
-tell_outs n v t outcome.Abort = abort_row n t (pending t v.journal) (freed_by n v t outcome.Abort)
+-- how t ended, told at n: its end, and, where it was pending, the held reads that this frees
+abbrev pub tell_outs : NodeId → Participant → List HeldRead → TxId → Outcome → List Out
+tell_outs n p held t o = end_outs n p t o ++ if_pending (pending t p.journal) (freed_by n p held t o)
 
 -- ---- the table
 
--- what n gives where a fit message comes from x, whose transaction stands so
-abbrev pub row_of : NodeId → View → Stage → NodeId → Message → List Out
-row_of n v s x (message.ReadReq q) = read_row n v x q (dated q.date (commit_id v.journal))
-row_of n v s x (message.ReadRep q) = reply_row v.cluster q s
-row_of n v s x (message.Prepare q) = prepare_outs n v x q
-row_of n v s x (message.Vote t b) = vote_row v.cluster t x b s
-row_of n v s x (message.Tell t o) = tell_outs n v t o
-row_of n v s x (message.Ack t) = ack_row t x s
-row_of n v s x (message.Ask t) = ask_row t x s
+-- what n, which holds these reads, gives where a fit message comes from x, whose transaction stands so
+abbrev pub row_of : NodeId → Participant → List HeldRead → Stage → NodeId → Message → List Out
+row_of n p held s x (message.ReadReq q) = read_row n p x q (dated q.date (commit_id p.journal))
+row_of n p held s x (message.ReadRep q) = reply_row p.cluster q s
+row_of n p held s x (message.Prepare q) = prepare_outs n p x q
+row_of n p held s x (message.Vote t b) = vote_row p.cluster t x b s
+row_of n p held s x (message.Tell t o) = tell_outs n p held t o
+row_of n p held s x (message.Ack t) = ack_row t x s
+row_of n p held s x (message.Ask t) = ask_row t x s
 
 -- what n gives where a message comes from x, whose transaction stands so
-abbrev pub answer_at : NodeId → View → Stage → NodeId → Message → List Out
-answer_at n v s x said = if is_fit_at n v s x said then row_of n v s x said else []
+abbrev pub answer_at : NodeId → Participant → List HeldRead → Stage → NodeId → Message → List Out
+answer_at n p held s x said = if is_fit_at n p s x said then row_of n p held s x said else []
 
 -- what n gives where a message comes from x
 abbrev pub answer : NodeId → View → NodeId → Message → List Out
-answer n v x said = answer_at n v (stage v (tx_in said)) x said
+answer n v x said = answer_at n (participant v) v.held (stage v (tx_in said)) x said
 
 -- a transaction that begins at n
 abbrev pub begun_at : ScriptData → Ident → Open
 begun_at s sid0 = record { script = s; sid0 = sid0; sid = None; values = []; votes = []; turn = 0 }
 
 -- what n gives where a transaction of its own begins
-abbrev pub begin_outs : NodeId → View → ScriptData → List Out
-begin_outs n v s = out.Act (act.Began s.number n (commit_id v.journal)) ∷ advance v.cluster (begun_at s (commit_id v.journal)) 0
+abbrev pub begin_outs : NodeId → Participant → ScriptData → List Out
+begin_outs n p s = out.Act (act.Began s.number n (commit_id p.journal)) ∷ advance p.cluster (begun_at s (commit_id p.journal)) 0
 
 -- those of the nodes that have not voted
 abbrev pub not_voted : List NodeId → List Voted → List NodeId
@@ -224,5 +238,5 @@ retry_row c t (Commits y acks) = tells t (outcome.Commit y.final) (not_among y.p
 retry_row c t Apart = []
 
 -- what n asks the home of t; nothing where t is not pending at n
-abbrev pub ask_outs : View → TxId → List Out
-ask_outs v t = if is_some (pending t v.journal) then to_node (home_of t v.journal) (message.Ask t) else []
+abbrev pub ask_outs : Participant → TxId → List Out
+ask_outs p t = if is_some (pending t p.journal) then to_node (home_of t p.journal) (message.Ask t) else []

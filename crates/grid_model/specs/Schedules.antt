@@ -21,9 +21,8 @@ use Rattle.grid_model.specs.Documents.{DocumentData, number_order, script_number
 use Rattle.grid_model.specs.Histories.{sent, sent_at}
 use Rattle.grid_model.specs.Nodes.{node, script_of}
 use Rattle.grid_model.specs.Stories.{story, phase, is_open}
-use Rattle.grid_model.specs.Views.{view}
+use Rattle.grid_model.specs.Views.{participant, view, stage}
 use Rattle.grid_model.specs.Rows.{answer, begin_outs, retry_row, ask_outs}
-use Rattle.grid_model.specs.Views.{stage}
 
 -- ---- numbers and records
 
@@ -103,7 +102,7 @@ acts_of past c n os = numbered (next_number past) n (kept c.keeps n os)
 -- the begin of a script, where there is one: code 2 where its home is down
 abbrev pub begin_at : DocumentData → List Act → Choice → Option ScriptData → List Act
 begin_at d past c None = []
-begin_at d past c (Some s) = if (node d past s.home).up then acts_of past c s.home (begin_outs s.home (view d past s.home) s) else act.Void 2 ∷ []
+begin_at d past c (Some s) = if (node d past s.home).up then acts_of past c s.home (begin_outs s.home (participant (view d past s.home)) s) else act.Void 2 ∷ []
 
 -- `begin t`: code 1 where it was begun before, code 2 where its home is down
 abbrev pub begin_row : DocumentData → List Act → Choice → Option Story → Option ScriptData → List Act
@@ -145,7 +144,7 @@ retry_at d past c t (Some s) =
 abbrev pub ask_row : DocumentData → List Act → Choice → NodeId → TxId → List Act
 ask_row d past c n t =
     if (node d past n).up
-    then (let os : List Out = ask_outs (view d past n) t in or_void 6 os (acts_of past c n os))
+    then (let os : List Out = ask_outs (participant (view d past n)) t in or_void 6 os (acts_of past c n os))
     else act.Void 6 ∷ []
 
 -- `crash n`: code 7 where n is down already

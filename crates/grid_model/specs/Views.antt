@@ -26,6 +26,12 @@ pub record Open : Type 0 where
   pub votes : List Voted
   pub turn : ℕ
 
+-- what a node knows as a participant: the cluster; the records of its journal, the newest first; its clock
+pub record Participant : Type 0 where
+  pub cluster : ClusterData
+  pub journal : List Record
+  pub next : Ident
+
 -- what a node knows: the cluster; the records of its journal, the newest first; its clock; the held
 -- reads in the order of their arrival; the transactions of this home that are reading or collecting;
 -- the acknowledgements taken of those that are decided
@@ -37,7 +43,15 @@ pub record View : Type 0 where
   pub desk : TxId → Option Open
   pub acks : TxId → List NodeId
 
+-- what it knows as a participant
+abbrev pub participant : View → Participant
+participant v = record { cluster = v.cluster; journal = v.journal; next = v.next }
+
 -- ---- the view behind a history
+
+-- what a node of this cluster knows as a participant
+abbrev pub participant_of : ClusterData → Node → Participant
+participant_of c h = record { cluster = c; journal = h.journal; next = h.next }
 
 -- what a home knows of an open transaction, by its story
 abbrev pub open_of : ScriptData → Story → Open

@@ -7,7 +7,7 @@ ghost use Rattle.grid_model.specs.declared.events.Event.TheVariants as event;
 ghost use Rattle.grid_model.specs.declared.messages.Message.{Message};
 ghost use Rattle.grid_model.specs.Histories.{after, sent, sent_at};
 ghost use Rattle.grid_model.specs.Nodes.{script_of};
-ghost use Rattle.grid_model.specs.Views.{view, stage};
+ghost use Rattle.grid_model.specs.Views.{participant, view, stage};
 ghost use Rattle.grid_model.specs.Rows.{answer, begin_outs, retry_row, ask_outs};
 ghost use Rattle.grid_model.specs.Schedules.{numbered};
 ghost use Rattle.grid_model.specs.NextViews.{OwnDecisions, next_view};
@@ -18,10 +18,10 @@ ghost use Rattle.grid_model.specs.declared.items.Item.{Item};
 /// the outs. The message is one that was sent to the node, or the script is one of the node's own; each
 /// record is kept.
 pub fn law_next_view()
-    ensures begin { (d : DocumentData) (past : List Act) (n : ℕ) (k : ℕ) (s : ScriptData) → script_of s.number d.scripts ≡ Some s → s.home ≡ n → view d (after past (numbered k n (begin_outs n (view d past n) s))) n ≡ next_view n (view d past n) (event.Begin s) (begin_outs n (view d past n) s) }
+    ensures begin { (d : DocumentData) (past : List Act) (n : ℕ) (k : ℕ) (s : ScriptData) → script_of s.number d.scripts ≡ Some s → s.home ≡ n → view d (after past (numbered k n (begin_outs n (participant (view d past n)) s))) n ≡ next_view n (view d past n) (event.Begin s) (begin_outs n (participant (view d past n)) s) }
     ensures deliver { (d : DocumentData) (past : List Act) (n x : ℕ) (m k : ℕ) (said : Message) → sent_at m (sent past) ≡ Some (record { from = x; to = n; message = said }) → OwnDecisions d past n → view d (after (act.Got m ∷ past) (numbered k n (answer n (view d past n) x said))) n ≡ next_view n (view d past n) (event.Deliver x said) (answer n (view d past n) x said) }
     ensures retry { (d : DocumentData) (past : List Act) (n : ℕ) (k : ℕ) (t : ℕ) → view d (after past (numbered k n (retry_row d.cluster t (stage (view d past n) t)))) n ≡ next_view n (view d past n) (event.Retry t) (retry_row d.cluster t (stage (view d past n) t)) }
-    ensures ask { (d : DocumentData) (past : List Act) (n : ℕ) (k : ℕ) (t : ℕ) → view d (after past (numbered k n (ask_outs (view d past n) t))) n ≡ next_view n (view d past n) (event.Ask t) (ask_outs (view d past n) t) }
+    ensures ask { (d : DocumentData) (past : List Act) (n : ℕ) (k : ℕ) (t : ℕ) → view d (after past (numbered k n (ask_outs (participant (view d past n)) t))) n ≡ next_view n (view d past n) (event.Ask t) (ask_outs (participant (view d past n)) t) }
 {}
 
 /// Behind each run, whatever its items, the standing decisions in the journal of a node are of

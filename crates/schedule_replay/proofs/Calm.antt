@@ -18,7 +18,7 @@ use Rattle.grid_model.specs.Documents.{DocumentData}
 use Rattle.grid_model.specs.Histories.{after, sent, sent_at}
 use Rattle.grid_model.specs.Nodes.{node, script_of}
 use Rattle.grid_model.specs.Stories.{story}
-use Rattle.grid_model.specs.Views.{view, stage}
+use Rattle.grid_model.specs.Views.{view, stage, participant}
 use Rattle.grid_model.specs.Fitness.{tx_in}
 use Rattle.grid_model.specs.Rows.{answer, begin_outs, retry_row, ask_outs}
 use Rattle.grid_model.specs.Schedules.{numbered, next_number, next_left, acts_of, begin_at, begin_row, deliver_row, drop_row, next_row, or_void, retry_at, ask_row, start_row, start_act, events_in, flag_of, losses, opened_row}
@@ -55,7 +55,7 @@ calm-acts past n k j os c = calm-numbered (next_number past) n os c.own
 
 calm-begin_at : (d : DocumentData) (past : List Act) (s : Option ScriptData) → are_calm (begin_at d past calm s) ≡ true
 calm-begin_at d past None = refl
-calm-begin_at d past (Some s) = calm-if (node d past s.home).up (acts_of past calm s.home (begin_outs s.home (view d past s.home) s)) (act.Void 2 ∷ []) (calm-acts past s.home 16 0 (begin_outs s.home (view d past s.home) s) (counts-begin s.home (view d past s.home) s)) refl
+calm-begin_at d past (Some s) = calm-if (node d past s.home).up (acts_of past calm s.home (begin_outs s.home (participant (view d past s.home)) s)) (act.Void 2 ∷ []) (calm-acts past s.home 16 0 (begin_outs s.home (participant (view d past s.home)) s) (counts-begin s.home (participant (view d past s.home)) s)) refl
 
 calm-begin : (d : DocumentData) (past : List Act) (x : Option Story) (s : Option ScriptData) → are_calm (begin_row d past calm x s) ≡ true
 calm-begin d past (Some x) s = refl
@@ -63,7 +63,7 @@ calm-begin d past None s = calm-begin_at d past s
 
 calm-deliver : (d : DocumentData) (past : List Act) (m : ℕ) (o : Option Envelope) → are_calm (deliver_row d past calm m o) ≡ true
 calm-deliver d past m None = refl
-calm-deliver d past m (Some e) = calm-if (node d past e.to).up (act.Got m ∷ acts_of past calm e.to (answer e.to (view d past e.to) e.from e.message)) (act.Missed m ∷ []) (calm-acts past e.to (16 + length (node d past e.to).held) 1 (answer e.to (view d past e.to) e.from e.message) (counts-answer e.to (view d past e.to) (stage (view d past e.to) (tx_in e.message)) e.from e.message)) refl
+calm-deliver d past m (Some e) = calm-if (node d past e.to).up (act.Got m ∷ acts_of past calm e.to (answer e.to (view d past e.to) e.from e.message)) (act.Missed m ∷ []) (calm-acts past e.to (16 + length (node d past e.to).held) 1 (answer e.to (view d past e.to) e.from e.message) (counts-answer e.to (participant (view d past e.to)) (view d past e.to).held (stage (view d past e.to) (tx_in e.message)) e.from e.message)) refl
 
 calm-drop : (m : ℕ) (o : Option Envelope) → are_calm (drop_row m o) ≡ true
 calm-drop m None = refl
@@ -85,8 +85,8 @@ calm-retry d past t (Some s) =
 
 calm-ask : (d : DocumentData) (past : List Act) (n t : ℕ) → are_calm (ask_row d past calm n t) ≡ true
 calm-ask d past n t =
-    let os : List Out = ask_outs (view d past n) t in
-    calm-if (node d past n).up (or_void 6 os (acts_of past calm n os)) (act.Void 6 ∷ []) (calm-or_void 6 os (acts_of past calm n os) (calm-acts past n 1 0 os (counts-ask (view d past n) t))) refl
+    let os : List Out = ask_outs (participant (view d past n)) t in
+    calm-if (node d past n).up (or_void 6 os (acts_of past calm n os)) (act.Void 6 ∷ []) (calm-or_void 6 os (acts_of past calm n os) (calm-acts past n 1 0 os (counts-ask (participant (view d past n)) t))) refl
 
 lost-calm : (acts : List Act) → are_lost acts ≡ true → are_calm acts ≡ true
 lost-calm [] e = refl

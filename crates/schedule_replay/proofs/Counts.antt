@@ -29,11 +29,11 @@ use Rattle.journal_words.specs.declared.versions.Version.{Version}
 use Rattle.journal_words.specs.Journals.{commit_id, floor, is_clear, ended, is_commit, pending, home_of}
 use Rattle.grid_model.specs.Stories.{has_voted, first_sid}
 use Rattle.script_runs.specs.Waits.{waiting}
-use Rattle.grid_model.specs.Views.{View, Open, Stage, Apart, Reads, Collects, Commits}
+use Rattle.grid_model.specs.Views.{Participant, Open, Stage, Apart, Reads, Collects, Commits}
 use Rattle.grid_model.specs.Advances.{advance, advance_end, owns, request, request_of, prepares, prepare_for, parts_now, to_node}
 use Rattle.script_runs.specs.Walks.{unread, own_reads}
 use Rattle.grid_model.specs.Fitness.{is_fit_at}
-use Rattle.grid_model.specs.Rows.{served, version_for, release, ceilings, raises, answered, read_row, reply_row, judged, prepare_row, tells, decides, ballot_row, vote_row, are_all_among, closed_row, ack_row, ask_row, commit_row, abort_row, freed_by, tell_outs, row_of, answer_at, begun_at, begin_outs, not_voted, not_among, retry_row, ask_outs}
+use Rattle.grid_model.specs.Rows.{served, version_for, release, ceilings, raises, answered, read_row, reply_row, judged, prepare_row, tells, decides, ballot_row, vote_row, are_all_among, closed_row, ack_row, ask_row, commit_row, abort_row, freed_by, tell_outs, row_of, answer_at, begun_at, begin_outs, not_voted, not_among, retry_row, ask_outs, if_pending}
 use Rattle.schedule_replay.specs.Numbering.{sends}
 use Rattle.schedule_replay.specs.Stages.{parts_left}
 
@@ -155,8 +155,8 @@ counts-answered : (b : Bool) (n x : ℕ) (q : ReadReq) (sid : ℕ) (w : Version)
 counts-answered true n x q sid w = record { sent = omega arith; held = omega arith; own = refl }
 counts-answered false n x q sid w = record { sent = omega arith; held = omega arith; own = refl }
 
-counts-read : (n : ℕ) (v : View) (x : ℕ) (q : ReadReq) (sid : ℕ) → Counts 1 1 (read_row n v x q sid)
-counts-read n v x q sid = counts-append 0 0 1 1 (ceilings n (floor v.journal) sid) _ (counts-ceilings n (floor v.journal) sid) (counts-append 0 0 1 1 (raises n v.next sid) _ (counts-raises n v.next sid) (counts-answered (is_clear sid v.journal) n x q sid (version_for v.cluster v.journal q.key sid)))
+counts-read : (n : ℕ) (p : Participant) (x : ℕ) (q : ReadReq) (sid : ℕ) → Counts 1 1 (read_row n p x q sid)
+counts-read n p x q sid = counts-append 0 0 1 1 (ceilings n (floor p.journal) sid) _ (counts-ceilings n (floor p.journal) sid) (counts-append 0 0 1 1 (raises n p.next sid) _ (counts-raises n p.next sid) (counts-answered (is_clear sid p.journal) n x q sid (version_for p.cluster p.journal q.key sid)))
 
 counts-taken : (t op sid value : ℕ) (os : List Out) → Counts 16 0 os → Counts 16 0 (out.Act (act.Taken t op sid value) ∷ os)
 counts-taken t op sid value os p = record { sent = p.sent; held = p.held; own = p.own }
@@ -217,35 +217,35 @@ counts-ask_row t x (Collects o) = counts-none 1 0
 
 -- ---- ends
 
-counts-commit : (n t f h : ℕ) (o : Option ℕ) (done : Bool) (ack freed : List Out) → Counts 1 0 ack → Counts h 0 freed → Counts (1 + h) 0 (commit_row n t f o done ack freed)
+counts-commit : (n t f h : ℕ) (o : Option ℕ) (done : Bool) (ack freed : List Out) → Counts 1 0 ack → Counts h 0 freed → Counts (1 + h) 0 (commit_row n t f o done ack ++ if_pending o freed)
 counts-commit n t f h (Some p) done ack freed a r = let all : Counts (1 + h) 0 (ack ++ freed) = counts-append 1 0 h 0 ack freed a r in record { sent = all.sent; held = all.held; own = all.own }
-counts-commit n t f h None true ack freed a r = counts-more 1 0 (1 + h) 0 ack (omega arith) (omega arith) a
+counts-commit n t f h None true ack freed a r = counts-append 1 0 h 0 ack [] a (counts-none h 0)
 counts-commit n t f h None false ack freed a r = counts-none (1 + h) 0
 
-counts-abort : (n t h : ℕ) (o : Option ℕ) (freed : List Out) → Counts h 0 freed → Counts (1 + h) 0 (abort_row n t o freed)
+counts-abort : (n t h : ℕ) (o : Option ℕ) (freed : List Out) → Counts h 0 freed → Counts (1 + h) 0 (abort_row n t o ++ if_pending o freed)
 counts-abort n t h (Some p) freed r = let all : Counts (1 + h) 0 freed = counts-more h 0 (1 + h) 0 freed (omega arith) (omega arith) r in record { sent = all.sent; held = all.held; own = all.own }
 counts-abort n t h None freed r = counts-none (1 + h) 0
 
-counts-tell : (n : ℕ) (v : View) (t : ℕ) (o : Outcome) → Counts (1 + length v.held) 0 (tell_outs n v t o)
-counts-tell n v t (outcome.Commit f) = counts-commit n t f (length v.held) (pending t v.journal) (is_commit (ended t v.journal)) (to_node (home_of t v.journal) (message.Ack t)) (freed_by n v t (outcome.Commit f)) (counts-to_node (home_of t v.journal) (message.Ack t)) (counts-release v.cluster (record'.Ended t (outcome.Commit f) ∷ v.journal) n v.held)
-counts-tell n v t outcome.Abort = counts-abort n t (length v.held) (pending t v.journal) (freed_by n v t outcome.Abort) (counts-release v.cluster (record'.Ended t outcome.Abort ∷ v.journal) n v.held)
+counts-tell : (n : ℕ) (p : Participant) (held : List HeldRead) (t : ℕ) (o : Outcome) → Counts (1 + length held) 0 (tell_outs n p held t o)
+counts-tell n p held t (outcome.Commit f) = counts-commit n t f (length held) (pending t p.journal) (is_commit (ended t p.journal)) (to_node (home_of t p.journal) (message.Ack t)) (freed_by n p held t (outcome.Commit f)) (counts-to_node (home_of t p.journal) (message.Ack t)) (counts-release p.cluster (record'.Ended t (outcome.Commit f) ∷ p.journal) n held)
+counts-tell n p held t outcome.Abort = counts-abort n t (length held) (pending t p.journal) (freed_by n p held t outcome.Abort) (counts-release p.cluster (record'.Ended t outcome.Abort ∷ p.journal) n held)
 
 -- ---- the table
 
-pub counts-row : (n : ℕ) (v : View) (s : Stage) (x : ℕ) (said : Message) → Counts (16 + length v.held) 1 (row_of n v s x said)
-counts-row n v s x (message.ReadReq q) = counts-more 1 1 _ 1 _ (omega arith) (omega arith) (counts-read n v x q _)
-counts-row n v s x (message.ReadRep q) = counts-more 16 0 _ 1 _ (omega arith) (omega arith) (counts-reply v.cluster q s)
-counts-row n v s x (message.Prepare q) = counts-more 1 0 _ 1 _ (omega arith) (omega arith) (counts-prepare n x q.t _ _ _ _ _)
-counts-row n v s x (message.Vote t b) = counts-more 16 0 _ 1 _ (omega arith) (omega arith) (counts-vote v.cluster t x b s)
-counts-row n v s x (message.Tell t o) = counts-more (1 + length v.held) 0 _ 1 _ (omega arith) (omega arith) (counts-tell n v t o)
-counts-row n v s x (message.Ack t) = counts-more 0 0 _ 1 _ (omega arith) (omega arith) (counts-ack t x s)
-counts-row n v s x (message.Ask t) = counts-more 1 0 _ 1 _ (omega arith) (omega arith) (counts-ask_row t x s)
+pub counts-row : (n : ℕ) (p : Participant) (held : List HeldRead) (s : Stage) (x : ℕ) (said : Message) → Counts (16 + length held) 1 (row_of n p held s x said)
+counts-row n p held s x (message.ReadReq q) = counts-more 1 1 _ 1 _ (omega arith) (omega arith) (counts-read n p x q _)
+counts-row n p held s x (message.ReadRep q) = counts-more 16 0 _ 1 _ (omega arith) (omega arith) (counts-reply p.cluster q s)
+counts-row n p held s x (message.Prepare q) = counts-more 1 0 _ 1 _ (omega arith) (omega arith) (counts-prepare n x q.t _ _ _ _ _)
+counts-row n p held s x (message.Vote t b) = counts-more 16 0 _ 1 _ (omega arith) (omega arith) (counts-vote p.cluster t x b s)
+counts-row n p held s x (message.Tell t o) = counts-more (1 + length held) 0 _ 1 _ (omega arith) (omega arith) (counts-tell n p held t o)
+counts-row n p held s x (message.Ack t) = counts-more 0 0 _ 1 _ (omega arith) (omega arith) (counts-ack t x s)
+counts-row n p held s x (message.Ask t) = counts-more 1 0 _ 1 _ (omega arith) (omega arith) (counts-ask_row t x s)
 
-pub counts-answer : (n : ℕ) (v : View) (s : Stage) (x : ℕ) (said : Message) → Counts (16 + length v.held) 1 (answer_at n v s x said)
-counts-answer n v s x said = counts-if (is_fit_at n v s x said) (16 + length v.held) 1 (row_of n v s x said) [] (counts-row n v s x said) (counts-none (16 + length v.held) 1)
+pub counts-answer : (n : ℕ) (p : Participant) (held : List HeldRead) (s : Stage) (x : ℕ) (said : Message) → Counts (16 + length held) 1 (answer_at n p held s x said)
+counts-answer n p held s x said = counts-if (is_fit_at n p s x said) (16 + length held) 1 (row_of n p held s x said) [] (counts-row n p held s x said) (counts-none (16 + length held) 1)
 
-pub counts-begin : (n : ℕ) (v : View) (s : ScriptData) → Counts 16 0 (begin_outs n v s)
-counts-begin n v s = let p : Counts 16 0 (advance v.cluster (begun_at s (commit_id v.journal)) 0) = counts-advance v.cluster (begun_at s (commit_id v.journal)) 0 in record { sent = p.sent; held = p.held; own = p.own }
+pub counts-begin : (n : ℕ) (p : Participant) (s : ScriptData) → Counts 16 0 (begin_outs n p s)
+counts-begin n p s = let a : Counts 16 0 (advance p.cluster (begun_at s (commit_id p.journal)) 0) = counts-advance p.cluster (begun_at s (commit_id p.journal)) 0 in record { sent = a.sent; held = a.held; own = a.own }
 
 -- the parts of a decided transaction are at most 16
 abbrev pub IsShort : Stage → Type 0
@@ -260,8 +260,8 @@ counts-retry c t (Reads x j) h = counts-more 1 0 16 0 (request c x j x.turn) (om
 counts-retry c t (Collects x) h = counts-prepares c x (not_voted (parts_now c x) x.votes) (omega (arith, filter-short (λ n. not (has_voted n x.votes)) (parts_now c x), parts-short c.places (keys_of x.script.ops)))
 counts-retry c t (Commits y acks) h = counts-tells t (outcome.Commit y.final) (not_among y.parts acks) (omega (arith, h, filter-short (λ n. not (is_among n acks)) y.parts))
 
-pub counts-ask : (v : View) (t : ℕ) → Counts 1 0 (ask_outs v t)
-counts-ask v t = counts-if (is_some (pending t v.journal)) 1 0 (to_node (home_of t v.journal) (message.Ask t)) [] (counts-to_node (home_of t v.journal) (message.Ask t)) (counts-none 1 0)
+pub counts-ask : (p : Participant) (t : ℕ) → Counts 1 0 (ask_outs p t)
+counts-ask p t = counts-if (is_some (pending t p.journal)) 1 0 (to_node (home_of t p.journal) (message.Ask t)) [] (counts-to_node (home_of t p.journal) (message.Ask t)) (counts-none 1 0)
 
 -- a transaction that is decided is told to each of its parts, however many
 pub retry-few : (c : ClusterData) (t : ℕ) (s : Stage) → sends (retry_row c t s) ≤ 16 + length (parts_left s)

@@ -14,7 +14,7 @@ use Rattle.grid_model.specs.Documents.{DocumentData, events_of}
 use Rattle.grid_model.specs.Histories.{after, sent, sent_at}
 use Rattle.grid_model.specs.Nodes.{node, script_of}
 use Rattle.grid_model.specs.Stories.{story}
-use Rattle.grid_model.specs.Views.{view, stage}
+use Rattle.grid_model.specs.Views.{view, stage, participant}
 use Rattle.grid_model.specs.Fitness.{tx_in}
 use Rattle.grid_model.specs.Rows.{answer, begin_outs, retry_row, ask_outs}
 use Rattle.grid_model.specs.Schedules.{next_number, next_left, acts_of, begin_at, begin_row, deliver_row, drop_row, next_row, or_void, retry_at, ask_row, events_in, flag_of, losses, opened_row}
@@ -30,17 +30,17 @@ adds-if false k xs ys p q = q
 
 -- ---- what nodes give
 
-pub few-begin : (d : DocumentData) (past : List Act) (k : ℕ) (s : ScriptData) → IsFew d past k → Counts (16 + k) 1 (begin_outs s.home (view d past s.home) s)
-few-begin d past k s f = counts-more 16 0 (16 + k) 1 (begin_outs s.home (view d past s.home) s) (omega arith) (omega arith) (counts-begin s.home (view d past s.home) s)
+pub few-begin : (d : DocumentData) (past : List Act) (k : ℕ) (s : ScriptData) → IsFew d past k → Counts (16 + k) 1 (begin_outs s.home (participant (view d past s.home)) s)
+few-begin d past k s f = counts-more 16 0 (16 + k) 1 (begin_outs s.home (participant (view d past s.home)) s) (omega arith) (omega arith) (counts-begin s.home (participant (view d past s.home)) s)
 
 pub few-answer : (d : DocumentData) (past : List Act) (k : ℕ) (e : Envelope) → IsFew d past k → Counts (16 + k) 1 (answer e.to (view d past e.to) e.from e.message)
-few-answer d past k e f = counts-more (16 + length (node d past e.to).held) 1 (16 + k) 1 (answer e.to (view d past e.to) e.from e.message) (omega (arith, f.held_few e.to)) (omega arith) (counts-answer e.to (view d past e.to) (stage (view d past e.to) (tx_in e.message)) e.from e.message)
+few-answer d past k e f = counts-more (16 + length (node d past e.to).held) 1 (16 + k) 1 (answer e.to (view d past e.to) e.from e.message) (omega (arith, f.held_few e.to)) (omega arith) (counts-answer e.to (participant (view d past e.to)) (view d past e.to).held (stage (view d past e.to) (tx_in e.message)) e.from e.message)
 
 pub few-retry : (d : DocumentData) (past : List Act) (k n t : ℕ) → IsFew d past k → Counts (16 + k) 1 (retry_row d.cluster t (stage (view d past n) t))
 few-retry d past k n t f = counts-more 16 0 (16 + k) 1 (retry_row d.cluster t (stage (view d past n) t)) (omega arith) (omega arith) (counts-retry d.cluster t (stage (view d past n) t) (short-at d past n t _ _))
 
-pub few-ask : (d : DocumentData) (past : List Act) (k n t : ℕ) → IsFew d past k → Counts (16 + k) 1 (ask_outs (view d past n) t)
-few-ask d past k n t f = counts-more 1 0 (16 + k) 1 (ask_outs (view d past n) t) (omega arith) (omega arith) (counts-ask (view d past n) t)
+pub few-ask : (d : DocumentData) (past : List Act) (k n t : ℕ) → IsFew d past k → Counts (16 + k) 1 (ask_outs (participant (view d past n)) t)
+few-ask d past k n t f = counts-more 1 0 (16 + k) 1 (ask_outs (participant (view d past n)) t) (omega arith) (omega arith) (counts-ask (participant (view d past n)) t)
 
 -- ---- the rows
 
@@ -49,7 +49,7 @@ adds-acts past k n os c = adds-numbered k 1 (next_number past) n os (omega arith
 
 adds-begin_at : (d : DocumentData) (past : List Act) (k : ℕ) (s : Option ScriptData) → IsFew d past k → Adds (16 + k) (begin_at d past calm s)
 adds-begin_at d past k None f = record { sent = omega arith; held = omega arith }
-adds-begin_at d past k (Some s) f = adds-if (node d past s.home).up (16 + k) (acts_of past calm s.home (begin_outs s.home (view d past s.home) s)) (act.Void 2 ∷ []) (adds-acts past (16 + k) s.home _ (few-begin d past k s f)) (record { sent = omega arith; held = omega arith })
+adds-begin_at d past k (Some s) f = adds-if (node d past s.home).up (16 + k) (acts_of past calm s.home (begin_outs s.home (participant (view d past s.home)) s)) (act.Void 2 ∷ []) (adds-acts past (16 + k) s.home _ (few-begin d past k s f)) (record { sent = omega arith; held = omega arith })
 
 adds-begin : (d : DocumentData) (past : List Act) (k : ℕ) (x : Option Story) (s : Option ScriptData) → IsFew d past k → Adds (16 + k) (begin_row d past calm x s)
 adds-begin d past k (Some x) s f = record { sent = omega arith; held = omega arith }
@@ -82,7 +82,7 @@ adds-retry d past k t (Some s) f =
 
 adds-ask : (d : DocumentData) (past : List Act) (k n t : ℕ) → IsFew d past k → Adds (16 + k) (ask_row d past calm n t)
 adds-ask d past k n t f =
-    let os : List Out = ask_outs (view d past n) t in
+    let os : List Out = ask_outs (participant (view d past n)) t in
     adds-if (node d past n).up (16 + k) (or_void 6 os (acts_of past calm n os)) (act.Void 6 ∷ []) (adds-or_void (16 + k) 6 os (acts_of past calm n os) (adds-acts past (16 + k) n os (few-ask d past k n t f))) (record { sent = omega arith; held = omega arith })
 
 adds-opened : (d : DocumentData) (past : List Act) (k n : ℕ) (f : Flag) → Adds k (opened_row d past n f)

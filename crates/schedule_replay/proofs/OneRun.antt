@@ -19,7 +19,7 @@ use Rattle.grid_model.specs.Documents.{DocumentData}
 use Rattle.grid_model.specs.Histories.{after, sent, sent_at}
 use Rattle.grid_model.specs.Nodes.{node, script_of, journal}
 use Rattle.grid_model.specs.Stories.{story}
-use Rattle.grid_model.specs.Views.{view, stage}
+use Rattle.grid_model.specs.Views.{view, stage, participant}
 use Rattle.grid_model.specs.Fitness.{tx_in}
 use Rattle.grid_model.specs.Rows.{answer, begin_outs, retry_row, ask_outs}
 use Rattle.grid_model.specs.Schedules.{Choice, numbered, head_of, stopped, broken, kept, next_number, next_left, acts_of, begin_at, begin_row, deliver_row, drop_row, next_row, or_void, retry_at, ask_row, row, start_row, start_act, events_in, flag_of, losses, opened_row}
@@ -102,8 +102,8 @@ one-got past m xs ys p = record { unset = p.unset; same = λ before e. ap (λ z.
 one-begin_at : (d : DocumentData) (past : List Act) (c : Choice) (s : Option ScriptData) → IsOne past (begin_at d past c s) (begin_at d past calm s)
 one-begin_at d past c None = one-same past [] refl
 one-begin_at d past c (Some s) =
-    let os : List Out = begin_outs s.home (view d past s.home) s in
-    one-if past (node d past s.home).up (acts_of past c s.home os) (act.Void 2 ∷ []) (acts_of past calm s.home os) (act.Void 2 ∷ []) (one-acts past c s.home 16 0 os (counts-begin s.home (view d past s.home) s)) (one-same past (act.Void 2 ∷ []) refl)
+    let os : List Out = begin_outs s.home (participant (view d past s.home)) s in
+    one-if past (node d past s.home).up (acts_of past c s.home os) (act.Void 2 ∷ []) (acts_of past calm s.home os) (act.Void 2 ∷ []) (one-acts past c s.home 16 0 os (counts-begin s.home (participant (view d past s.home)) s)) (one-same past (act.Void 2 ∷ []) refl)
 
 one-begin : (d : DocumentData) (past : List Act) (c : Choice) (x : Option Story) (s : Option ScriptData) → IsOne past (begin_row d past c x s) (begin_row d past calm x s)
 one-begin d past c (Some x) s = one-same past (act.Void 1 ∷ []) refl
@@ -113,7 +113,7 @@ one-deliver : (d : DocumentData) (past : List Act) (c : Choice) (m : ℕ) (o : O
 one-deliver d past c m None = one-same past (act.Void 3 ∷ []) refl
 one-deliver d past c m (Some e) =
     let os : List Out = answer e.to (view d past e.to) e.from e.message in
-    one-if past (node d past e.to).up (act.Got m ∷ acts_of past c e.to os) (act.Missed m ∷ []) (act.Got m ∷ acts_of past calm e.to os) (act.Missed m ∷ []) (one-got past m (acts_of past c e.to os) (acts_of past calm e.to os) (one-acts past c e.to (16 + length (node d past e.to).held) 1 os (counts-answer e.to (view d past e.to) (stage (view d past e.to) (tx_in e.message)) e.from e.message))) (one-same past (act.Missed m ∷ []) refl)
+    one-if past (node d past e.to).up (act.Got m ∷ acts_of past c e.to os) (act.Missed m ∷ []) (act.Got m ∷ acts_of past calm e.to os) (act.Missed m ∷ []) (one-got past m (acts_of past c e.to os) (acts_of past calm e.to os) (one-acts past c e.to (16 + length (node d past e.to).held) 1 os (counts-answer e.to (participant (view d past e.to)) (view d past e.to).held (stage (view d past e.to) (tx_in e.message)) e.from e.message))) (one-same past (act.Missed m ∷ []) refl)
 
 one-drop : (past : List Act) (m : ℕ) (o : Option Envelope) → IsOne past (drop_row m o) (drop_row m o)
 one-drop past m None = one-same past (act.Void 3 ∷ []) refl
@@ -135,8 +135,8 @@ one-retry d past c t (Some s) =
 
 one-ask : (d : DocumentData) (past : List Act) (c : Choice) (n t : ℕ) → IsOne past (ask_row d past c n t) (ask_row d past calm n t)
 one-ask d past c n t =
-    let os : List Out = ask_outs (view d past n) t in
-    one-if past (node d past n).up (or_void 6 os (acts_of past c n os)) (act.Void 6 ∷ []) (or_void 6 os (acts_of past calm n os)) (act.Void 6 ∷ []) (one-or_void past 6 os (acts_of past c n os) (acts_of past calm n os) (one-acts past c n 1 0 os (counts-ask (view d past n) t))) (one-same past (act.Void 6 ∷ []) refl)
+    let os : List Out = ask_outs (participant (view d past n)) t in
+    one-if past (node d past n).up (or_void 6 os (acts_of past c n os)) (act.Void 6 ∷ []) (or_void 6 os (acts_of past calm n os)) (act.Void 6 ∷ []) (one-or_void past 6 os (acts_of past c n os) (acts_of past calm n os) (one-acts past c n 1 0 os (counts-ask (participant (view d past n)) t))) (one-same past (act.Void 6 ∷ []) refl)
 
 lost-unset : (acts : List Act) → are_lost acts ≡ true → are_unset acts ≡ true
 lost-unset [] e = refl

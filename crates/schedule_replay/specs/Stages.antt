@@ -1,9 +1,7 @@
--- Where a transaction stands, and what a node sees, as a program keeps them.
-use Rattle.std.specs.Prelude.{List, [], None}
+-- Where a transaction stands, as a program keeps it.
+use Rattle.std.specs.Prelude.{List, []}
 use Rattle.score_base.specs.declared.ids.NodeId.{NodeId}
-use Rattle.grid_model.specs.Documents.{DocumentData}
-use Rattle.grid_model.specs.Nodes.{Node}
-use Rattle.grid_model.specs.Views.{View, view_of, Stage, Apart, Reads, Collects, Commits}
+use Rattle.grid_model.specs.Views.{Stage, Apart, Reads, Collects, Commits}
 use Rattle.schedule_replay.specs.declared.stages.Stage as kept
 use Rattle.schedule_replay.specs.declared.stages.Stage.TheVariants as stage'
 
@@ -13,10 +11,6 @@ shown stage'.Apart = Apart
 shown (stage'.Reads x j) = Reads x j
 shown (stage'.Collects x) = Collects x
 shown (stage'.Commits y acks) = Commits y acks.now
-
--- what a node sees, but for the transactions of its clients
-abbrev pub node_view : DocumentData → NodeId → Node → View
-node_view d n h = view_of d n h (λ t. None)
 
 -- the parts of a transaction that is decided
 abbrev pub parts_left : Stage → List NodeId

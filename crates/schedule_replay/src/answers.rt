@@ -2,11 +2,12 @@
 
 ghost use Rattle.std.specs.Prelude.{◌≡◌, ◌≤◌, ◌+◌, IfOk, IsTrue, None, length};
 ghost use Rattle.std.specs.Option.{option_copied};
+ghost use Rattle.placement.specs.Clusters.{ClusterData};
 ghost use Rattle.grid_model.specs.Fitness.{is_fit_at, tx_in};
 ghost use Rattle.grid_model.specs.Rows.{row_of, answer_at, begin_outs, retry_row, ask_outs};
-ghost use Rattle.grid_model.specs.Views.{stage_at, view_of};
+ghost use Rattle.grid_model.specs.Views.{stage_at, participant_of};
 ghost use Rattle.schedule_replay.specs.Numbering.{sends};
-ghost use Rattle.schedule_replay.specs.Stages.{shown, node_view, parts_left};
+ghost use Rattle.schedule_replay.specs.Stages.{shown, parts_left};
 
 use crate::advances::{advance, push_prepares_again, push_request, push_to};
 use crate::coordinators::{ack_row, ask_row, not_among, not_voted, push_tells, vote_row};
@@ -15,7 +16,7 @@ use crate::fitness::is_fit_at;
 use crate::readers::{read_outs, reply_outs};
 use crate::stages::{Open, Stage, parts_now, stage_of};
 use crate::voters::prepare_outs;
-use grid_model::{Act, Document, Message, Out, Story};
+use grid_model::{Act, Message, Out, Story};
 use journal_words::records::{commit_id, home_of, pending};
 use placement::Cluster;
 use run_state::{PlainNode, begun};
@@ -41,23 +42,22 @@ pub fn tx_in(message: &Message) -> TxId
 /// What a node gives where a fit message comes.
 fn row_of(
     alloc: Global,
-    doc: &Document,
+    cluster: &Cluster,
     n: NodeId,
     node: &PlainNode,
     stage: &Stage,
     from: NodeId,
     message: &Message,
 ) -> Result<Vec<Out>, Memory>
-    requires { IsTrue (is_fit_at n (node_view doc.now n node.now) (shown stage.now) from message.now) }
-    ensures { IfOk result (λ outs. outs.items ≡ row_of n (node_view doc.now n node.now) (shown stage.now) from message.now) }
+    requires { IsTrue (is_fit_at n (participant_of cluster.now node.now) (shown stage.now) from message.now) }
+    ensures { IfOk result (λ outs. outs.items ≡ row_of n (participant_of cluster.now node.now) node.now.held (shown stage.now) from message.now) }
 {
-    let cluster = doc.cluster();
     match message {
-        Message::ReadReq(q) => read_outs(alloc, doc, n, node, from, q),
+        Message::ReadReq(q) => read_outs(alloc, cluster, n, node, from, q),
         Message::ReadRep(q) => reply_outs(alloc, cluster, q, stage),
-        Message::Prepare(q) => prepare_outs(alloc, doc, n, node, from, q),
+        Message::Prepare(q) => prepare_outs(alloc, n, node, from, q),
         Message::Vote { t, ballot } => vote_row(alloc, cluster, *t, from, ballot, stage),
-        Message::Tell { t, outcome } => tell_outs(alloc, doc, n, node, *t, outcome),
+        Message::Tell { t, outcome } => tell_outs(alloc, cluster, n, node, *t, outcome),
         Message::Ack { t } => ack_row(alloc, *t, from, stage),
         Message::Ask { t } => ask_row(alloc, *t, from, stage),
     }
@@ -67,7 +67,7 @@ fn row_of(
 /// message's transaction: nothing where the message is not fit.
 pub fn answer(
     alloc: Global,
-    doc: &Document,
+    cluster: &Cluster,
     n: NodeId,
     node: &PlainNode,
     script: Option<&Script>,
@@ -75,25 +75,25 @@ pub fn answer(
     from: NodeId,
     message: &Message,
 ) -> Result<Vec<Out>, Memory>
-    ensures row { IfOk result (λ outs. outs.items ≡ answer_at n (view_of doc.now n node.now (λ t. None)) (stage_at n node.now (tx_in message.now) (option_copied script.entry) (option_copied story.entry)) from message.now) }
+    ensures row { IfOk result (λ outs. outs.items ≡ answer_at n (participant_of cluster.now node.now) node.now.held (stage_at n node.now (tx_in message.now) (option_copied script.entry) (option_copied story.entry)) from message.now) }
     ensures few { IfOk result (λ outs. sends outs.items ≤ 16 + length node.now.held) }
 {
-    let stage = stage_of(alloc, n, node, tx_in(message), script, story)?;
-    if !is_fit_at(alloc, doc, n, node, &stage, from, message)? {
+    let stage = stage_of(n, node, tx_in(message), script, story);
+    if !is_fit_at(alloc, cluster, n, node, &stage, from, message)? {
         return Ok(Vec::new(alloc));
     }
-    row_of(alloc, doc, n, node, &stage, from, message)
+    row_of(alloc, cluster, n, node, &stage, from, message)
 }
 
 /// What node `n` gives where a transaction of its own begins.
 pub fn begin_outs(
     alloc: Global,
-    doc: &Document,
+    cluster: &Cluster,
     n: NodeId,
     node: &PlainNode,
     script: &Script,
 ) -> Result<Vec<Out>, Memory>
-    ensures row { IfOk result (λ outs. outs.items ≡ begin_outs n (view_of doc.now n node.now (λ t. None)) script.now) }
+    ensures row { IfOk result (λ outs. outs.items ≡ begin_outs n (participant_of cluster.now node.now) script.now) }
     ensures few { IfOk result (λ outs. sends outs.items ≤ 16) }
 {
     let sid0 = commit_id(alloc, node.records.as_slice())?;
@@ -104,7 +104,7 @@ pub fn begin_outs(
     };
     let mut outs = Vec::new(alloc);
     push(&mut outs, Out::Act(Act::Began(script.number, n, sid0)))?;
-    let rest = advance(alloc, doc.cluster(), &tx, 0)?;
+    let rest = advance(alloc, cluster, &tx, 0)?;
     append(&mut outs, rest)?;
     Ok(outs)
 }
@@ -138,29 +138,23 @@ fn retry_row(alloc: Global, cluster: &Cluster, t: TxId, stage: &Stage) -> Result
 /// What the home sends again; nothing where nothing is outstanding.
 pub fn retry_outs(
     alloc: Global,
-    doc: &Document,
+    cluster: &Cluster,
     n: NodeId,
     node: &PlainNode,
     t: TxId,
     script: Option<&Script>,
     story: Option<&Story>,
 ) -> Result<Vec<Out>, Memory>
-    ensures row { IfOk result (λ outs. outs.items ≡ retry_row doc.now.cluster t (stage_at n node.now t (option_copied script.entry) (option_copied story.entry))) }
+    ensures row { IfOk result (λ outs. outs.items ≡ retry_row cluster.now t (stage_at n node.now t (option_copied script.entry) (option_copied story.entry))) }
     ensures few { IfOk result (λ outs. sends outs.items ≤ 16 + length (parts_left (stage_at n node.now t (option_copied script.entry) (option_copied story.entry)))) }
 {
-    let stage = stage_of(alloc, n, node, t, script, story)?;
-    retry_row(alloc, doc.cluster(), t, &stage)
+    let stage = stage_of(n, node, t, script, story);
+    retry_row(alloc, cluster, t, &stage)
 }
 
 /// What a node asks the home of `t`; nothing where `t` is not pending here.
-pub fn ask_outs(
-    alloc: Global,
-    doc: &Document,
-    n: NodeId,
-    node: &PlainNode,
-    t: TxId,
-) -> Result<Vec<Out>, Memory>
-    ensures row { IfOk result (λ outs. outs.items ≡ ask_outs (view_of doc.now n node.now (λ t. None)) t) }
+pub fn ask_outs(alloc: Global, node: &PlainNode, t: TxId) -> Result<Vec<Out>, Memory>
+    ensures row { (c : ClusterData) → IfOk result (λ outs. outs.items ≡ ask_outs (participant_of c node.now) t) }
     ensures few { IfOk result (λ outs. sends outs.items ≤ 1) }
 {
     let records = node.records.as_slice();

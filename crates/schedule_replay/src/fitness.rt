@@ -3,10 +3,11 @@
 ghost use Rattle.std.specs.Prelude.{◌≡◌, IfOk};
 ghost use Rattle.grid_model.specs.Stories.{is_small_cause, is_fit_ballot};
 ghost use Rattle.grid_model.specs.Fitness.{date_ident, is_fit_request, is_same_ident, is_fit_reply, is_rising, is_fit_prepare, is_part_at, is_at_least, is_fit_outcome, is_fit_content, is_fit_at};
-ghost use Rattle.schedule_replay.specs.Stages.{shown, node_view};
+ghost use Rattle.grid_model.specs.Views.{participant_of};
+ghost use Rattle.schedule_replay.specs.Stages.{shown};
 
 use crate::stages::{Stage, parts_now};
-use grid_model::{Document, Message, Prepare, ReadRep, ReadReq};
+use grid_model::{Message, Prepare, ReadRep, ReadReq};
 use journal_words::records::{are_own_keys, is_among, keys_in, pending};
 use placement::Cluster;
 use run_state::{PlainNode, is_small, is_small_node};
@@ -138,16 +139,15 @@ fn is_fit_outcome(p: Option<Ident>, outcome: &Outcome) -> bool
 /// Whether what a message says is fit.
 fn is_fit_content(
     alloc: Global,
-    doc: &Document,
+    cluster: &Cluster,
     n: NodeId,
     node: &PlainNode,
     stage: &Stage,
     from: NodeId,
     message: &Message,
 ) -> Result<bool, Memory>
-    ensures { IfOk result (λ fit. fit ≡ is_fit_content n (node_view doc.now n node.now) (shown stage.now) from message.now) }
+    ensures { IfOk result (λ fit. fit ≡ is_fit_content n (participant_of cluster.now node.now) (shown stage.now) from message.now) }
 {
-    let cluster = doc.cluster();
     match message {
         Message::ReadReq(q) => Ok(is_fit_request(cluster, n, q)),
         Message::ReadRep(q) => Ok(is_small(q.sid) && is_fit_reply(q, stage)),
@@ -167,15 +167,15 @@ fn is_fit_content(
 /// Whether a message is fit at the node.
 pub fn is_fit_at(
     alloc: Global,
-    doc: &Document,
+    cluster: &Cluster,
     n: NodeId,
     node: &PlainNode,
     stage: &Stage,
     from: NodeId,
     message: &Message,
 ) -> Result<bool, Memory>
-    ensures { IfOk result (λ fit. fit ≡ is_fit_at n (node_view doc.now n node.now) (shown stage.now) from message.now) }
+    ensures { IfOk result (λ fit. fit ≡ is_fit_at n (participant_of cluster.now node.now) (shown stage.now) from message.now) }
 {
-    let content = is_fit_content(alloc, doc, n, node, stage, from, message)?;
+    let content = is_fit_content(alloc, cluster, n, node, stage, from, message)?;
     Ok(is_small_node(node) && content)
 }

@@ -1,7 +1,7 @@
 //! What nodes give at the events of a schedule, by a run so far.
 ghost use Rattle.std.specs.Prelude.{◌≡◌, ◌≤◌, ◌+◌, IfOk, length};
 ghost use Rattle.grid_model.specs.Nodes.{node, script_of};
-ghost use Rattle.grid_model.specs.Views.{view, stage};
+ghost use Rattle.grid_model.specs.Views.{participant, view, stage};
 ghost use Rattle.grid_model.specs.Rows.{answer, begin_outs, retry_row, ask_outs};
 ghost use Rattle.run_state.specs.Kept.{past};
 ghost use Rattle.schedule_replay.specs.Numbering.{sends};
@@ -16,10 +16,10 @@ use std::alloc::Global;
 
 /// What the home gives where its transaction begins.
 pub fn outs_at_begin(alloc: Global, run: &RunState, script: &Script) -> Result<Vec<Out>, Memory>
-    ensures outs { IfOk result (λ outs. outs.items ≡ begin_outs script.now.home (view run.now.doc (past run.now) script.now.home) script.now) }
+    ensures outs { IfOk result (λ outs. outs.items ≡ begin_outs script.now.home (participant (view run.now.doc (past run.now) script.now.home)) script.now) }
 {
     let home = script.home;
-    begin_outs(alloc, run.doc(), home, run.node(home), script)
+    begin_outs(alloc, run.doc().cluster(), home, run.node(home), script)
 }
 
 /// What the receiver of a message gives.
@@ -34,7 +34,16 @@ pub fn outs_at_delivery(
     let t = tx_in(&envelope.message);
     let (script, story) = (script_of(doc.scripts(), t), run.story(t));
     let (from, message) = (envelope.from, &envelope.message);
-    answer(alloc, doc, n, run.node(n), script, story, from, message)
+    answer(
+        alloc,
+        doc.cluster(),
+        n,
+        run.node(n),
+        script,
+        story,
+        from,
+        message,
+    )
 }
 
 /// What the home sends again.
@@ -48,12 +57,12 @@ pub fn outs_at_retry(
 {
     let doc = run.doc();
     let (script, story) = (script_of(doc.scripts(), t), run.story(t));
-    retry_outs(alloc, doc, home, run.node(home), t, script, story)
+    retry_outs(alloc, doc.cluster(), home, run.node(home), t, script, story)
 }
 
 /// What a node asks the home of a transaction.
 pub fn outs_at_ask(alloc: Global, run: &RunState, n: NodeId, t: TxId) -> Result<Vec<Out>, Memory>
-    ensures outs { IfOk result (λ outs. outs.items ≡ ask_outs (view run.now.doc (past run.now) n) t) }
+    ensures outs { IfOk result (λ outs. outs.items ≡ ask_outs (participant (view run.now.doc (past run.now) n)) t) }
 {
-    ask_outs(alloc, run.doc(), n, run.node(n), t)
+    ask_outs(alloc, run.node(n), t)
 }

@@ -5,13 +5,13 @@ ghost use Rattle.journal_words.specs.Journals.{commit_id, floor, is_clear};
 ghost use Rattle.grid_model.specs.Stories.{is_small, is_small_node};
 ghost use Rattle.grid_model.specs.Fitness.{date_ident};
 ghost use Rattle.grid_model.specs.Rows.{served, version_for, release, dated, ceiling_of, ceilings, raises, answered, read_row, reply_row};
-ghost use Rattle.grid_model.specs.Views.{Reads};
+ghost use Rattle.grid_model.specs.Views.{Reads, participant_of};
 ghost use Rattle.grid_model.specs.declared.messages.ReadReq.{ReadReq};
-ghost use Rattle.schedule_replay.specs.Stages.{shown, node_view};
+ghost use Rattle.schedule_replay.specs.Stages.{shown};
 
 use crate::advances::advance;
 use crate::stages::{Open, Stage};
-use grid_model::{Act, Document, HeldRead, Message, Out, ReadRep, ReadReq};
+use grid_model::{Act, HeldRead, Message, Out, ReadRep, ReadReq};
 use journal_words::Version;
 use journal_words::records::{commit_id, floor, is_clear, version_at};
 use placement::Cluster;
@@ -148,7 +148,7 @@ fn push_answered(
 /// What a node gives where a read request comes from `from`.
 pub fn read_outs(
     alloc: Global,
-    doc: &Document,
+    cluster: &Cluster,
     n: NodeId,
     node: &PlainNode,
     from: NodeId,
@@ -156,7 +156,7 @@ pub fn read_outs(
 ) -> Result<Vec<Out>, Memory>
     requires node { IsTrue (is_small_node node.now.journal node.now.next) }
     requires date { IsTrue (is_small (date_ident q.now.date)) }
-    ensures { IfOk result (λ outs. outs.items ≡ read_row n (node_view doc.now n node.now) from q.now (dated q.now.date (commit_id node.now.journal))) }
+    ensures { IfOk result (λ outs. outs.items ≡ read_row n (participant_of cluster.now node.now) from q.now (dated q.now.date (commit_id node.now.journal))) }
 {
     let records = node.records.as_slice();
     let sid = dated(q.date, commit_id(alloc, records)?);
@@ -170,7 +170,7 @@ pub fn read_outs(
     let mut outs = Vec::new(alloc);
     push_ceiling(&mut outs, n, floor(records), sid)?;
     push_raised(&mut outs, n, node.next, sid)?;
-    push_answered(alloc, &mut outs, doc.cluster(), records, n, &read)?;
+    push_answered(alloc, &mut outs, cluster, records, n, &read)?;
     Ok(outs)
 }
 

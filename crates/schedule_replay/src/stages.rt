@@ -15,7 +15,7 @@ use placement::Cluster;
 use run_state::{PlainNode, parts_at};
 use score_base::{Memory, NodeId, NodeList, TxId};
 use script_lang::{Script, is_update};
-use script_runs::walk;
+use script_runs::first_waiting;
 use std::alloc::Global;
 use std::marker::Model;
 
@@ -106,32 +106,30 @@ fn acks_at<'a>(
 }
 
 /// Whether an open transaction is reading, and which operation, or collecting.
-fn open_stage<'a>(alloc: Global, tx: Open<'a>) -> Result<Stage<'a>, Memory>
-    ensures { IfOk result (λ s. shown s ≡ open_stage tx.entry (waiting tx.entry.script.ops tx.entry.values)) }
+fn open_stage(tx: Open<'_>) -> Stage<'_>
+    ensures { shown result ≡ open_stage tx.entry (waiting tx.entry.script.ops tx.entry.values) }
 {
-    let trail = walk(alloc, tx.script, tx.story.values.as_slice())?;
-    match trail.waiting {
-        None => Ok(Stage::Collects(tx)),
-        Some(j) => Ok(Stage::Reads(tx, j)),
+    match first_waiting(tx.script.ops(), tx.story.values.as_slice()) {
+        None => Stage::Collects(tx),
+        Some(j) => Stage::Reads(tx, j as u8),
     }
 }
 
 /// Where a transaction stands at node `n`, by its script and its story.
 pub fn stage_of<'a>(
-    alloc: Global,
     n: NodeId,
     node: &'a PlainNode,
     t: TxId,
     script: Option<&'a Script>,
     story: Option<&'a Story>,
-) -> Result<Stage<'a>, Memory>
-    ensures { IfOk result (λ s. shown s ≡ stage_at n node.now t (option_copied script.entry) (option_copied story.entry)) }
+) -> Stage<'a>
+    ensures { shown result ≡ stage_at n node.now t (option_copied script.entry) (option_copied story.entry) }
 {
     if let Some(decided) = undone(node.records.as_slice(), t) {
-        return Ok(Stage::Commits(decided, acks_at(n, node, t, script, story)));
+        return Stage::Commits(decided, acks_at(n, node, t, script, story));
     }
     match open_at(n, node, script, story) {
-        None => Ok(Stage::Apart),
-        Some(tx) => open_stage(alloc, tx),
+        None => Stage::Apart,
+        Some(tx) => open_stage(tx),
     }
 }

@@ -1,11 +1,12 @@
 //! A participant that is asked to vote.
 
 ghost use Rattle.std.specs.Prelude.{◌≡◌, ◌<◌, ◌+◌, ◌^◌, IfOk, IsTrue, max};
+ghost use Rattle.placement.specs.Clusters.{ClusterData};
 ghost use Rattle.grid_model.specs.Stories.{is_small, is_small_node};
 ghost use Rattle.grid_model.specs.Rows.{refused, judged, prepare_outs};
-ghost use Rattle.schedule_replay.specs.Stages.{node_view};
+ghost use Rattle.grid_model.specs.Views.{participant_of};
 
-use grid_model::{Act, Document, Message, Out, Prepare};
+use grid_model::{Act, Message, Out, Prepare};
 use journal_words::records::{ended, holder, newer, pending};
 use run_state::PlainNode;
 use score_base::{Ballot, Cause, Ident, Key, Memory, NodeId, TxId, push};
@@ -68,7 +69,6 @@ fn proposal(next: Ident, sid: Ident) -> Ident
 /// What a node gives where a Prepare comes from `from`.
 pub fn prepare_outs(
     alloc: Global,
-    doc: &Document,
     n: NodeId,
     node: &PlainNode,
     from: NodeId,
@@ -76,7 +76,7 @@ pub fn prepare_outs(
 ) -> Result<Vec<Out>, Memory>
     requires node { IsTrue (is_small_node node.now.journal node.now.next) }
     requires sid { IsTrue (is_small q.now.sid) }
-    ensures { IfOk result (λ outs. outs.items ≡ prepare_outs n (node_view doc.now n node.now) from q.now) }
+    ensures { (c : ClusterData) → IfOk result (λ outs. outs.items ≡ prepare_outs n (participant_of c node.now) from q.now) }
 {
     let records = node.records.as_slice();
     let t = q.t;

@@ -9,6 +9,6 @@ use Rattle.schedule_replay.proofs.answers.retry_outs.Goals as goal
 
 pub returns-clause-few : goal.returns-clause-few
 returns-clause-few c =
-    let s = shown c.in_ok-stage.stage in
-    let few = few-told c.retry_row.result (λ outs. outs.items) (retry_row c.cluster.result.now c.args.t s) (16 + length (parts_left s)) c.retry_row.ensures (retry-few c.cluster.result.now c.args.t s) in
-    subst (λ (x : Stage). IfOk c.retry_row.result (λ outs. sends outs.items ≤ 16 + length (parts_left x))) c.in_ok-stage.ensures few
+    let s = shown c.stage_of-stage.result in
+    let few = few-told c.retry_row.result (λ outs. outs.items) (retry_row c.args.cluster.now c.args.t s) (16 + length (parts_left s)) c.retry_row.ensures (retry-few c.args.cluster.now c.args.t s) in
+    subst (λ (x : Stage). IfOk c.retry_row.result (λ outs. sends outs.items ≤ 16 + length (parts_left x))) c.stage_of-stage.ensures few
