@@ -111,10 +111,10 @@ body_in s h = grind (arith, h)
 one_of : (d : DocumentData) → IsDocument d → IsInRange d → IsOne d
 one_of d is ranges =
     let places : list_all (list_all (λ n. nat_le 1 n)) d.cluster.places ≡ true =
-            all_pass (list_all is_node) (list_all (λ n. nat_le 1 n)) d.cluster.places
-                (λ ns h. all_pass is_node (λ n. nat_le 1 n) ns node_in h) ranges.places in
+    all_pass (list_all is_node) (list_all (λ n. nat_le 1 n)) d.cluster.places
+    (λ ns h. all_pass is_node (λ n. nat_le 1 n) ns node_in h) ranges.places in
     let homes : list_all (λ s. nat_le 1 s.home) d.scripts ≡ true =
-            all_pass is_script_in_range (λ s. nat_le 1 s.home) d.scripts home_in ranges.scripts in
+    all_pass is_script_in_range (λ s. nat_le 1 s.home) d.scripts home_in ranges.scripts in
     record {
       document = is;
       bodies = all_pass is_script_in_range (λ s. is_body s.ops) d.scripts body_in ranges.scripts;
@@ -128,7 +128,7 @@ ranges_of d r = record { places = r.places; inits = r.inits; scripts = r.scripts
 pub one-from_pieces : (xs : List (List ℕ)) (d : Draft) → pieces_from blank 1 xs ≡ Ok d → IsOne (document_of d)
 one-from_pieces xs d e =
     let told = at_ok (pieces_from blank 1 xs) (λ e. (bytes_so_far e ≡ join_with_byte 10 xs) × IsInRangeSoFar e) d
-            (blank_pieces_told 1 xs) e in
+    (blank_pieces_told 1 xs) e in
     one_of (document_of d) (IsDocument-from_pieces xs d e) (ranges_of d told.1)
 
 -- the bytes spell the document
