@@ -38,38 +38,18 @@ fn key(bytes: &[u8]) -> Result<Key, Memory>
     }
 }
 
-/// The key `a`.
-fn a() -> Key
-    ensures { result ≡ codes "a" }
-{
-    Key::new(b"a").unwrap()
+fn shows(rt: &impl Abort, alloc: Global, act: Act, line: &str) {
+    let mut out = Vec::new(alloc);
+    assert!(rt; write_act(&act, &mut out).is_ok());
+    assert_eq!(rt; out.as_slice(), line.as_bytes());
 }
 
-/// Appends the line of an act. Where there is no memory for it, it is missing from the text.
-fn put(out: &mut Vec<u8>, act: Act) {
-    let _ = write_act(&act, out);
-}
-
-/// Appends the line of a message where it is sent, by a copy of the message.
-fn say(out: &mut Vec<u8>, message: Message) {
-    if let Ok(copy) = message.copy() {
-        put(out, Act::Sent(3, node(2), node(1), copy));
+/// A message that was copied has this line where it is sent.
+fn says(rt: &impl Abort, alloc: Global, message: Message, line: &str) {
+    match message.copy() {
+        Ok(copy) => shows(rt, alloc, Act::Sent(3, node(2), node(1), copy), line),
+        Err(_) => assert!(rt; false),
     }
-}
-
-/// Appends the line of a node that went down while it wrote a record.
-fn stop(out: &mut Vec<u8>, head: Head) {
-    put(out, Act::Down(node(2), Some(head)));
-}
-
-/// Asserts that these bytes are that text, and shows the first line that is another.
-fn reads(rt: &impl Abort, wrote: &[u8], wanted: &str) {
-    let wrote = str::from_utf8(wrote).unwrap_or("no text");
-    let mut lines = wrote.lines();
-    for line in wanted.lines() {
-        assert_eq!(rt; lines.next(), Some(line));
-    }
-    assert_eq!(rt; wrote, wanted);
 }
 
 /// Whether the copy of an out is that out.
@@ -89,23 +69,163 @@ fn copies(rt: HostRuntime) {
 }
 
 #[test]
-fn acts_of_the_network(rt: HostRuntime) {
-    let mut out = Vec::new(rt.alloc());
-    put(&mut out, Act::Got(11));
-    put(&mut out, Act::Missed(4294967295));
-    put(&mut out, Act::Dropped(1));
-    put(&mut out, Act::Void(3));
-    put(&mut out, Act::Armed(node(2), 7, 0));
-    put(&mut out, Act::StillDown(node(16)));
-    let wanted = "\
-got 11
-missed 4294967295
-dropped 1
-void 3
-armed n2 7 0
-stilldown n16
-";
-    reads(&rt, out.as_slice(), wanted);
+fn acts_of_the_network(rt: HostRuntime) -> Result<(), Fail> {
+    let alloc = rt.alloc();
+    shows(&rt, alloc, Act::Got(11), "got 11\n");
+    shows(&rt, alloc, Act::Missed(4294967295), "missed 4294967295\n");
+    shows(&rt, alloc, Act::Dropped(1), "dropped 1\n");
+    shows(&rt, alloc, Act::Void(3), "void 3\n");
+    shows(&rt, alloc, Act::Armed(node(2), 7, 0), "armed n2 7 0\n");
+    shows(&rt, alloc, Act::StillDown(node(16)), "stilldown n16\n");
+    Ok(())
+}
+
+#[test]
+fn acts_of_reads(rt: HostRuntime) -> Result<(), Fail> {
+    let alloc = rt.alloc();
+    let a = key(b"a")?;
+    shows(
+        &rt,
+        alloc,
+        Act::Began(tx(2), node(1), Ident(1)),
+        "began 2 n1 1\n",
+    );
+    shows(
+        &rt,
+        alloc,
+        Act::Raised(node(2), Ident(64)),
+        "raised n2 64\n",
+    );
+    shows(
+        &rt,
+        alloc,
+        Act::Served(node(2), tx(1), 1, a, Ident(0), Ident(0), Value(10)),
+        "served n2 1 1 a 0 0 10\n",
+    );
+    shows(
+        &rt,
+        alloc,
+        Act::Held(node(2), tx(3), 1, Ident(1)),
+        "held n2 3 1 1\n",
+    );
+    shows(
+        &rt,
+        alloc,
+        Act::Taken(tx(1), 1, Ident(0), Value(10)),
+        "taken 1 1 0 10\n",
+    );
+    shows(&rt, alloc, Act::Own(tx(1), 3, Value(5)), "own 1 3 5\n");
+    shows(
+        &rt,
+        alloc,
+        Act::Ceiling(node(2), Ident(64)),
+        "ceiling n2 64\n",
+    );
+    Ok(())
+}
+
+#[test]
+fn acts_of_votes(rt: HostRuntime) -> Result<(), Fail> {
+    let alloc = rt.alloc();
+    let a = key(b"a")?;
+    shows(
+        &rt,
+        alloc,
+        Act::Prepared(node(2), tx(1), Ident(1)),
+        "prepared n2 1 1\n",
+    );
+    shows(
+        &rt,
+        alloc,
+        Act::Refused(node(2), tx(2), Cause::Holder(tx(1))),
+        "refused n2 2 holder 1\n",
+    );
+    shows(
+        &rt,
+        alloc,
+        Act::Refused(node(2), tx(1), Cause::Newer(a, Ident(1))),
+        "refused n2 1 newer a 1\n",
+    );
+    shows(&rt, alloc, Act::Decided(tx(2), Ident(2)), "decided 2 2\n");
+    shows(
+        &rt,
+        alloc,
+        Act::Aborted(tx(2), node(2), Cause::Holder(tx(1))),
+        "aborted 2 n2 holder 1\n",
+    );
+    shows(
+        &rt,
+        alloc,
+        Act::Aborted(tx(1), node(2), Cause::Newer(a, Ident(1))),
+        "aborted 1 n2 newer a 1\n",
+    );
+    Ok(())
+}
+
+#[test]
+fn acts_of_ends(rt: HostRuntime) -> Result<(), Fail> {
+    let alloc = rt.alloc();
+    shows(
+        &rt,
+        alloc,
+        Act::Ended(node(2), tx(1), Outcome::Commit(Ident(1))),
+        "ended n2 1 commit 1\n",
+    );
+    shows(
+        &rt,
+        alloc,
+        Act::Ended(node(1), tx(1), Outcome::Abort),
+        "ended n1 1 abort\n",
+    );
+    shows(&rt, alloc, Act::Finished(tx(1)), "finished 1\n");
+    shows(&rt, alloc, Act::Closed(tx(65535)), "closed 65535\n");
+    shows(&rt, alloc, Act::Lost(tx(1)), "lost 1\n");
+    shows(
+        &rt,
+        alloc,
+        Act::Up(node(1), Flag::Untouched),
+        "up n1 none\n",
+    );
+    shows(&rt, alloc, Act::Up(node(1), Flag::Kept), "up n1 kept\n");
+    shows(&rt, alloc, Act::Up(node(2), Flag::Gone), "up n2 gone\n");
+    Ok(())
+}
+
+fn stops(rt: &impl Abort, alloc: Global, head: Head, line: &str) {
+    shows(rt, alloc, Act::Down(node(2), Some(head)), line);
+}
+
+#[test]
+fn acts_of_stops(rt: HostRuntime) -> Result<(), Fail> {
+    let alloc = rt.alloc();
+    shows(&rt, alloc, Act::Down(node(2), None), "down n2 none\n");
+    stops(
+        &rt,
+        alloc,
+        Head::Prepared(tx(1), Ident(2)),
+        "down n2 prepared 1 2\n",
+    );
+    stops(
+        &rt,
+        alloc,
+        Head::Ended(tx(1), Outcome::Commit(Ident(1))),
+        "down n2 ended 1 commit 1\n",
+    );
+    stops(
+        &rt,
+        alloc,
+        Head::Ended(tx(1), Outcome::Abort),
+        "down n2 ended 1 abort\n",
+    );
+    stops(&rt, alloc, Head::Ceiling(Ident(64)), "down n2 ceiling 64\n");
+    stops(
+        &rt,
+        alloc,
+        Head::Decided(tx(1), Ident(3)),
+        "down n2 decided 1 3\n",
+    );
+    stops(&rt, alloc, Head::Closed(tx(1)), "down n2 closed 1\n");
+    Ok(())
 }
 
 fn request(t: TxId, op: u8, key: Key, date: Date) -> Message {
@@ -121,147 +241,75 @@ fn vote(t: TxId, ballot: Ballot) -> Message {
 }
 
 #[test]
-fn acts_of_reads(rt: HostRuntime) {
-    let mut out = Vec::new(rt.alloc());
-    put(&mut out, Act::Began(tx(2), node(1), Ident(1)));
-    put(&mut out, Act::Raised(node(2), Ident(64)));
-    let served = Act::Served(node(2), tx(1), 1, a(), Ident(0), Ident(0), Value(10));
-    put(&mut out, served);
-    put(&mut out, Act::Held(node(2), tx(3), 1, Ident(1)));
-    put(&mut out, Act::Taken(tx(1), 1, Ident(0), Value(10)));
-    put(&mut out, Act::Own(tx(1), 3, Value(5)));
-    put(&mut out, Act::Ceiling(node(2), Ident(64)));
-    let wanted = "\
-began 2 n1 1
-raised n2 64
-served n2 1 1 a 0 0 10
-held n2 3 1 1
-taken 1 1 0 10
-own 1 3 5
-ceiling n2 64
-";
-    reads(&rt, out.as_slice(), wanted);
-}
-
-#[test]
-fn acts_of_votes(rt: HostRuntime) {
-    let mut out = Vec::new(rt.alloc());
-    put(&mut out, Act::Prepared(node(2), tx(1), Ident(1)));
-    put(&mut out, Act::Refused(node(2), tx(2), Cause::Holder(tx(1))));
-    put(
-        &mut out,
-        Act::Refused(node(2), tx(1), Cause::Newer(a(), Ident(1))),
+fn messages_of_reads_and_votes(rt: HostRuntime) -> Result<(), Fail> {
+    let alloc = rt.alloc();
+    let a = key(b"a")?;
+    says(
+        &rt,
+        alloc,
+        request(tx(1), 1, a, Date::First(Ident(0))),
+        "sent 3 n2 n1 readreq 1 1 a first 0\n",
     );
-    put(&mut out, Act::Decided(tx(2), Ident(2)));
-    put(&mut out, Act::Aborted(tx(2), node(2), Cause::Holder(tx(1))));
-    put(
-        &mut out,
-        Act::Aborted(tx(1), node(2), Cause::Newer(a(), Ident(1))),
+    says(
+        &rt,
+        alloc,
+        request(tx(1), 2, a, Date::At(Ident(1))),
+        "sent 3 n2 n1 readreq 1 2 a at 1\n",
     );
-    let wanted = "\
-prepared n2 1 1
-refused n2 2 holder 1
-refused n2 1 newer a 1
-decided 2 2
-aborted 2 n2 holder 1
-aborted 1 n2 newer a 1
-";
-    reads(&rt, out.as_slice(), wanted);
-}
-
-#[test]
-fn acts_of_ends(rt: HostRuntime) {
-    let mut out = Vec::new(rt.alloc());
-    put(
-        &mut out,
-        Act::Ended(node(2), tx(1), Outcome::Commit(Ident(1))),
+    says(
+        &rt,
+        alloc,
+        reply(tx(1), 1, Ident(0), Value(10)),
+        "sent 3 n2 n1 readrep 1 1 0 10\n",
     );
-    put(&mut out, Act::Ended(node(1), tx(1), Outcome::Abort));
-    put(&mut out, Act::Finished(tx(1)));
-    put(&mut out, Act::Closed(tx(65535)));
-    put(&mut out, Act::Lost(tx(1)));
-    put(&mut out, Act::Up(node(1), Flag::Untouched));
-    put(&mut out, Act::Up(node(1), Flag::Kept));
-    put(&mut out, Act::Up(node(2), Flag::Gone));
-    let wanted = "\
-ended n2 1 commit 1
-ended n1 1 abort
-finished 1
-closed 65535
-lost 1
-up n1 none
-up n1 kept
-up n2 gone
-";
-    reads(&rt, out.as_slice(), wanted);
-}
-
-#[test]
-fn acts_of_stops(rt: HostRuntime) {
-    let mut out = Vec::new(rt.alloc());
-    put(&mut out, Act::Down(node(2), None));
-    stop(&mut out, Head::Prepared(tx(1), Ident(2)));
-    stop(&mut out, Head::Ended(tx(1), Outcome::Commit(Ident(1))));
-    stop(&mut out, Head::Ended(tx(1), Outcome::Abort));
-    stop(&mut out, Head::Ceiling(Ident(64)));
-    stop(&mut out, Head::Decided(tx(1), Ident(3)));
-    stop(&mut out, Head::Closed(tx(1)));
-    let wanted = "\
-down n2 none
-down n2 prepared 1 2
-down n2 ended 1 commit 1
-down n2 ended 1 abort
-down n2 ceiling 64
-down n2 decided 1 3
-down n2 closed 1
-";
-    reads(&rt, out.as_slice(), wanted);
-}
-
-#[test]
-fn messages_of_reads_and_votes(rt: HostRuntime) {
-    let mut out = Vec::new(rt.alloc());
-    say(&mut out, request(tx(1), 1, a(), Date::First(Ident(0))));
-    say(&mut out, request(tx(1), 2, a(), Date::At(Ident(1))));
-    say(&mut out, reply(tx(1), 1, Ident(0), Value(10)));
-    say(&mut out, vote(tx(1), Ballot::Yes(Ident(1))));
-    say(&mut out, vote(tx(2), Ballot::No(Cause::Holder(tx(1)))));
-    say(
-        &mut out,
-        vote(tx(1), Ballot::No(Cause::Newer(a(), Ident(1)))),
+    says(
+        &rt,
+        alloc,
+        vote(tx(1), Ballot::Yes(Ident(1))),
+        "sent 3 n2 n1 vote 1 yes 1\n",
     );
-    let wanted = "\
-sent 3 n2 n1 readreq 1 1 a first 0
-sent 3 n2 n1 readreq 1 2 a at 1
-sent 3 n2 n1 readrep 1 1 0 10
-sent 3 n2 n1 vote 1 yes 1
-sent 3 n2 n1 vote 2 no holder 1
-sent 3 n2 n1 vote 1 no newer a 1
-";
-    reads(&rt, out.as_slice(), wanted);
-}
-
-fn tell(t: TxId, outcome: Outcome) -> Message {
-    Message::Tell { t, outcome }
+    says(
+        &rt,
+        alloc,
+        vote(tx(2), Ballot::No(Cause::Holder(tx(1)))),
+        "sent 3 n2 n1 vote 2 no holder 1\n",
+    );
+    says(
+        &rt,
+        alloc,
+        vote(tx(1), Ballot::No(Cause::Newer(a, Ident(1)))),
+        "sent 3 n2 n1 vote 1 no newer a 1\n",
+    );
+    Ok(())
 }
 
 #[test]
-fn messages_of_ends(rt: HostRuntime) {
-    let mut out = Vec::new(rt.alloc());
-    say(&mut out, tell(tx(1), Outcome::Commit(Ident(1))));
-    say(&mut out, tell(tx(1), Outcome::Abort));
-    say(&mut out, Message::Ack { t: tx(1) });
-    say(&mut out, Message::Ask { t: tx(1) });
-    let wanted = "\
-sent 3 n2 n1 tell 1 commit 1
-sent 3 n2 n1 tell 1 abort
-sent 3 n2 n1 ack 1
-sent 3 n2 n1 ask 1
-";
-    reads(&rt, out.as_slice(), wanted);
+fn messages_of_ends(rt: HostRuntime) -> Result<(), Fail> {
+    let alloc = rt.alloc();
+    let t = tx(1);
+    says(
+        &rt,
+        alloc,
+        Message::Tell {
+            t,
+            outcome: Outcome::Commit(Ident(1)),
+        },
+        "sent 3 n2 n1 tell 1 commit 1\n",
+    );
+    says(
+        &rt,
+        alloc,
+        Message::Tell {
+            t,
+            outcome: Outcome::Abort,
+        },
+        "sent 3 n2 n1 tell 1 abort\n",
+    );
+    says(&rt, alloc, Message::Ack { t }, "sent 3 n2 n1 ack 1\n");
+    says(&rt, alloc, Message::Ask { t }, "sent 3 n2 n1 ask 1\n");
+    Ok(())
 }
 
-/// The Prepare of transaction 1 to a part that holds what it reads, or what it writes, at n1 and n2.
 fn prepare(alloc: Global, reads: KeyList, writes: WriteList) -> Result<Message, Memory> {
     let mut parts = NodeList::new(alloc);
     parts.push(node(1))?;
@@ -275,28 +323,27 @@ fn prepare(alloc: Global, reads: KeyList, writes: WriteList) -> Result<Message, 
     }))
 }
 
-fn writes_b(alloc: Global) -> Result<Message, Memory> {
-    let mut writes = WriteList::new(alloc);
-    writes.push((key(b"b")?, Value(11)))?;
-    prepare(alloc, KeyList::new(alloc), writes)
-}
-
-fn reads_a(alloc: Global) -> Result<Message, Memory> {
-    let mut reads = KeyList::new(alloc);
-    reads.push(a())?;
-    prepare(alloc, reads, WriteList::new(alloc))
-}
-
 #[test]
 fn message_prepare(rt: HostRuntime) -> Result<(), Fail> {
-    let mut out = Vec::new(rt.alloc());
-    say(&mut out, writes_b(rt.alloc())?);
-    say(&mut out, reads_a(rt.alloc())?);
-    let wanted = "\
-sent 3 n2 n1 prepare 1 0 parts 2 n1 n2 reads 0 writes 1 b 11
-sent 3 n2 n1 prepare 1 0 parts 2 n1 n2 reads 1 a writes 0
-";
-    reads(&rt, out.as_slice(), wanted);
+    let alloc = rt.alloc();
+    let mut writes = WriteList::new(alloc);
+    writes.push((key(b"b")?, Value(11)))?;
+    let message = prepare(alloc, KeyList::new(alloc), writes)?;
+    says(
+        &rt,
+        alloc,
+        message,
+        "sent 3 n2 n1 prepare 1 0 parts 2 n1 n2 reads 0 writes 1 b 11\n",
+    );
+    let mut reads = KeyList::new(alloc);
+    reads.push(key(b"a")?)?;
+    let message = prepare(alloc, reads, WriteList::new(alloc))?;
+    says(
+        &rt,
+        alloc,
+        message,
+        "sent 3 n2 n1 prepare 1 0 parts 2 n1 n2 reads 1 a writes 0\n",
+    );
     Ok(())
 }
 
@@ -363,87 +410,47 @@ fn first_read(alloc: Global) -> Result<Vec<Act>, Memory> {
     let mut acts = Vec::new(alloc);
     acts.push(Act::Up(node(1), Flag::Untouched))?;
     acts.push(Act::Up(node(2), Flag::Untouched))?;
-    push_request(&mut acts)?;
+    acts.push(Act::Began(tx(1), node(1), Ident(0)))?;
+    let asked = request(tx(1), 1, key(b"a")?, Date::First(Ident(0)));
+    acts.push(Act::Sent(1, node(1), node(2), asked))?;
+    acts.push(Act::Got(1))?;
     push_reply(&mut acts)?;
-    push_end(&mut acts)?;
     Ok(acts)
 }
 
-fn push_request(acts: &mut Vec<Act>) -> Result<(), Memory> {
-    acts.push(Act::Began(tx(1), node(1), Ident(0)))?;
-    let asked = request(tx(1), 1, a(), Date::First(Ident(0)));
-    acts.push(Act::Sent(1, node(1), node(2), asked))?;
-    acts.push(Act::Got(1))?;
-    Ok(())
-}
-
 fn push_reply(acts: &mut Vec<Act>) -> Result<(), Memory> {
-    let served = Act::Served(node(2), tx(1), 1, a(), Ident(0), Ident(0), Value(10));
-    acts.push(served)?;
-    let answer = reply(tx(1), 1, Ident(0), Value(10));
+    let (t, a) = (tx(1), key(b"a")?);
+    acts.push(Act::Served(node(2), t, 1, a, Ident(0), Ident(0), Value(10)))?;
+    let answer = reply(t, 1, Ident(0), Value(10));
     acts.push(Act::Sent(2, node(2), node(1), answer))?;
-    Ok(())
-}
-
-fn push_end(acts: &mut Vec<Act>) -> Result<(), Memory> {
     acts.push(Act::Got(2))?;
-    acts.push(Act::Taken(tx(1), 1, Ident(0), Value(10)))?;
-    acts.push(Act::Finished(tx(1)))?;
+    acts.push(Act::Taken(t, 1, Ident(0), Value(10)))?;
+    acts.push(Act::Finished(t))?;
     Ok(())
-}
-
-/// The text of the document with one transaction, by a copy of it, and those acts.
-fn text_of_first_read(alloc: Global) -> Result<Vec<u8>, Memory> {
-    let doc = one_reader(alloc)?.copy()?;
-    let acts = first_read(alloc)?;
-    let mut out = Vec::new(alloc);
-    write_history(&doc, acts.as_slice(), &mut out)?;
-    Ok(out)
 }
 
 #[test]
 fn text_of_a_first_read(rt: HostRuntime) -> Result<(), Fail> {
-    let out = text_of_first_read(rt.alloc())?;
-    let wanted = "\
-up n1 none
-up n2 none
-began 1 n1 0
-sent 1 n1 n2 readreq 1 1 a first 0
-got 1
-served n2 1 1 a 0 0 10
-sent 2 n2 n1 readrep 1 1 0 10
-got 2
-taken 1 1 0 10
-finished 1
-summary
-tx 1 read 0
-key a n2 10 0
-key b n1 0 0
-";
-    reads(&rt, out.as_slice(), wanted);
+    let alloc = rt.alloc();
+    let doc = one_reader(alloc)?.copy()?;
+    let acts = first_read(alloc)?;
+    let mut out = Vec::new(alloc);
+    write_history(&doc, acts.as_slice(), &mut out)?;
+    let want =
+        "up n1 none\nup n2 none\nbegan 1 n1 0\nsent 1 n1 n2 readreq 1 1 a first 0\ngot 1\nserved n2 1 1 a 0 0 10\nsent 2 n2 n1 readrep 1 1 0 10\ngot 2\ntaken 1 1 0 10\nfinished 1\nsummary\ntx 1 read 0\nkey a n2 10 0\nkey b n1 0 0\n";
+    assert_eq!(rt; out.as_slice(), want.as_bytes());
     Ok(())
 }
 
-/// The summary of the document with two transactions, of which the one that stands first was begun.
-fn summary_of_two(alloc: Global) -> Result<Vec<u8>, Memory> {
+#[test]
+fn summary_in_rising_number(rt: HostRuntime) -> Result<(), Fail> {
+    let alloc = rt.alloc();
     let doc = two_readers(alloc)?;
     let mut acts = Vec::new(alloc);
     acts.push(Act::Began(tx(10), node(1), Ident(0)))?;
     let mut out = Vec::new(alloc);
     write_summary(&doc, acts.as_slice(), &mut out)?;
-    Ok(out)
-}
-
-#[test]
-fn summary_in_rising_number(rt: HostRuntime) -> Result<(), Fail> {
-    let out = summary_of_two(rt.alloc())?;
-    let wanted = "\
-summary
-tx 9 unbegun
-tx 10 reading 1
-key a n2 10 0
-key b n1 0 0
-";
-    reads(&rt, out.as_slice(), wanted);
+    let want = "summary\ntx 9 unbegun\ntx 10 reading 1\nkey a n2 10 0\nkey b n1 0 0\n";
+    assert_eq!(rt; out.as_slice(), want.as_bytes());
     Ok(())
 }

@@ -1,29 +1,19 @@
-//! The rows of the program: what a command writes and how it ends, for documents, for bytes that are none,
-//! and where a stream fails.
-
 use crate::{rows, score};
 use score_base::Memory;
 use score_io::{MemSink, MemSource};
 use std::alloc::Global;
 use std::process::Abort;
 
-const HEAD: &str = "\
-nodes 2
-partition 0 n1
-partition 1 n2
-init a 10
-init b 0
-";
+const HEAD: &str = "nodes 2\npartition 0 n1\npartition 1 n2\ninit a 10\ninit b 0\n";
 
-/// What a command was handed, and which calls of its streams fail; 0 is none.
-#[derive(Clone, Copy)]
-struct Given<'a> {
-    words: &'a str,
-    head: &'a str,
-    rest: &'a str,
-    source_fails: u64,
-    sink_fails: u64,
-}
+const EMPTY_SCHEDULE: &str = "schedule\n";
+
+const EMPTY_SCHEDULE_TEXT: &str = "up n1 none\nup n2 none\nsummary\nkey a n2 10 0\nkey b n1 0 0\n";
+
+const FIRST_READ: &str = "tx 1 n1\nread a\nend\nschedule\nbegin 1\ndeliver 1\ndeliver 2\n";
+
+const FIRST_READ_TEXT: &str =
+    "up n1 none\nup n2 none\nbegan 1 n1 0\nsent 1 n1 n2 readreq 1 1 a first 0\ngot 1\nserved n2 1 1 a 0 0 10\nsent 2 n2 n1 readrep 1 1 0 10\ngot 2\ntaken 1 1 0 10\nfinished 1\nsummary\ntx 1 read 0\nkey a n2 10 0\nkey b n1 0 0\n";
 
 /// The words of a line.
 fn words_of(alloc: Global, line: &str) -> Result<Vec<String>, Memory> {
@@ -36,6 +26,23 @@ fn words_of(alloc: Global, line: &str) -> Result<Vec<String>, Memory> {
     Ok(words)
 }
 
+/// One call of the top call: whether it answers this code and writes this text.
+fn call(
+    alloc: Global,
+    line: &str,
+    bytes: Vec<u8>,
+    source_fails: u64,
+    sink_fails: u64,
+    code: u8,
+    text: &str,
+) -> Result<bool, Memory> {
+    let words = words_of(alloc, line)?;
+    let mut source = MemSource::new(bytes, [source_fails].to_vec(alloc)?);
+    let mut sink = MemSink::new(alloc, [sink_fails].to_vec(alloc)?);
+    let status = score(alloc, &words, &mut source, &mut sink);
+    Ok(status.code == code && sink.bytes() == text.as_bytes())
+}
+
 /// The bytes of a document in two pieces.
 fn bytes_of(alloc: Global, head: &str, rest: &str) -> Result<Vec<u8>, Memory> {
     let mut bytes = Vec::from_slice(alloc, head.as_bytes())?;
@@ -43,162 +50,126 @@ fn bytes_of(alloc: Global, head: &str, rest: &str) -> Result<Vec<u8>, Memory> {
     Ok(bytes)
 }
 
-/// The code that the command ends with on these bytes, and what it writes.
-fn answer(alloc: Global, given: &Given<'_>, bytes: Vec<u8>) -> Result<(u8, Vec<u8>), Memory> {
-    let words = words_of(alloc, given.words)?;
-    let mut source = MemSource::new(bytes, [given.source_fails].to_vec(alloc)?);
-    let mut sink = MemSink::new(alloc, [given.sink_fails].to_vec(alloc)?);
-    let status = score(alloc, &words, &mut source, &mut sink);
-    Ok((status.code, sink.bytes().to_vec(alloc)?))
-}
-
-fn called(alloc: Global, given: &Given<'_>) -> Result<(u8, Vec<u8>), Memory> {
-    let bytes = bytes_of(alloc, given.head, given.rest)?;
-    answer(alloc, given, bytes)
-}
-
-/// Asserts that these bytes are that text, and shows the first line that is another.
-fn reads(rt: &impl Abort, row: &str, wrote: &[u8], wanted: &str) {
-    let wrote = str::from_utf8(wrote).unwrap_or("no text");
-    let mut lines = wrote.lines();
-    for line in wanted.lines() {
-        assert_eq!(rt; lines.next(), Some(line), "{row}");
-    }
-    assert_eq!(rt; wrote, wanted, "{row}");
-}
-
-/// Asserts that a command ends so.
-fn ends(rt: &impl Abort, row: &str, answer: Result<(u8, Vec<u8>), Memory>, code: u8, text: &str) {
-    match answer {
-        Ok((ended, wrote)) => {
-            reads(rt, row, wrote.as_slice(), text);
-            assert_eq!(rt; ended, code, "{row}");
-        }
-        Err(_) => assert!(rt; false, "{row}: no memory"),
-    }
-}
-
-/// Asserts that the document is played, and that this is written.
-fn runs(rt: &impl Abort, alloc: Global, row: &str, document: &str, text: &str) {
-    let given = Given {
-        words: "run",
-        head: document,
-        rest: "",
-        source_fails: 0,
-        sink_fails: 0,
+fn called(
+    alloc: Global,
+    line: &str,
+    head: &str,
+    rest: &str,
+    source_fails: u64,
+    sink_fails: u64,
+    code: u8,
+    text: &str,
+) -> bool {
+    let Ok(bytes) = bytes_of(alloc, head, rest) else {
+        return false;
     };
-    ends(rt, row, called(alloc, &given), 0, text);
+    match call(alloc, line, bytes, source_fails, sink_fails, code, text) {
+        Ok(is_so) => is_so,
+        Err(_) => false,
+    }
 }
 
-/// Asserts that these lines behind those of `HEAD` are refused so.
+fn runs(rt: &impl Abort, alloc: Global, document: &str, text: &str) {
+    assert!(rt; called(alloc, "run", document, "", 0, 0, 0, text));
+}
+
 fn refuses(rt: &impl Abort, alloc: Global, rest: &str, text: &str) {
-    let given = Given {
-        words: "run",
-        head: HEAD,
-        rest,
-        source_fails: 0,
-        sink_fails: 0,
-    };
-    ends(rt, rest, called(alloc, &given), 3, text);
+    assert!(rt; called(alloc, "run", HEAD, rest, 0, 0, 3, text));
 }
 
 #[test]
-fn reads_alone(rt: HostRuntime) {
+fn reads(rt: HostRuntime) {
     let alloc = rt.alloc();
-    let text = rows::EMPTY_SCHEDULE_TEXT;
-    runs(&rt, alloc, "empty_schedule", rows::EMPTY_SCHEDULE, text);
-    let text = rows::FIRST_READ_TEXT;
-    runs(&rt, alloc, "first_read", rows::FIRST_READ, text);
+    assert!(rt;
+        called(
+            alloc,
+            "run",
+            HEAD,
+            EMPTY_SCHEDULE,
+            0,
+            0,
+            0,
+            EMPTY_SCHEDULE_TEXT
+        )
+    );
+    assert!(rt; called(alloc, "run", HEAD, FIRST_READ, 0, 0, 0, FIRST_READ_TEXT));
 }
 
 #[test]
 fn updates(rt: HostRuntime) {
     let alloc = rt.alloc();
-    let text = rows::READ_THEN_WRITE_TEXT;
-    runs(&rt, alloc, "read_then_write", rows::READ_THEN_WRITE, text);
-    let text = rows::NEXT_UPDATE_TEXT;
-    runs(&rt, alloc, "next_update", rows::NEXT_UPDATE, text);
-    let text = rows::OWN_READ_TEXT;
-    runs(&rt, alloc, "own_read", rows::OWN_READ, text);
-    let (document, text) = (rows::REPLICATED_TRANSFER, rows::REPLICATED_TRANSFER_TEXT);
-    runs(&rt, alloc, "replicated_transfer", document, text);
-    let (document, text) = (
-        rows::BYSTANDER_GETS_NOTHING,
-        rows::BYSTANDER_GETS_NOTHING_TEXT,
+    runs(
+        &rt,
+        alloc,
+        rows::READ_THEN_WRITE,
+        rows::READ_THEN_WRITE_TEXT,
     );
-    runs(&rt, alloc, "bystander_gets_nothing", document, text);
-}
-
-#[test]
-fn conflicts(rt: HostRuntime) {
-    let alloc = rt.alloc();
-    let text = rows::WRITE_CONFLICT_TEXT;
-    runs(&rt, alloc, "write_conflict", rows::WRITE_CONFLICT, text);
-    let (document, text) = (rows::STALE_READ_REFUSED, rows::STALE_READ_REFUSED_TEXT);
-    runs(&rt, alloc, "stale_read_refused", document, text);
-    let text = rows::HELD_READ_TEXT;
-    runs(&rt, alloc, "held_read", rows::HELD_READ, text);
-    let text = rows::EQUAL_FINALS_TEXT;
-    runs(&rt, alloc, "equal_finals", rows::EQUAL_FINALS, text);
-    let (document, text) = (rows::LOCK_UNTIL_APPLIED, rows::LOCK_UNTIL_APPLIED_TEXT);
-    runs(&rt, alloc, "lock_until_applied", document, text);
-}
-
-#[test]
-fn repeats(rt: HostRuntime) {
-    let alloc = rt.alloc();
-    let (document, text) = (
+    runs(&rt, alloc, rows::NEXT_UPDATE, rows::NEXT_UPDATE_TEXT);
+    runs(&rt, alloc, rows::WRITE_CONFLICT, rows::WRITE_CONFLICT_TEXT);
+    runs(
+        &rt,
+        alloc,
+        rows::STALE_READ_REFUSED,
+        rows::STALE_READ_REFUSED_TEXT,
+    );
+    runs(&rt, alloc, rows::HELD_READ, rows::HELD_READ_TEXT);
+    runs(
+        &rt,
+        alloc,
         rows::REPEATS_AFTER_THE_END,
         rows::REPEATS_AFTER_THE_END_TEXT,
     );
-    runs(&rt, alloc, "repeats_after_the_end", document, text);
-    let text = rows::REPEATED_VOTES_TEXT;
-    runs(&rt, alloc, "repeated_votes", rows::REPEATED_VOTES, text);
+    runs(&rt, alloc, rows::REPEATED_VOTES, rows::REPEATED_VOTES_TEXT);
+    runs(&rt, alloc, rows::EQUAL_FINALS, rows::EQUAL_FINALS_TEXT);
+    runs(&rt, alloc, rows::OWN_READ, rows::OWN_READ_TEXT);
+    runs(
+        &rt,
+        alloc,
+        rows::BYSTANDER_GETS_NOTHING,
+        rows::BYSTANDER_GETS_NOTHING_TEXT,
+    );
+    runs(
+        &rt,
+        alloc,
+        rows::REPLICATED_TRANSFER,
+        rows::REPLICATED_TRANSFER_TEXT,
+    );
+    runs(
+        &rt,
+        alloc,
+        rows::LOCK_UNTIL_APPLIED,
+        rows::LOCK_UNTIL_APPLIED_TEXT,
+    );
 }
 
 #[test]
-fn refused_lines(rt: HostRuntime) {
+fn refusals(rt: HostRuntime) {
     let alloc = rt.alloc();
-    let bad_key = "tx 1 n1\nread A\nend\nschedule\n";
-    refuses(&rt, alloc, bad_key, "refused 7 5\n");
+    refuses(
+        &rt,
+        alloc,
+        "tx 1 n1\nread A\nend\nschedule\n",
+        "refused 7 5\n",
+    );
     refuses(&rt, alloc, "tx 1 n1\nread a\n", "refused 8 10\n");
     refuses(&rt, alloc, "tx 1 n1\nread a", "refused 7 10\n");
-    let unread = "tx 1 n1\nwrite b a\nend\nschedule\n";
-    refuses(&rt, alloc, unread, "refused 7 7\n");
+    refuses(
+        &rt,
+        alloc,
+        "tx 1 n1\nwrite b a\nend\nschedule\n",
+        "refused 7 7\n",
+    );
     refuses(&rt, alloc, "schedule\nretry 1\n", "refused 7 12\n");
-}
-
-/// The empty schedule.
-fn plain<'a>(words: &'a str, source_fails: u64, sink_fails: u64) -> Given<'a> {
-    Given {
-        words,
-        head: HEAD,
-        rest: "schedule\n",
-        source_fails,
-        sink_fails,
-    }
+    assert!(rt; called(alloc, "run", "", "", 0, 0, 3, "refused 1 10\n"));
+    assert!(rt; called(alloc, "run run", HEAD, EMPTY_SCHEDULE, 0, 0, 2, "usage\n"));
+    assert!(rt; called(alloc, "", HEAD, EMPTY_SCHEDULE, 0, 0, 2, "usage\n"));
 }
 
 #[test]
-fn usage_and_faults(rt: HostRuntime) {
+fn faults(rt: HostRuntime) {
     let alloc = rt.alloc();
-    let none = Given {
-        words: "run",
-        head: "",
-        rest: "",
-        source_fails: 0,
-        sink_fails: 0,
-    };
-    let text = "refused 1 10\n";
-    ends(&rt, "no bytes", called(alloc, &none), 3, text);
-    let two = called(alloc, &plain("run run", 0, 0));
-    ends(&rt, "two words", two, 2, "usage\n");
-    let no_word = called(alloc, &plain("", 0, 0));
-    ends(&rt, "no words", no_word, 2, "usage\n");
-    let read = called(alloc, &plain("run", 1, 0));
-    ends(&rt, "the source fails", read, 4, "read fault\n");
-    let wrote = called(alloc, &plain("run", 0, 1));
-    ends(&rt, "the sink fails", wrote, 5, "");
+    assert!(rt; called(alloc, "run", HEAD, EMPTY_SCHEDULE, 1, 0, 4, "read fault\n"));
+    assert!(rt; called(alloc, "run", HEAD, EMPTY_SCHEDULE, 0, 1, 5, ""));
 }
 
 /// The text of a run of so many events that change nothing.
@@ -213,37 +184,34 @@ fn text_of_voids(alloc: Global, count: usize) -> Result<Vec<u8>, Memory> {
 
 /// As many events as a schedule may have, with no message to deliver.
 fn are_all_void(alloc: Global) -> Result<bool, Memory> {
+    let words = words_of(alloc, "run")?;
     let bytes = bytes_of(alloc, HEAD, "schedule\nnext 50000\n")?;
-    let (code, wrote) = answer(alloc, &plain("run", 0, 0), bytes)?;
+    let mut source = MemSource::new(bytes, Vec::new(alloc));
+    let mut sink = MemSink::new(alloc, Vec::new(alloc));
+    let status = score(alloc, &words, &mut source, &mut sink);
     let text = text_of_voids(alloc, 50000)?;
-    Ok(code == 0 && wrote.as_slice() == text.as_slice())
+    Ok(status.code == 0 && sink.bytes() == text.as_slice())
 }
 
 #[test]
 fn event_limit(rt: HostRuntime) {
     let alloc = rt.alloc();
     assert!(rt; matches!(are_all_void(alloc), Ok(true)));
-    let one_more = "schedule\nnext 50000\nnext 1\n";
-    refuses(&rt, alloc, one_more, "refused 8 9\n");
-}
-
-#[test]
-fn key_limit(rt: HostRuntime) {
-    let alloc = rt.alloc();
-    let (document, text) = (rows::LONGEST_KEY, rows::LONGEST_KEY_TEXT);
-    runs(&rt, alloc, "longest_key", document, text);
-    let longer = "init ccccccccccccccccccccccccccccccccc 1\nschedule\n";
-    refuses(&rt, alloc, longer, "refused 6 5\n");
+    refuses(
+        &rt,
+        alloc,
+        "schedule\nnext 50000\nnext 1\n",
+        "refused 8 9\n",
+    );
 }
 
 /// An input of one byte more than is read.
-fn beyond_the_limit(alloc: Global) -> Result<(u8, Vec<u8>), Memory> {
+fn is_too_long(alloc: Global) -> Result<bool, Memory> {
     let bytes = vec![in alloc; 32u8; 4194305]?;
-    answer(alloc, &plain("run", 0, 0), bytes)
+    call(alloc, "run", bytes, 0, 0, 3, "too long\n")
 }
 
 #[test]
 fn too_long(rt: HostRuntime) {
-    let answer = beyond_the_limit(rt.alloc());
-    ends(&rt, "too long", answer, 3, "too long\n");
+    assert!(rt; matches!(is_too_long(rt.alloc()), Ok(true)));
 }

@@ -1,162 +1,120 @@
-//! Which bytes each kind of field takes, and what tables put and take; the bytes are those of the formats.
-
 use super::*;
-use score_base::{Ballot, Cause, Date, Ident, Key, Memory, Outcome, TxId, put_bytes};
-use std::alloc::Global;
-use std::process::Abort;
+use score_base::{Ballot, Cause, Date, Ident, Key, Outcome, TxId};
 use std::test::Fail;
 
 const MARK: u8 = 9;
 
-/// What a table of one field takes from its tag and these bytes.
-fn taken(alloc: Global, field: Field, bytes: &[u8]) -> Result<Option<Taken<1>>, Memory> {
-    let mut text = Vec::new(alloc);
-    put_bytes(&mut text, &[MARK])?;
-    put_bytes(&mut text, bytes)?;
+/// What a table of one field takes from its tag, these bytes and a byte behind them.
+fn taken(rt: &HostRuntime, field: Field, bytes: &[u8]) -> Result<Option<Taken<1>>, Fail> {
+    let mut text = [MARK].to_vec(rt.alloc())?;
+    text.extend_from_slice(bytes)?;
     let layout = Layout {
         tag: MARK,
         fields: [field],
     };
-    Ok(layout.take(text.as_slice()))
+    Ok(layout.take(&text))
 }
 
 /// Whether it takes anything.
-fn is_taken(alloc: Global, field: Field, bytes: &[u8]) -> Result<bool, Memory> {
-    Ok(taken(alloc, field, bytes)?.is_some())
+fn is_taken(rt: &HostRuntime, field: Field, bytes: &[u8]) -> Result<bool, Fail> {
+    let mut text = [MARK].to_vec(rt.alloc())?;
+    text.extend_from_slice(bytes)?;
+    let layout = Layout {
+        tag: MARK,
+        fields: [field],
+    };
+    Ok(layout.take(&text).is_some())
 }
 
-/// Whether it takes nothing from each front of these bytes.
-fn is_short(alloc: Global, field: Field, bytes: &[u8]) -> Result<bool, Memory> {
-    for n in 0..bytes.len() {
-        if is_taken(alloc, field, &bytes[..n])? {
-            return Ok(false);
+/// A spelling of each kind, and the datum of it.
+fn spellings() -> [(Field, &'static [u8], Datum); 15] {
+    [
+        (Field::U8, b"\xff", Datum::Number(255)),
+        (Field::U64, b"\0\0\0\0\0\0\x01\x02", Datum::Number(258)),
+        (Field::Op, b"\x20", Datum::Number(32)),
+        (Field::Tx, b"\x01\0", Datum::Number(256)),
+        (Field::Node, b"\x10", Datum::Number(16)),
+        (Field::Nodes, b"\x03\x01\x02\x10", Datum::Span(1, 5)),
+        (Field::Keys, b"\0", Datum::Span(1, 2)),
+        (Field::Keys, b"\x02\x01b\x02a_", Datum::Span(1, 7)),
+        (
+            Field::Writes,
+            b"\x01\x01b\0\0\0\0\0\0\0\x0b",
+            Datum::Span(1, 12),
+        ),
+        (Field::Outcome, b"\0", Datum::Span(1, 2)),
+        (
+            Field::Outcome,
+            b"\x01\0\0\0\0\0\0\0\x01",
+            Datum::Span(1, 10),
+        ),
+        (Field::Ballot, b"\x01\0\0\0\0\0\0\0\x01", Datum::Span(1, 10)),
+        (Field::Ballot, b"\x02\0\x07", Datum::Span(1, 4)),
+        (
+            Field::Ballot,
+            b"\x03\x01b\0\0\0\0\0\0\0\x01",
+            Datum::Span(1, 12),
+        ),
+        (Field::Date, b"\0\0\0\0\0\0\0\0\0", Datum::Span(1, 10)),
+    ]
+}
+
+#[test]
+fn each_kind_is_taken_whole_and_nothing_shorter(rt: HostRuntime) -> Result<(), Fail> {
+    for (field, bytes, datum) in spellings() {
+        let whole = taken(&rt, field, bytes)?.ok_or("a spelling is taken")?;
+        assert_eq!(rt; whole.values[0], datum);
+        assert_eq!(rt; whole.used.checked_sub(1), Some(bytes.len()));
+        for n in 0..bytes.len() {
+            assert!(rt; !is_taken(&rt, field, &bytes[..n])?);
         }
     }
-    Ok(true)
-}
-
-/// Whether it takes all of these bytes, as this datum.
-fn is_whole(alloc: Global, field: Field, bytes: &[u8], datum: Datum) -> Result<bool, Memory> {
-    Ok(match taken(alloc, field, bytes)? {
-        Some(whole) => {
-            whole.values[0] == datum && whole.used.checked_sub(1) == Some(bytes.len())
-        }
-        None => false,
-    })
-}
-
-/// Asserts that the bytes are taken whole as this datum, and that nothing shorter is taken.
-fn takes(rt: &impl Abort, alloc: Global, field: Field, bytes: &[u8], datum: Datum) {
-    let whole = is_whole(alloc, field, bytes, datum);
-    assert!(rt; matches!(whole, Ok(true)), "{field:?} takes {bytes:?}");
-    let short = is_short(alloc, field, bytes);
-    assert!(rt;
-        matches!(short, Ok(true)),
-        "{field:?} takes less than {bytes:?}"
-    );
-}
-
-/// Asserts that nothing is taken of these bytes.
-fn refuses(rt: &impl Abort, alloc: Global, field: Field, bytes: &[u8]) {
-    let any = is_taken(alloc, field, bytes);
-    assert!(rt; matches!(any, Ok(false)), "{field:?} refuses {bytes:?}");
+    Ok(())
 }
 
 #[test]
-fn numbers_and_nodes_are_taken(rt: HostRuntime) {
-    let alloc = rt.alloc();
-    takes(&rt, alloc, Field::U8, b"\xff", Datum::Number(255));
-    let number = Datum::Number(258);
-    takes(&rt, alloc, Field::U64, b"\0\0\0\0\0\0\x01\x02", number);
-    takes(&rt, alloc, Field::Op, b"\x20", Datum::Number(32));
-    takes(&rt, alloc, Field::Tx, b"\x01\0", Datum::Number(256));
-    takes(&rt, alloc, Field::Node, b"\x10", Datum::Number(16));
-    takes(
-        &rt,
-        alloc,
-        Field::Nodes,
-        b"\x03\x01\x02\x10",
-        Datum::Span(1, 5),
-    );
-}
-
-#[test]
-fn lists_and_choices_are_taken(rt: HostRuntime) {
-    let alloc = rt.alloc();
-    takes(&rt, alloc, Field::Keys, b"\0", Datum::Span(1, 2));
-    takes(
-        &rt,
-        alloc,
-        Field::Keys,
-        b"\x02\x01b\x02a_",
-        Datum::Span(1, 7),
-    );
-    let write = b"\x01\x01b\0\0\0\0\0\0\0\x0b";
-    takes(&rt, alloc, Field::Writes, write, Datum::Span(1, 12));
-    takes(&rt, alloc, Field::Outcome, b"\0", Datum::Span(1, 2));
-    let commit = b"\x01\0\0\0\0\0\0\0\x01";
-    takes(&rt, alloc, Field::Outcome, commit, Datum::Span(1, 10));
-    let yes = b"\x01\0\0\0\0\0\0\0\x01";
-    takes(&rt, alloc, Field::Ballot, yes, Datum::Span(1, 10));
-    takes(&rt, alloc, Field::Ballot, b"\x02\0\x07", Datum::Span(1, 4));
-    let newer = b"\x03\x01b\0\0\0\0\0\0\0\x01";
-    takes(&rt, alloc, Field::Ballot, newer, Datum::Span(1, 12));
-    let first = b"\0\0\0\0\0\0\0\0\0";
-    takes(&rt, alloc, Field::Date, first, Datum::Span(1, 10));
-}
-
-#[test]
-fn what_is_no_number_or_key_is_not_taken(rt: HostRuntime) {
-    let alloc = rt.alloc();
-    refuses(&rt, alloc, Field::Op, b"\0");
-    refuses(&rt, alloc, Field::Op, b"\x21");
-    refuses(&rt, alloc, Field::Tx, b"\0\0");
-    refuses(&rt, alloc, Field::Node, b"\0");
-    refuses(&rt, alloc, Field::Node, b"\x11");
-    refuses(&rt, alloc, Field::Key, b"\0");
-    refuses(&rt, alloc, Field::Key, b"\x021a");
-    refuses(&rt, alloc, Field::Key, b"\x01A");
-    let long = b"\x21kkkkkkkkkkkkkkkkkkkkkkkkkkkkkkkkk";
-    refuses(&rt, alloc, Field::Key, long);
-}
-
-#[test]
-fn what_is_no_list_or_choice_is_not_taken(rt: HostRuntime) {
-    let alloc = rt.alloc();
-    refuses(&rt, alloc, Field::Nodes, b"\0");
-    refuses(&rt, alloc, Field::Nodes, b"\x02\x02\x01");
-    refuses(&rt, alloc, Field::Nodes, b"\x02\x01\x01");
-    refuses(&rt, alloc, Field::Nodes, b"\x01\x11");
-    let many = b"\x11\x01\x02\x03\x04\x05\x06\x07\x08\x09\x0a\x0b\x0c\x0d\x0e\x0f\x10\x11";
-    refuses(&rt, alloc, Field::Nodes, many);
-    refuses(&rt, alloc, Field::Keys, b"\x01\x011");
-    refuses(&rt, alloc, Field::Outcome, b"\x02\0\0\0\0\0\0\0\x01");
-    refuses(&rt, alloc, Field::Ballot, b"\0\0\0\0\0\0\0\0\x01");
-    refuses(&rt, alloc, Field::Ballot, b"\x02\0\0");
-    refuses(&rt, alloc, Field::Date, b"\x02\0\0\0\0\0\0\0\0");
-}
-
-/// The spelling of a list of so many keys, were there a list of so many.
-fn keys(alloc: Global, count: u8) -> Result<Vec<u8>, Memory> {
-    let mut text = Vec::new(alloc);
-    put_bytes(&mut text, &[count])?;
-    for _ in 0..count {
-        put_bytes(&mut text, b"\x01b")?;
+fn what_is_no_spelling_is_not_taken(rt: HostRuntime) -> Result<(), Fail> {
+    let long_key = [b'k'; 33];
+    let mut long = [33].to_vec(rt.alloc())?;
+    long.extend_from_slice(&long_key)?;
+    assert!(rt; !is_taken(&rt, Field::Key, &long)?, "a key of 33 bytes");
+    let refused: [(Field, &'static [u8]); 18] = [
+        (Field::Op, b"\0"),
+        (Field::Op, b"\x21"),
+        (Field::Tx, b"\0\0"),
+        (Field::Node, b"\0"),
+        (Field::Node, b"\x11"),
+        (Field::Key, b"\0"),
+        (Field::Key, b"\x021a"),
+        (Field::Key, b"\x01A"),
+        (Field::Nodes, b"\0"),
+        (Field::Nodes, b"\x02\x02\x01"),
+        (Field::Nodes, b"\x02\x01\x01"),
+        (Field::Nodes, b"\x01\x11"),
+        (
+            Field::Nodes,
+            b"\x11\x01\x02\x03\x04\x05\x06\x07\x08\x09\x0a\x0b\x0c\x0d\x0e\x0f\x10\x11",
+        ),
+        (Field::Keys, b"\x01\x011"),
+        (Field::Outcome, b"\x02\0\0\0\0\0\0\0\x01"),
+        (Field::Ballot, b"\0\0\0\0\0\0\0\0\x01"),
+        (Field::Ballot, b"\x02\0\0"),
+        (Field::Date, b"\x02\0\0\0\0\0\0\0\0"),
+    ];
+    for (field, bytes) in refused {
+        assert!(rt; !is_taken(&rt, field, bytes)?, "{field:?} {bytes:?}");
     }
-    Ok(text)
-}
-
-#[test]
-fn more_than_32_keys_are_not_taken(rt: HostRuntime) -> Result<(), Fail> {
-    let alloc = rt.alloc();
-    let many = keys(alloc, 33)?;
-    refuses(&rt, alloc, Field::Keys, many.as_slice());
+    let mut many = [33].to_vec(rt.alloc())?;
+    for _ in 0..33 {
+        many.extend_from_slice(b"\x01b")?;
+    }
+    assert!(rt; !is_taken(&rt, Field::Keys, &many)?, "33 keys");
     Ok(())
 }
 
 #[test]
 fn a_key_is_taken(rt: HostRuntime) -> Result<(), Fail> {
-    let whole = taken(rt.alloc(), Field::Key, b"\x02a_")?.ok_or("a key is taken")?;
+    let whole = taken(&rt, Field::Key, b"\x02a_")?.ok_or("a key is taken")?;
     assert_eq!(rt;
         whole.values[0],
         Datum::Key(Key::new(b"a_").ok_or("a key")?)
