@@ -18,7 +18,7 @@ use Rattle.grid_model.specs.declared.messages.Message.TheVariants as message
 use Rattle.grid_model.specs.declared.stories.Story.{Story}
 use Rattle.grid_model.specs.Documents.{DocumentData}
 use Rattle.journal_words.specs.Journals.{Decision, is_closed, undone, has_commit}
-use Rattle.grid_model.specs.Nodes.{Node, got, journal, node, script_of, record_of}
+use Rattle.grid_model.specs.Nodes.{Node, got, is_home_in, journal, node, script_of, record_of}
 use Rattle.grid_model.specs.Stories.{story}
 use Rattle.script_runs.specs.Waits.{waiting}
 use Rattle.grid_model.specs.Views.{Open, Commits, acks_at, acks_by, open_at, open_stage, stage_by}
@@ -43,9 +43,17 @@ all-more P Q [] go h = refl
 all-more P Q (n ∷ ns) go h = and_from (Q n) (list_all Q ns) (go n (and_parts (P n) (list_all P ns) h).0) (all-more P Q ns go (and_parts (P n) (list_all P ns) h).1)
 
 pub over-more : (d : DocumentData) (past : List Act) (a : Act) (t : TxId) → is_over d past t ≡ true → is_over d (a ∷ past) t ≡ true
-over-more d past a t h = all-more (λ n. has_commit t (journal d past n)) (λ n. has_commit t (journal d (a ∷ past) n)) (parts_at d t) (λ n i. commit-more d past a n t i) h
+over-more d past a t h =
+    let then' = λ n. has_commit t (journal d past n) in
+    let now' = λ n. has_commit t (journal d (a ∷ past) n) in
+    let both = and_parts (is_some (script_of t d.scripts)) (list_all then' (parts_at d t)) h in
+    and_from (is_some (script_of t d.scripts)) (list_all now' (parts_at d t)) both.0 (all-more then' now' (parts_at d t) (λ n i. commit-more d past a n t i) both.1)
 
 -- ---- a Closed says that the transaction is over
+
+home-script : (s : Option ScriptData) (n : NodeId) → is_home_in s n ≡ true → is_some s ≡ true
+home-script None n h = cc
+home-script (Some s) n h = refl
 
 commits-acks : (u : Option Decision) (o : Option Open) (some : List NodeId) (y : Decision) (acks : List NodeId) → stage_by u o some ≡ Commits y acks → some ≡ acks
 commits-acks (Some z) o some y acks e = cc
@@ -72,7 +80,8 @@ closed-over d past n t all due =
     let before : List Act = due.before in
     let there : AllDue d (act.Got due.m ∷ before) = subst P due.is all in
     let is : undone t (node d before n).journal ≡ Some due.decision = stage-commits d before n t due.decision due.acks due.stage in
-    let parts : due.decision.parts ≡ parts_at d t = (decision-home d n t due.decision (node d before n).journal (nodes-fit d before there.1 n).homes (undone-decision t due.decision (node d before n).journal is)).parts in
+    let here = decision-home d n t due.decision (node d before n).journal (nodes-fit d before there.1 n).homes (undone-decision t due.decision (node d before n).journal is) in
+    let parts : due.decision.parts ≡ parts_at d t = here.parts in
     let same : acks_at n (node d before n) t (script_of t d.scripts) (story d before t) ≡ due.acks = commits-acks (undone t (node d before n).journal) (open_at n (node d before n) (script_of t d.scripts) (story d before t)) (acks_at n (node d before n) t (script_of t d.scripts) (story d before t)) due.decision due.acks due.stage in
     let R : List NodeId → Type 0 = λ ks. AllAcks d before t ks in
     let backed : AllAcks d before t due.acks = subst R same (backed-acks d before n (node d before n) t (script_of t d.scripts) (story d before t) (stories-backed d before there.1 t)) in
@@ -81,7 +90,8 @@ closed-over d past n t all due =
     let each : AllAcks d before t acks = acks-last d before t due.acks due.from backed last in
     let S : List NodeId → Type 0 = λ ns. are_all_among ns acks ≡ true in
     let full : are_all_among (parts_at d t) acks ≡ true = subst S parts due.all in
-    let over : is_over d before t ≡ true = all-among (λ k. has_commit t (journal d before k)) (parts_at d t) (λ k i. ack-found d before t k acks each (acked-each k (parts_at d t) acks full i)) in
+    let ended = all-among (λ k. has_commit t (journal d before k)) (parts_at d t) (λ k i. ack-found d before t k acks each (acked-each k (parts_at d t) acks full i)) in
+    let over : is_over d before t ≡ true = and_from _ _ (home-script (script_of t d.scripts) n here.home) ended in
     subst Q (sym due.is) (over-more d before (act.Got due.m) t over)
 
 abbrev pub ClosedSays : DocumentData → List Act → NodeId → Record → Type 0

@@ -1,7 +1,7 @@
 -- What an Ended says: a commit was decided, and an abort is of a transaction that was given up.
 use Rattle.std.proofs.Common.{◌≡◌, Bool, true, false, List, [], ◌∷◌, Option, Some, None, inl, inr, refl, sym, subst, arith}
 use Rattle.std.proofs.lemmas.Bool.Decides.{nat_tests}
-use Rattle.std.proofs.lemmas.Bool.{cases_eq}
+use Rattle.std.proofs.lemmas.Bool.{cases_eq, and_parts}
 use Rattle.std.specs.Prelude.{◌||◌}
 use Rattle.std.specs.List.{list_all}
 use Rattle.score_base.specs.declared.ids.TxId.{TxId}
@@ -72,7 +72,8 @@ pub pending-not-over : (d : DocumentData) (past : List Act) (n : NodeId) (t : Tx
 pending-not-over d past n t p all e over =
     let fit = (nodes-fit d past all n).fits in
     let x = pending-prepared t p (journal d past n) e in
-    let here : has_commit t (journal d past n) ≡ true = all-found (λ k. has_commit t (journal d past k)) (parts_at d t) n over (prepared-part d past n t x.0 all x.1) in
+    let ended = (and_parts (is_some (script_of t d.scripts)) (list_all (λ k. has_commit t (journal d past k)) (parts_at d t)) over).1 in
+    let here : has_commit t (journal d past n) ≡ true = all-found (λ k. has_commit t (journal d past k)) (parts_at d t) n ended (prepared-part d past n t x.0 all x.1) in
     let c = has_commit-says d.cluster n t (journal d past n) fit here in
     let none : pending t (journal d past n) ≡ None = ended-over d.cluster n t (outcome.Commit c.0) (journal d past n) fit c.1 in
     cc

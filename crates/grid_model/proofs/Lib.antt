@@ -9,6 +9,7 @@ pub mod RunsThatStop
 pub mod Unarmed
 pub mod LawfulStops
 pub mod ViewsOnTheWay
+pub mod StateLaws
 pub mod Undecided
 pub mod EventShapes
 pub mod ViewSteps

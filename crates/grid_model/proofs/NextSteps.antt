@@ -1,5 +1,5 @@
 -- The view of a node behind an event is the next view: the outs of each row are those that it takes.
-use Rattle.std.proofs.Common.{ℕ, ◌+◌, max, Bool, true, false, ◌&&◌, ◌||◌, ◌==◌, nat_lt, IsTrue, filter, slice_get, ◌-◌, List, [], ◌∷◌, ◌++◌, Option, None, Some, is_some, is_none, ◌≡◌, refl, ap, subst, sym, ◌∙◌, arith, ◌⊎◌, inl, inr, if◌then◌else◌}
+use Rattle.std.proofs.Common.{ℕ, ◌+◌, max, Bool, true, false, ◌&&◌, ◌||◌, ◌==◌, nat_lt, IsTrue, filter, slice_get, List, [], ◌∷◌, ◌++◌, Option, None, Some, is_some, is_none, ◌≡◌, refl, ap, subst, sym, ◌∙◌, arith, ◌⊎◌, inl, inr, if◌then◌else◌}
 use Rattle.score_base.specs.declared.ids.TxId.{TxId}
 use Rattle.score_base.specs.declared.ids.NodeId.{NodeId}
 use Rattle.score_base.specs.declared.ids.Ident.{Ident}
@@ -33,7 +33,7 @@ use Rattle.grid_model.specs.Stories.{story, has_voted, first_sid}
 use Rattle.script_runs.specs.Waits.{waiting}
 use Rattle.grid_model.specs.Views.{View, Open, Stage, Apart, Reads, Collects, Commits, view, stage, stage_by, open_stage, participant}
 use Rattle.grid_model.specs.Advances.{advance, advance_end, request_of, to_node, prepares, prepare_for, date_by, owns, parts_now}
-use Rattle.script_runs.specs.Walks.{own_reads, unread}
+use Rattle.script_runs.specs.Walks.{op_at, own_reads, unread}
 use Rattle.grid_model.specs.Fitness.{is_fit, is_fit_at, tx_in}
 use Rattle.grid_model.specs.Rows.{release, served, ceiling_of, ceilings, raises, answered, read_row, version_for, dated, reply_row, prepare_row, tells, have_voted, decides, greatest_vote, ballot_row, vote_row, are_all_among, ack_row, ask_row, commit_row, abort_row, tell_outs, freed_by, row_of, answer, begin_outs, begun_at, retry_row, not_voted, not_among, ask_outs, if_pending}
 use Rattle.grid_model.specs.Schedules.{numbered}
@@ -53,7 +53,7 @@ request-plain d n b c x j q None = refl
 request-plain d n b c x j q (Some o) = to-plain d n b (slice_get (preferred c.places x.script.home (key_of o)) q) (message.ReadReq (record { t = x.script.number; op = j; key = key_of o; date = date_by x.sid0 x.sid }))
 
 end-plain : (d : DocumentData) (n : NodeId) (b : Bool) (c : ClusterData) (x : Open) (w : Option ℕ) → IsTrue (are_plain d n b (advance_end c x w))
-end-plain d n b c x (Some j) = request-plain d n b c x j 0 (slice_get x.script.ops (j - 1))
+end-plain d n b c x (Some j) = request-plain d n b c x j 0 (op_at x.script.ops j)
 end-plain d n b c x None = go (is_update x.script.ops)
   where
     go : (u : Bool) → IsTrue (are_plain d n b (if u then prepares c x (parts_now c x) else out.Act (act.Finished x.script.number) ∷ []))
@@ -90,7 +90,7 @@ ask-plain d n t x (Commits y acks) = refl
 ask-plain d n t x Apart = refl
 
 pub retry-plain : (d : DocumentData) (n : NodeId) (c : ClusterData) (t : TxId) (s : Stage) → IsTrue (are_plain d n false (retry_row c t s))
-retry-plain d n c t (Reads x j) = request-plain d n false c x j x.turn (slice_get x.script.ops (j - 1))
+retry-plain d n c t (Reads x j) = request-plain d n false c x j x.turn (op_at x.script.ops j)
 retry-plain d n c t (Collects x) = plain-sends d n false (λ m. message.Prepare (prepare_for c x m)) (not_voted (parts_now c x) x.votes)
 retry-plain d n c t (Commits y acks) = plain-sends d n false (λ m. message.Tell t (outcome.Commit y.final)) (not_among y.parts acks)
 retry-plain d n c t Apart = refl

@@ -7,7 +7,8 @@ use Rattle.grid_model.specs.declared.acts.Act.TheVariants as act
 use Rattle.grid_model.specs.declared.acts.Flag.TheVariants as flag
 use Rattle.grid_model.specs.Documents.{DocumentData}
 use Rattle.grid_model.specs.Histories.{after}
-use Rattle.grid_model.specs.Runs.{IsRun, Lawful, Explains, fuse, fuse_at_stop, is_let, are_let, is_stop, is_by_fuse, stops, faults, as_number}
+use Rattle.grid_model.specs.Runs.{IsRun, Lawful, Explains, is_let, are_let, is_stop, is_by_fuse, stops, faults, as_number}
+use Rattle.grid_model.specs.Fuses.{fuse, fuse_at_stop}
 
 -- no fuse of n is armed in these acts
 abbrev pub is_unarmed : NodeId → List Act → Bool

@@ -1,5 +1,5 @@
 -- What stands behind every message, record, decision and promise of a lawful run.
-use Rattle.std.specs.Prelude.{◌≡◌, ◌≢◌, ◌≤◌, ◌<◌, ℕ, ◌*◌, max, Bool, true, false, ◌&&◌, ◌||◌, ◌==◌, nat_lt, IsTrue, List, [], ◌∷◌, ◌++◌, Option, Some, None, if◌then◌else◌}
+use Rattle.std.specs.Prelude.{◌≡◌, ◌≢◌, ◌≤◌, ◌<◌, ℕ, ◌*◌, max, Bool, true, false, ◌&&◌, ◌||◌, ◌==◌, nat_lt, IsTrue, List, [], ◌∷◌, ◌++◌, Option, Some, None, is_some, if◌then◌else◌}
 use Rattle.std.specs.List.{list_all}
 use Rattle.score_base.specs.declared.ids.TxId.{TxId}
 use Rattle.score_base.specs.declared.ids.NodeId.{NodeId}
@@ -53,9 +53,9 @@ is_given_up t (a ∷ past) = is_given_up t past
 abbrev pub parts_at : DocumentData → TxId → List NodeId
 parts_at d t = parts_in d (script_of t d.scripts)
 
--- every part of t has ended it with commit
+-- t has a script, and every part of it has ended it with commit
 abbrev pub is_over : DocumentData → List Act → TxId → Bool
-is_over d past t = list_all (λ n. has_commit t (journal d past n)) (parts_at d t)
+is_over d past t = is_some (script_of t d.scripts) && list_all (λ n. has_commit t (journal d past n)) (parts_at d t)
 
 -- ---- the records that stand, and the record in doubt
 

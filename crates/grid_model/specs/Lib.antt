@@ -7,6 +7,9 @@ pub mod Views
 pub mod Advances
 pub mod Fitness
 pub mod Rows
+pub mod Fuses
+pub mod States
+pub mod Voids
 pub mod Schedules
 pub mod NextViews
 pub mod Runs

@@ -52,11 +52,15 @@ is_home d t n = is_home_in (script_of t d.scripts) n
 
 -- ---- what an act says of a record
 
+-- the message of the last Got behind an act
+abbrev pub got_behind : Act → List Envelope → Option Envelope → Option Envelope
+got_behind (act.Got m) ms e = sent_at m ms
+got_behind a ms e = e
+
 -- the message of the last Got
 abbrev pub got : List Act → Option Envelope
 got [] = None
-got (act.Got m ∷ past) = sent_at m (sent past)
-got (a ∷ past) = got past
+got (a ∷ past) = got_behind a (sent past) (got past)
 
 -- the Prepared of t behind a message from x, where it is a Prepare
 abbrev pub prepared_from : NodeId → Message → TxId → Ident → Option Record

@@ -1,16 +1,16 @@
 -- Lawful runs: the start and the rows of the events, by the free choices of the disks; and what fuses
 -- and faults let the disks choose.
-use Rattle.std.specs.Prelude.{◌≡◌, ◌≢◌, ◌≤◌, ℕ, ◌+◌, ◌*◌, Bool, true, false, ◌&&◌, ◌||◌, ◌==◌, not, nat_lt, nat_le, IsTrue, List, [], ◌∷◌, ◌++◌, Option, Some, None, if◌then◌else◌}
+use Rattle.std.specs.Prelude.{◌≡◌, ◌≢◌, ◌≤◌, ℕ, ◌+◌, Bool, true, false, ◌&&◌, ◌||◌, ◌==◌, not, IsTrue, List, [], ◌∷◌, ◌++◌, Some}
 use Rattle.std.specs.List.{flat_map}
 use Rattle.score_base.specs.declared.ids.NodeId.{NodeId}
-use Rattle.score_base.specs.declared.records.Record.{Record}
 use Rattle.grid_model.specs.declared.acts.Act.{Act}
 use Rattle.grid_model.specs.declared.acts.Act.TheVariants as act
 use Rattle.grid_model.specs.declared.acts.Flag.TheVariants as flag
 use Rattle.grid_model.specs.declared.items.Item.{Item}
 use Rattle.grid_model.specs.Documents.{DocumentData}
 use Rattle.grid_model.specs.Histories.{after}
-use Rattle.grid_model.specs.Nodes.{journal, is_home}
+use Rattle.grid_model.specs.Fuses.{is_record_at, lets_record, lets_gate, stops_record, stops_opening}
+use Rattle.grid_model.specs.States.{State, state_of}
 use Rattle.grid_model.specs.Schedules.{Choice, row, start_row, events_in}
 
 -- ---- the rows and the free choices
@@ -28,80 +28,16 @@ pub record IsRun (d : DocumentData) (items : List Item) (h : List Act) : Type 0 
   pub start : h ≡ start_row d.cluster.nodes opens ++ rest
   pub rows : Rows d (after [] (start_row d.cluster.nodes opens)) (flat_map events_in items) rest
 
--- ---- fuses
+-- ---- what the fuses allow
 
--- an armed fuse: it stops the k-th device call; the records written and the openings of an empty
--- journal behind it
-pub record Fuse : Type 0 where
-  pub k : ℕ
-  pub records : ℕ
-  pub opened : ℕ
-
--- the node at which an act stands for a record is n
-abbrev pub is_record_at : DocumentData → Act → NodeId → Bool
-is_record_at d (act.Prepared m t p) n = m == n
-is_record_at d (act.Ended m t o) n = m == n
-is_record_at d (act.Ceiling m c) n = m == n
-is_record_at d (act.Decided t f) n = is_home d t n
-is_record_at d (act.Closed t) n = is_home d t n
-is_record_at d a n = false
-
--- there is no record
-abbrev pub is_empty : List Record → Bool
-is_empty [] = true
-is_empty (x ∷ r) = false
-
--- an armed fuse behind one record more
-abbrev pub with_record : Bool → Option Fuse → Option Fuse
-with_record b None = None
-with_record b (Some x) = if b then Some (record x { records = x.records + 1 }) else Some x
-
--- an armed fuse behind one more opening of an empty journal
-abbrev pub with_opening : Bool → Option Fuse → Option Fuse
-with_opening b None = None
-with_opening b (Some x) = if b then Some (record x { opened = x.opened + 1 }) else Some x
-
--- the fuse of n, where it is armed: no Down and no StillDown stands behind it
-abbrev pub fuse : DocumentData → List Act → NodeId → Option Fuse
-fuse d [] n = None
-fuse d (act.Armed m k how ∷ past) n = if m == n then Some (record { k = k; records = 0; opened = 0 }) else fuse d past n
-fuse d (act.Down m h ∷ past) n = if m == n then None else fuse d past n
-fuse d (act.StillDown m ∷ past) n = if m == n then None else fuse d past n
-fuse d (act.Up m f ∷ past) n = with_opening ((m == n) && is_empty (journal d (act.Up m f ∷ past) n)) (fuse d past n)
-fuse d (a ∷ past) n = with_record (is_record_at d a n) (fuse d past n)
-
--- an append takes 4 device calls, and making a file anew takes 2
-
--- a record may be kept: the fuse is not armed, or stops no call of its append
-abbrev pub lets_record : Option Fuse → Bool
-lets_record None = true
-lets_record (Some x) = nat_lt (4 * x.records + 4) x.k
-
--- a stop in a record is by the fuse
-abbrev pub stops_record : Option Fuse → Bool
-stops_record None = false
-stops_record (Some x) = nat_lt (4 * x.records) x.k && nat_le x.k (4 * x.records + 4 + 2 * x.opened)
-
--- a failed opening is by the fuse
-abbrev pub stops_opening : Option Fuse → List Record → Bool
-stops_opening None r = false
-stops_opening (Some x) r = nat_le x.k 2 && is_empty r
-
--- the gate of the record may be open: the fuse was not armed, or stopped the write of the gate or its sync
-abbrev pub lets_gate : Option Fuse → Bool
-lets_gate None = true
-lets_gate (Some x) = nat_le (4 * x.records + 3) x.k
-
--- the fuse of n before its last Down
-abbrev pub fuse_at_stop : DocumentData → List Act → NodeId → Option Fuse
-fuse_at_stop d [] n = None
-fuse_at_stop d (act.Down m h ∷ past) n = if m == n then fuse d past n else fuse_at_stop d past n
-fuse_at_stop d (a ∷ past) n = fuse_at_stop d past n
+-- an act on a state is one that the fuse of n allows
+abbrev pub is_let_on : DocumentData → State → Act → NodeId → Bool
+is_let_on d st (act.Up m flag.Kept) n = not (m == n) || lets_gate (st.fuses_at_stop n)
+is_let_on d st a n = not (is_record_at d a n) || lets_record (st.fuses n)
 
 -- an act behind a past is one that the fuse of n allows
 abbrev pub is_let : DocumentData → List Act → Act → NodeId → Bool
-is_let d past (act.Up m flag.Kept) n = not (m == n) || lets_gate (fuse_at_stop d past n)
-is_let d past a n = not (is_record_at d a n) || lets_record (fuse d past n)
+is_let d past a n = is_let_on d (state_of d past) a n
 
 -- the fuse of n allows each of these acts
 abbrev pub are_let : DocumentData → List Act → NodeId → Bool
@@ -116,11 +52,15 @@ is_stop (act.Down m (Some h)) n = m == n
 is_stop (act.StillDown m) n = m == n
 is_stop a n = false
 
--- the stop of n by an act behind this past is by its fuse
+-- the stop of n by an act on a state is by its fuse
+abbrev pub is_by_fuse_on : State → Act → NodeId → Bool
+is_by_fuse_on st (act.Down m (Some h)) n = stops_record (st.fuses n)
+is_by_fuse_on st (act.StillDown m) n = stops_opening (st.fuses n) (st.nodes n).journal
+is_by_fuse_on st a n = false
+
+-- the same, behind a past
 abbrev pub is_by_fuse : DocumentData → List Act → Act → NodeId → Bool
-is_by_fuse d past (act.Down m (Some h)) n = stops_record (fuse d past n)
-is_by_fuse d past (act.StillDown m) n = stops_opening (fuse d past n) (journal d past n)
-is_by_fuse d past a n = false
+is_by_fuse d past a n = is_by_fuse_on (state_of d past) a n
 
 -- 1 for what is so, and 0 for what is not
 abbrev pub as_number : Bool → ℕ

@@ -1,5 +1,5 @@
 -- The rows of a schedule's items, behind a history: which acts an event has, by what its disks do.
-use Rattle.std.specs.Prelude.{ℕ, ◌+◌, zero, suc, Bool, true, false, ◌&&◌, ◌||◌, ◌==◌, map, replicate, List, [], ◌∷◌, length, Option, Some, None, if◌then◌else◌}
+use Rattle.std.specs.Prelude.{ℕ, ◌+◌, zero, suc, Bool, true, false, ◌&&◌, ◌==◌, map, replicate, List, [], ◌∷◌, length, Option, Some, None, if◌then◌else◌}
 use Rattle.std.specs.List.{range_with_len, flat_map}
 use Rattle.score_base.specs.declared.ids.TxId.{TxId}
 use Rattle.score_base.specs.declared.ids.NodeId.{NodeId}
@@ -17,12 +17,15 @@ use Rattle.grid_model.specs.declared.items.Item.{Item}
 use Rattle.grid_model.specs.declared.items.Item.TheVariants as item
 use Rattle.grid_model.specs.declared.messages.Envelope.{Envelope}
 use Rattle.grid_model.specs.declared.stories.Story.{Story}
+use Rattle.grid_model.specs.declared.voids.Void.TheVariants as void
 use Rattle.grid_model.specs.Documents.{DocumentData, number_order, script_numbers}
-use Rattle.grid_model.specs.Histories.{sent, sent_at}
-use Rattle.grid_model.specs.Nodes.{node, script_of}
-use Rattle.grid_model.specs.Stories.{story, phase, is_open}
-use Rattle.grid_model.specs.Views.{participant, view, stage}
+use Rattle.grid_model.specs.Histories.{sent, sent_at, is_gone}
+use Rattle.grid_model.specs.Nodes.{script_of}
+use Rattle.grid_model.specs.Stories.{is_open}
 use Rattle.grid_model.specs.Rows.{answer, begin_outs, retry_row, ask_outs}
+use Rattle.grid_model.specs.Views.{participant, stage}
+use Rattle.grid_model.specs.Voids.{void_code, voided}
+use Rattle.grid_model.specs.States.{State, state_of, state_behind, view_in, phase_in}
 
 -- ---- numbers and records
 
@@ -73,59 +76,51 @@ pub record Choice : Type 0 where
 -- ---- the words of the schedule
 
 -- the number of the next message
-abbrev pub next_number : List Act → ℕ
-next_number past = length (sent past) + 1
-
--- message m was got, missed or dropped
-abbrev pub is_gone : List Act → ℕ → Bool
-is_gone [] m = false
-is_gone (act.Got k ∷ past) m = (k == m) || is_gone past m
-is_gone (act.Missed k ∷ past) m = (k == m) || is_gone past m
-is_gone (act.Dropped k ∷ past) m = (k == m) || is_gone past m
-is_gone (a ∷ past) m = is_gone past m
+abbrev pub next_in : State → ℕ
+next_in st = length st.sent + 1
 
 -- the first of count numbers from m on that is not gone
-abbrev pub first_left : List Act → ℕ → ℕ → Option ℕ
-first_left past m zero = None
-first_left past m (suc count) = if is_gone past m then first_left past (m + 1) count else Some m
+abbrev pub first_in : (ℕ → Bool) → ℕ → ℕ → Option ℕ
+first_in gone m zero = None
+first_in gone m (suc count) = if gone m then first_in gone (m + 1) count else Some m
 
 -- the least-numbered message that was neither got, missed nor dropped
-abbrev pub next_left : List Act → Option ℕ
-next_left past = first_left past 1 (length (sent past))
+abbrev pub left_in : State → Option ℕ
+left_in st = first_in st.gone 1 (length st.sent)
 
--- ---- the rows
+-- ---- the rows on a state
 
 -- the acts of an event of node n with these outs, behind its first acts
-abbrev pub acts_of : List Act → Choice → NodeId → List Out → List Act
-acts_of past c n os = numbered (next_number past) n (kept c.keeps n os)
+abbrev pub acts_on : State → Choice → NodeId → List Out → List Act
+acts_on st c n os = numbered (next_in st) n (kept c.keeps n os)
 
 -- the begin of a script, where there is one: code 2 where its home is down
-abbrev pub begin_at : DocumentData → List Act → Choice → Option ScriptData → List Act
-begin_at d past c None = []
-begin_at d past c (Some s) = if (node d past s.home).up then acts_of past c s.home (begin_outs s.home (participant (view d past s.home)) s) else act.Void 2 ∷ []
+abbrev pub begun_on : DocumentData → State → Choice → Option ScriptData → List Act
+begun_on d st c None = []
+begun_on d st c (Some s) = if (st.nodes s.home).up then acts_on st c s.home (begin_outs s.home (participant (view_in d st s.home)) s) else voided void.HomeDown
 
 -- `begin t`: code 1 where it was begun before, code 2 where its home is down
-abbrev pub begin_row : DocumentData → List Act → Choice → Option Story → Option ScriptData → List Act
-begin_row d past c (Some x) s = act.Void 1 ∷ []
-begin_row d past c None s = begin_at d past c s
+abbrev pub begin_on : DocumentData → State → Choice → Option Story → Option ScriptData → List Act
+begin_on d st c (Some x) s = voided void.Begun
+begin_on d st c None s = begun_on d st c s
 
 -- `deliver m`: code 3 where it was not sent yet; missed where its receiver is down
-abbrev pub deliver_row : DocumentData → List Act → Choice → ℕ → Option Envelope → List Act
-deliver_row d past c m None = act.Void 3 ∷ []
-deliver_row d past c m (Some e) =
-    if (node d past e.to).up
-    then act.Got m ∷ acts_of past c e.to (answer e.to (view d past e.to) e.from e.message)
+abbrev pub deliver_on : DocumentData → State → Choice → ℕ → Option Envelope → List Act
+deliver_on d st c m None = voided void.NotSent
+deliver_on d st c m (Some e) =
+    if (st.nodes e.to).up
+    then act.Got m ∷ acts_on st c e.to (answer e.to (view_in d st e.to) e.from e.message)
     else act.Missed m ∷ []
 
 -- `drop m`: code 3 where it was not sent yet
 abbrev pub drop_row : ℕ → Option Envelope → List Act
-drop_row m None = act.Void 3 ∷ []
+drop_row m None = voided void.NotSent
 drop_row m (Some e) = act.Dropped m ∷ []
 
 -- one event of `next`: code 4 where no message is left
-abbrev pub next_row : DocumentData → List Act → Choice → Option ℕ → List Act
-next_row d past c None = act.Void 4 ∷ []
-next_row d past c (Some m) = deliver_row d past c m (sent_at m (sent past))
+abbrev pub next_on : DocumentData → State → Choice → Option ℕ → List Act
+next_on d st c None = voided void.NoneLeft
+next_on d st c (Some m) = deliver_on d st c m (sent_at m st.sent)
 
 -- a code where there are no outs
 abbrev pub or_void : ℕ → List Out → List Act → List Act
@@ -133,23 +128,23 @@ or_void code [] acts = act.Void code ∷ []
 or_void code (o ∷ os) acts = acts
 
 -- `retry t`: code 2 where its home is down, code 5 where nothing is outstanding
-abbrev pub retry_at : DocumentData → List Act → Choice → TxId → Option ScriptData → List Act
-retry_at d past c t None = []
-retry_at d past c t (Some s) =
-    if (node d past s.home).up
-    then (let os : List Out = retry_row d.cluster t (stage (view d past s.home) t) in or_void 5 os (acts_of past c s.home os))
-    else act.Void 2 ∷ []
+abbrev pub retry_on : DocumentData → State → Choice → TxId → Option ScriptData → List Act
+retry_on d st c t None = []
+retry_on d st c t (Some s) =
+    if (st.nodes s.home).up
+    then (let os : List Out = retry_row d.cluster t (stage (view_in d st s.home) t) in or_void (void_code void.NothingOwed) os (acts_on st c s.home os))
+    else voided void.HomeDown
 
 -- `ask n t`: code 6 where n is down, or t is not pending at n
-abbrev pub ask_row : DocumentData → List Act → Choice → NodeId → TxId → List Act
-ask_row d past c n t =
-    if (node d past n).up
-    then (let os : List Out = ask_outs (participant (view d past n)) t in or_void 6 os (acts_of past c n os))
-    else act.Void 6 ∷ []
+abbrev pub ask_on : DocumentData → State → Choice → NodeId → TxId → List Act
+ask_on d st c n t =
+    if (st.nodes n).up
+    then (let os : List Out = ask_outs (participant (view_in d st n)) t in or_void (void_code void.NotPending) os (acts_on st c n os))
+    else voided void.NotPending
 
 -- `crash n`: code 7 where n is down already
-abbrev pub crash_row : DocumentData → List Act → NodeId → List Act
-crash_row d past n = if (node d past n).up then act.Down n None ∷ [] else act.Void 7 ∷ []
+abbrev pub crash_on : State → NodeId → List Act
+crash_on st n = if (st.nodes n).up then act.Down n None ∷ [] else voided void.IsDown
 
 -- what an opening says of the record in doubt
 abbrev pub flag_of : Option Record → Bool → Flag
@@ -158,35 +153,86 @@ flag_of (Some x) true = flag.Kept
 flag_of (Some x) false = flag.Gone
 
 -- the loss of a script's transaction, where it is an open one of home n
-abbrev pub lost_at : DocumentData → List Act → NodeId → Option ScriptData → List Act
-lost_at d past n None = []
-lost_at d past n (Some s) = if (s.home == n) && is_open (phase d past s) then act.Lost s.number ∷ [] else []
+abbrev pub lost_on : State → NodeId → Option ScriptData → List Act
+lost_on st n None = []
+lost_on st n (Some s) = if (s.home == n) && is_open (phase_in st s) then act.Lost s.number ∷ [] else []
 
 -- the transactions of home n that are reading or collecting are lost, in rising number
-abbrev pub losses : DocumentData → List Act → NodeId → List Act
-losses d past n = flat_map (λ t. lost_at d past n (script_of t d.scripts)) (number_order (script_numbers d.scripts))
+abbrev pub losses_on : DocumentData → State → NodeId → List Act
+losses_on d st n = flat_map (λ t. lost_on st n (script_of t d.scripts)) (number_order (script_numbers d.scripts))
 
--- a node that is opened: it comes up, and its open transactions are lost
-abbrev pub opened_row : DocumentData → List Act → NodeId → Flag → List Act
-opened_row d past n f = act.Up n f ∷ losses d (act.Up n f ∷ past) n
+-- a node that is opened: it comes up, and its transactions that are open behind this are lost
+abbrev pub opened_on : DocumentData → State → NodeId → Flag → List Act
+opened_on d st n f = act.Up n f ∷ losses_on d (state_behind d st (act.Up n f)) n
 
 -- `restart n`: code 8 where n is up already
-abbrev pub restart_row : DocumentData → List Act → Choice → NodeId → List Act
-restart_row d past c n =
-    if (node d past n).up then act.Void 8 ∷ [] else
-    (if c.opens then opened_row d past n (flag_of (node d past n).doubt c.finds) else act.StillDown n ∷ [])
+abbrev pub restart_on : DocumentData → State → Choice → NodeId → List Act
+restart_on d st c n =
+    if (st.nodes n).up then voided void.IsUp else
+    (if c.opens then opened_on d st n (flag_of (st.nodes n).doubt c.finds) else act.StillDown n ∷ [])
 
--- the row of an item that is one event, behind a past; of `next`, one event
+-- the row of an item that is one event, on a state; of `next`, one event
+abbrev pub row_on : DocumentData → State → Item → Choice → List Act
+row_on d st (item.Begin t) c = begin_on d st c (st.stories t) (script_of t d.scripts)
+row_on d st (item.Deliver m) c = deliver_on d st c m (sent_at m st.sent)
+row_on d st (item.Drop m) c = drop_row m (sent_at m st.sent)
+row_on d st (item.Next k) c = next_on d st c (left_in st)
+row_on d st (item.Retry t) c = retry_on d st c t (script_of t d.scripts)
+row_on d st (item.Ask n t) c = ask_on d st c n t
+row_on d st (item.Crash n how) c = crash_on st n
+row_on d st (item.Fuse n k how) c = act.Armed n k how ∷ []
+row_on d st (item.Restart n) c = restart_on d st c n
+
+-- ---- the rows behind a past
+
+abbrev pub next_number : List Act → ℕ
+next_number past = length (sent past) + 1
+
+abbrev pub first_left : List Act → ℕ → ℕ → Option ℕ
+first_left past m count = first_in (is_gone past) m count
+
+abbrev pub next_left : List Act → Option ℕ
+next_left past = first_left past 1 (length (sent past))
+
+abbrev pub acts_of : List Act → Choice → NodeId → List Out → List Act
+acts_of past c n os = numbered (next_number past) n (kept c.keeps n os)
+
+abbrev pub begin_at : DocumentData → List Act → Choice → Option ScriptData → List Act
+begin_at d past c s = begun_on d (state_of d past) c s
+
+abbrev pub begin_row : DocumentData → List Act → Choice → Option Story → Option ScriptData → List Act
+begin_row d past c x s = begin_on d (state_of d past) c x s
+
+abbrev pub deliver_row : DocumentData → List Act → Choice → ℕ → Option Envelope → List Act
+deliver_row d past c m e = deliver_on d (state_of d past) c m e
+
+abbrev pub next_row : DocumentData → List Act → Choice → Option ℕ → List Act
+next_row d past c m = next_on d (state_of d past) c m
+
+abbrev pub retry_at : DocumentData → List Act → Choice → TxId → Option ScriptData → List Act
+retry_at d past c t s = retry_on d (state_of d past) c t s
+
+abbrev pub ask_row : DocumentData → List Act → Choice → NodeId → TxId → List Act
+ask_row d past c n t = ask_on d (state_of d past) c n t
+
+abbrev pub crash_row : DocumentData → List Act → NodeId → List Act
+crash_row d past n = crash_on (state_of d past) n
+
+abbrev pub lost_at : DocumentData → List Act → NodeId → Option ScriptData → List Act
+lost_at d past n s = lost_on (state_of d past) n s
+
+abbrev pub losses : DocumentData → List Act → NodeId → List Act
+losses d past n = losses_on d (state_of d past) n
+
+abbrev pub opened_row : DocumentData → List Act → NodeId → Flag → List Act
+opened_row d past n f = opened_on d (state_of d past) n f
+
+abbrev pub restart_row : DocumentData → List Act → Choice → NodeId → List Act
+restart_row d past c n = restart_on d (state_of d past) c n
+
+-- the row of an item that is one event, behind a past
 abbrev pub row : DocumentData → List Act → Item → Choice → List Act
-row d past (item.Begin t) c = begin_row d past c (story d past t) (script_of t d.scripts)
-row d past (item.Deliver m) c = deliver_row d past c m (sent_at m (sent past))
-row d past (item.Drop m) c = drop_row m (sent_at m (sent past))
-row d past (item.Next k) c = next_row d past c (next_left past)
-row d past (item.Retry t) c = retry_at d past c t (script_of t d.scripts)
-row d past (item.Ask n t) c = ask_row d past c n t
-row d past (item.Crash n how) c = crash_row d past n
-row d past (item.Fuse n k how) c = act.Armed n k how ∷ []
-row d past (item.Restart n) c = restart_row d past c n
+row d past i c = row_on d (state_of d past) i c
 
 -- ---- the start, and the events of the items
 

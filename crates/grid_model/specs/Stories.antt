@@ -170,27 +170,35 @@ abbrev pub phase_at : ScriptData → Option Story → Node → Phase
 phase_at s o h = phase_by s.ops o (is_closed s.number h.journal) (decision s.number h.journal)
 
 -- the story behind a message, where the transaction has a script and the message comes to its home
+abbrev pub heard_on : DocumentData → (NodeId → Node) → Option ScriptData → Option Envelope → Option Story → Option Story
+heard_on d nodes None e o = o
+heard_on d nodes s None o = o
+heard_on d nodes (Some s) (Some e) o = if e.to == s.home then heard (parts_of d s) (phase_at s o (nodes s.home)) (nodes s.home) s.number e.from e.message o else o
+
+-- the same, behind a past
 abbrev pub heard_at : DocumentData → List Act → Option ScriptData → Option Envelope → Option Story → Option Story
-heard_at d past None e o = o
-heard_at d past s None o = o
-heard_at d past (Some s) (Some e) o = if e.to == s.home then heard (parts_of d s) (phase_at s o (node d past s.home)) (node d past s.home) s.number e.from e.message o else o
+heard_at d past s e o = heard_on d (node d past) s e o
 
 -- the story behind a message that is sent: a read request turns to the next holder
 abbrev pub asked : DocumentData → TxId → Message → Option Story → Option Story
 asked d t (message.ReadReq q) o = if_told (q.t == t) (with_request (length (holders d.cluster.places q.key))) o
 asked d t said o = o
 
--- the story of t behind one act more
+-- the story of t behind one act more, by the messages that were sent and by the nodes
+abbrev pub told_on : DocumentData → List Envelope → (NodeId → Node) → Act → TxId → Option Story → Option Story
+told_on d ms nodes (act.Began u n sid0) t o = if u == t then Some (begun sid0) else o
+told_on d ms nodes (act.Sent m x y said) t o = asked d t said o
+told_on d ms nodes (act.Got m) t o = heard_on d nodes (script_of t d.scripts) (sent_at m ms) o
+told_on d ms nodes (act.Taken u j sid v) t o = if_told (u == t) (with_value j sid v) o
+told_on d ms nodes (act.Finished u) t o = if_told (u == t) (λ x. record x { finished = true }) o
+told_on d ms nodes (act.Aborted u n c) t o = if_told (u == t) (λ x. record x { aborted = true }) o
+told_on d ms nodes (act.Lost u) t o = if_told (u == t) (λ x. record x { lost = true }) o
+told_on d ms nodes (act.Down n h) t o = if_told (is_home d t n) without_answers o
+told_on d ms nodes a t o = o
+
+-- the same, behind a past
 abbrev pub told : DocumentData → List Act → Act → TxId → Option Story → Option Story
-told d past (act.Began u n sid0) t o = if u == t then Some (begun sid0) else o
-told d past (act.Sent m x y said) t o = asked d t said o
-told d past (act.Got m) t o = heard_at d past (script_of t d.scripts) (sent_at m (sent past)) o
-told d past (act.Taken u j sid v) t o = if_told (u == t) (with_value j sid v) o
-told d past (act.Finished u) t o = if_told (u == t) (λ x. record x { finished = true }) o
-told d past (act.Aborted u n c) t o = if_told (u == t) (λ x. record x { aborted = true }) o
-told d past (act.Lost u) t o = if_told (u == t) (λ x. record x { lost = true }) o
-told d past (act.Down n h) t o = if_told (is_home d t n) without_answers o
-told d past a t o = o
+told d past a t o = told_on d (sent past) (node d past) a t o
 
 -- the story of t, or none where it was not begun
 abbrev pub story : DocumentData → List Act → TxId → Option Story

@@ -1,4 +1,4 @@
-ghost use Rattle.std.specs.Prelude.{◌≡◌, ℕ, List, [], ◌∷◌, Some};
+ghost use Rattle.std.specs.Prelude.{◌≡◌, ℕ, List, [], ◌∷◌, ◌++◌, Some};
 ghost use Rattle.grid_model.specs.declared.acts.Act.{Act};
 ghost use Rattle.grid_model.specs.Documents.{DocumentData};
 ghost use Rattle.script_lang.specs.Scripts.{ScriptData};
@@ -9,7 +9,8 @@ ghost use Rattle.grid_model.specs.Histories.{after, sent, sent_at};
 ghost use Rattle.grid_model.specs.Nodes.{script_of};
 ghost use Rattle.grid_model.specs.Views.{participant, view, stage};
 ghost use Rattle.grid_model.specs.Rows.{answer, begin_outs, retry_row, ask_outs};
-ghost use Rattle.grid_model.specs.Schedules.{numbered};
+ghost use Rattle.grid_model.specs.Schedules.{Choice, numbered, row, row_on};
+ghost use Rattle.grid_model.specs.States.{state_of, state_behind, state_after};
 ghost use Rattle.grid_model.specs.NextViews.{OwnDecisions, next_view};
 ghost use Rattle.grid_model.specs.Runs.{IsRun};
 ghost use Rattle.grid_model.specs.declared.items.Item.{Item};
@@ -28,4 +29,12 @@ pub fn law_next_view()
 /// transactions of that node that began and were not lost.
 pub fn law_own_decisions()
     ensures { (d : DocumentData) (items : List Item) (h : List Act) → IsRun d items h → (n : ℕ) → OwnDecisions d (after [] h) n }
+{}
+
+/// The state behind one act more is what the act leaves of the state; the state behind a run with more
+/// acts is the state behind these acts.
+pub fn law_state()
+    ensures row { (d : DocumentData) (past : List Act) (i : Item) (c : Choice) → row d past i c ≡ row_on d (state_of d past) i c }
+    ensures step { (d : DocumentData) (past : List Act) (a : Act) → state_of d (a ∷ past) ≡ state_behind d (state_of d past) a }
+    ensures behind { (d : DocumentData) (h acts : List Act) → state_of d (after [] (h ++ acts)) ≡ state_after d (state_of d (after [] h)) acts }
 {}

@@ -14,11 +14,13 @@ mod items;
 mod laws;
 mod messages;
 mod stories;
+mod voids;
 
 pub use acts::{Act, Flag, Head};
 pub use documents::{Document, ScriptList};
 pub use events::{Event, Out};
 pub use items::{Item, ItemList};
-pub use laws::{law_next_view, law_own_decisions};
+pub use laws::{law_next_view, law_own_decisions, law_state};
 pub use messages::{Envelope, Message, Prepare, ReadRep, ReadReq};
 pub use stories::{HeldRead, Story, Voted};
+pub use voids::Void;

@@ -5,9 +5,8 @@ use Rattle.grid_model.specs.declared.acts.Act.TheVariants as act
 use Rattle.grid_model.specs.declared.messages.Envelope.{Envelope}
 use Rattle.grid_model.specs.declared.stories.Story.{Story}
 use Rattle.grid_model.specs.Documents.{DocumentData}
-use Rattle.grid_model.specs.Histories.{after, sent, sent_at}
+use Rattle.grid_model.specs.Histories.{after, sent, sent_at, is_gone}
 use Rattle.grid_model.specs.Nodes.{Node, blank, got, change, changed}
-use Rattle.grid_model.specs.Schedules.{is_gone}
 use Rattle.run_state.specs.Kept.{Keeps, posted, got_by, going, is_number, is_marked, node_in, telling, retold_by}
 use Rattle.run_state.proofs.Told.{stories-more}
 

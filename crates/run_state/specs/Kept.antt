@@ -11,11 +11,10 @@ use Rattle.grid_model.specs.declared.messages.Message.{Message}
 use Rattle.grid_model.specs.declared.messages.Message.TheVariants as message
 use Rattle.grid_model.specs.declared.stories.Story.{Story}
 use Rattle.grid_model.specs.Documents.{DocumentData}
-use Rattle.grid_model.specs.Histories.{after, sent, sent_at}
+use Rattle.grid_model.specs.Histories.{after, sent, sent_at, is_gone}
 use Rattle.grid_model.specs.Keyed.{at_key, put_key}
 use Rattle.grid_model.specs.Nodes.{Node, blank, node, got, script_of, parts_of, is_home}
 use Rattle.grid_model.specs.Stories.{story, begun, with_request, with_value, without_answers, heard, phase_at}
-use Rattle.grid_model.specs.Schedules.{is_gone}
 
 -- a run so far: the acts of a document, in the order of time
 pub record RunData : Type 0 where

@@ -220,7 +220,8 @@ impl<'a> RunState<'a> {
     ghost use Rattle.grid_model.specs.Stories.{story};
     ghost use Rattle.grid_model.specs.declared.stories.Story.{Story};
     ghost use Rattle.std.specs.Fn.{FnOnceReturnsAtMut};
-    ghost use Rattle.grid_model.specs.Schedules.{is_gone, next_number, next_left, first_left};
+    ghost use Rattle.grid_model.specs.Schedules.{next_number, next_left, first_left};
+    ghost use Rattle.grid_model.specs.Histories.{is_gone};
 
     /// No act yet.
     pub fn new(alloc: Global, doc: &'a Document) -> Result<RunState<'a>, Memory>

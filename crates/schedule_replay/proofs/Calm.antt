@@ -22,7 +22,8 @@ use Rattle.grid_model.specs.Views.{view, stage, participant}
 use Rattle.grid_model.specs.Fitness.{tx_in}
 use Rattle.grid_model.specs.Rows.{answer, begin_outs, retry_row, ask_outs}
 use Rattle.grid_model.specs.Schedules.{numbered, next_number, next_left, acts_of, begin_at, begin_row, deliver_row, drop_row, next_row, or_void, retry_at, ask_row, start_row, start_act, events_in, flag_of, losses, opened_row}
-use Rattle.grid_model.specs.Runs.{Rows, IsRun, Lawful, Explains, Fuse, fuse, fuse_at_stop, is_record_at, is_let, are_let, lets_gate, lets_record, is_stop, as_number, faults}
+use Rattle.grid_model.specs.Runs.{Rows, IsRun, Lawful, Explains, is_let, are_let, is_stop, as_number, faults}
+use Rattle.grid_model.specs.Fuses.{Fuse, fuse, fuse_at_stop, is_record_at, lets_gate, lets_record}
 use Rattle.schedule_replay.specs.Replays.{calm, calm_run, is_unfused, AreUnfused, played, plays}
 use Rattle.schedule_replay.proofs.Counts.{Counts, is_own, are_own, counts-begin, counts-answer, counts-retry, counts-ask}
 use Rattle.schedule_replay.proofs.Shorts.{short-at}

@@ -23,7 +23,8 @@ use Rattle.grid_model.specs.Views.{view, stage, participant}
 use Rattle.grid_model.specs.Fitness.{tx_in}
 use Rattle.grid_model.specs.Rows.{answer, begin_outs, retry_row, ask_outs}
 use Rattle.grid_model.specs.Schedules.{Choice, numbered, head_of, stopped, broken, kept, next_number, next_left, acts_of, begin_at, begin_row, deliver_row, drop_row, next_row, or_void, retry_at, ask_row, row, start_row, start_act, events_in, flag_of, losses, opened_row}
-use Rattle.grid_model.specs.Runs.{Rows, Lawful, fuse, is_stop, is_by_fuse, stops_record, stops_opening, as_number, faults}
+use Rattle.grid_model.specs.Runs.{Rows, Lawful, is_stop, is_by_fuse, as_number, faults}
+use Rattle.grid_model.specs.Fuses.{fuse, stops_record, stops_opening}
 use Rattle.schedule_replay.specs.Replays.{calm, is_unfused, AreUnfused, played, plays}
 use Rattle.schedule_replay.proofs.Counts.{Counts, is_own, are_own, counts-begin, counts-answer, counts-retry, counts-ask}
 use Rattle.schedule_replay.proofs.Shorts.{short-at}

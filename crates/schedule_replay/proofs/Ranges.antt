@@ -2,7 +2,8 @@
 use Rattle.std.proofs.Common.{◌≡◌, ℕ, suc, ◌+◌, ◌-◌, ◌<◌, ◌∷◌, List, true, refl, arith, replicate}
 use Rattle.std.specs.List.{range_with_len}
 use Rattle.grid_model.specs.declared.acts.Act.{Act}
-use Rattle.grid_model.specs.Schedules.{first_left, is_gone}
+use Rattle.grid_model.specs.Schedules.{first_left}
+use Rattle.grid_model.specs.Histories.{is_gone}
 
 -- the first of the numbers that are left
 pub range_more : (a n i : ℕ) → i < n → range_with_len a (n - i) ≡ a ∷ range_with_len (a + 1) (n - (i + 1))

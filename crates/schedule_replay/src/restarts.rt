@@ -6,11 +6,12 @@ ghost use Rattle.std.specs.BTreeSet.{insert_key};
 ghost use Rattle.grid_model.specs.Documents.{script_numbers};
 ghost use Rattle.grid_model.specs.Nodes.{script_of};
 ghost use Rattle.grid_model.specs.Schedules.{flag_of, lost_at, restart_row};
+ghost use Rattle.grid_model.specs.Voids.{voided};
 ghost use Rattle.run_state.specs.Kept.{past};
 ghost use Rattle.schedule_replay.specs.Replays.{calm};
 
 use crate::stages::is_open;
-use grid_model::{Act, Flag};
+use grid_model::{Act, Flag, Void};
 use run_state::{PlainNode, RunState, script_of};
 use score_base::{Memory, NodeId, TxId, push};
 use script_lang::Script;
@@ -24,6 +25,13 @@ pub fn only(alloc: Global, act: Act) -> Result<Vec<Act>, Memory>
     let mut acts = Vec::new(alloc);
     push(&mut acts, act)?;
     Ok(acts)
+}
+
+/// The acts of an event that changes nothing.
+pub fn voided(alloc: Global, why: Void) -> Result<Vec<Act>, Memory>
+    ensures { IfOk result (λ acts. acts.items ≡ voided why) }
+{
+    only(alloc, Act::Void(why.code()))
 }
 
 /// What an opening says where no record in doubt is found.
@@ -83,7 +91,7 @@ pub fn restart_row(alloc: Global, run: &RunState, n: NodeId) -> Result<Vec<Act>,
 {
     let node = run.node(n);
     if node.up {
-        return only(alloc, Act::Void(8));
+        return voided(alloc, Void::IsUp);
     }
     let mut numbers = BTreeSet::new(alloc);
     add_numbers(&mut numbers, run.doc().scripts())?;

@@ -4,14 +4,15 @@ ghost use Rattle.grid_model.specs.Histories.{sent, sent_at};
 ghost use Rattle.grid_model.specs.Nodes.{node, script_of};
 ghost use Rattle.grid_model.specs.Stories.{story};
 ghost use Rattle.grid_model.specs.Schedules.{next_left, or_void, acts_of, begin_row, deliver_row, drop_row, next_row, retry_at, ask_row, crash_row};
+ghost use Rattle.grid_model.specs.Voids.{void_code};
 ghost use Rattle.run_state.specs.Kept.{past};
 ghost use Rattle.schedule_replay.specs.Numbering.{sends};
 ghost use Rattle.schedule_replay.specs.Replays.{HasRoom, calm, played};
 
 use crate::numbering::number_all;
 use crate::outs::{outs_at_ask, outs_at_begin, outs_at_delivery, outs_at_retry};
-use crate::restarts::{only, restart_row};
-use grid_model::{Act, Item, Out};
+use crate::restarts::{only, restart_row, voided};
+use grid_model::{Act, Item, Out, Void};
 use run_state::{RunState, script_of};
 use score_base::{Memory, NodeId, TxId};
 use std::alloc::Global;
@@ -27,19 +28,19 @@ fn acts_of(run: &RunState, first: Vec<Act>, n: NodeId, outs: Vec<Out>) -> Result
     Ok(acts)
 }
 
-/// The acts of a node with these outs, or this code where there are none.
+/// The acts of a node with these outs, or why there are none.
 fn acts_or_void(
     alloc: Global,
     run: &RunState,
-    code: u8,
+    why: Void,
     n: NodeId,
     outs: Vec<Out>,
 ) -> Result<Vec<Act>, Memory>
     requires { length (sent (past run.now)) + 1 + sends outs.items < 2 ^ 32 }
-    ensures { IfOk result (λ acts. acts.items ≡ or_void code outs.items (acts_of (past run.now) calm n outs.items)) }
+    ensures { IfOk result (λ acts. acts.items ≡ or_void (void_code why) outs.items (acts_of (past run.now) calm n outs.items)) }
 {
     if outs.is_empty() {
-        return only(alloc, Act::Void(code));
+        return voided(alloc, why);
     }
     acts_of(run, Vec::new(alloc), n, outs)
 }
@@ -50,13 +51,13 @@ fn begin_row(alloc: Global, run: &RunState, t: TxId) -> Result<Vec<Act>, Memory>
     ensures { IfOk result (λ acts. acts.items ≡ begin_row run.now.doc (past run.now) calm (story run.now.doc (past run.now) t) (script_of t run.now.doc.scripts)) }
 {
     if run.story(t).is_some() {
-        return only(alloc, Act::Void(1));
+        return voided(alloc, Void::Begun);
     }
     let Some(script) = script_of(run.doc().scripts(), t) else {
         return Ok(Vec::new(alloc));
     };
     if !run.node(script.home).up {
-        return only(alloc, Act::Void(2));
+        return voided(alloc, Void::HomeDown);
     }
     let outs = outs_at_begin(alloc, run, script)?;
     acts_of(run, Vec::new(alloc), script.home, outs)
@@ -68,7 +69,7 @@ fn deliver_row(alloc: Global, run: &RunState, m: u32) -> Result<Vec<Act>, Memory
     ensures { IfOk result (λ acts. acts.items ≡ deliver_row run.now.doc (past run.now) calm m (sent_at m (sent (past run.now)))) }
 {
     let Some(envelope) = run.message(m) else {
-        return only(alloc, Act::Void(3));
+        return voided(alloc, Void::NotSent);
     };
     if !run.node(envelope.to).up {
         return only(alloc, Act::Missed(m));
@@ -82,7 +83,7 @@ fn drop_row(alloc: Global, run: &RunState, m: u32) -> Result<Vec<Act>, Memory>
     ensures { IfOk result (λ acts. acts.items ≡ drop_row m (sent_at m (sent (past run.now)))) }
 {
     match run.message(m) {
-        None => only(alloc, Act::Void(3)),
+        None => voided(alloc, Void::NotSent),
         Some(_) => only(alloc, Act::Dropped(m)),
     }
 }
@@ -107,7 +108,7 @@ fn next_row(alloc: Global, run: &RunState) -> Result<Vec<Act>, Memory>
     ensures { IfOk result (λ acts. acts.items ≡ next_row run.now.doc (past run.now) calm (next_left (past run.now))) }
 {
     match next_left(run) {
-        None => only(alloc, Act::Void(4)),
+        None => voided(alloc, Void::NoneLeft),
         Some(m) => deliver_row(alloc, run, m),
     }
 }
@@ -122,10 +123,10 @@ fn retry_row(alloc: Global, run: &RunState, t: TxId) -> Result<Vec<Act>, Memory>
     };
     let home = script.home;
     if !run.node(home).up {
-        return only(alloc, Act::Void(2));
+        return voided(alloc, Void::HomeDown);
     }
     let outs = outs_at_retry(alloc, run, t, home)?;
-    acts_or_void(alloc, run, 5, home, outs)
+    acts_or_void(alloc, run, Void::NothingOwed, home, outs)
 }
 
 /// The row of `ask`.
@@ -134,10 +135,10 @@ fn ask_row(alloc: Global, run: &RunState, n: NodeId, t: TxId) -> Result<Vec<Act>
     ensures { IfOk result (λ acts. acts.items ≡ ask_row run.now.doc (past run.now) calm n t) }
 {
     if !run.node(n).up {
-        return only(alloc, Act::Void(6));
+        return voided(alloc, Void::NotPending);
     }
     let outs = outs_at_ask(alloc, run, n, t)?;
-    acts_or_void(alloc, run, 6, n, outs)
+    acts_or_void(alloc, run, Void::NotPending, n, outs)
 }
 
 /// The row of `crash`.
@@ -147,7 +148,7 @@ fn crash_row(alloc: Global, run: &RunState, n: NodeId) -> Result<Vec<Act>, Memor
     if run.node(n).up {
         return only(alloc, Act::Down(n, None));
     }
-    only(alloc, Act::Void(7))
+    voided(alloc, Void::IsDown)
 }
 
 /// The acts of an event where no disk fails.

@@ -1,5 +1,5 @@
 -- Does a script that is run alone on one map read and write what a transaction did?
-use Rattle.std.proofs.Common.{ℕ, ◌+◌, ◌-◌, ◌≡◌, inl, inr, Bool, true, false, ◌||◌, List, [], ◌∷◌, Option, Some, None, refl, sym, ap, subst, ◌∙◌, arith, suc, if◌then◌else◌}
+use Rattle.std.proofs.Common.{ℕ, ◌+◌, ◌≡◌, inl, inr, Bool, true, false, ◌||◌, List, [], ◌∷◌, Option, Some, None, refl, sym, ap, subst, ◌∙◌, arith, suc, if◌then◌else◌}
 use Rattle.std.proofs.lemmas.Bool.{cases_Bool, or_parts}
 use Rattle.std.specs.Prelude.{slice_get}
 use Rattle.score_base.specs.declared.ids.Value.{Value}
@@ -28,9 +28,9 @@ AreOfKeys m values ops = (j : ℕ) (k : Key) (v : Value) → op_key (op_at ops j
 
 pub keys-of : (m : Map) (values : List (ℕ × Value)) (ops : List Op) → AreOfKeys m values ops → AreOf m 1 values ops
 keys-of m values ops each i k v is e =
-    let same : i ≡ 1 + i - 1 = omega arith in
-    let P : ℕ → Type 0 = λ a. op_key (slice_get ops a) ≡ Some k in
-    each (1 + i) k v (subst P same is) e
+    let same : 1 + i ≡ suc i = omega arith in
+    let P : ℕ → Type 0 = λ a. value_taken a values ≡ Some v in
+    each (suc i) k v is (subst P same e)
 
 of-here : (m : Map) (j : ℕ) (k : Key) (v : Value) (values : List (ℕ × Value)) (ops : List Op) → AreOf m j values (op.Read k ∷ ops) → value_taken j values ≡ Some v → v ≡ m k
 of-here m j k v values ops each e =

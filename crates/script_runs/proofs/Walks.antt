@@ -1,5 +1,5 @@
 -- What does a transaction wait for, and what do its reads show, as it takes one value more?
-use Rattle.std.proofs.Common.{ℕ, ◌+◌, ◌-◌, ◌≤◌, ◌<◌, ◌≡◌, ◌≢◌, ◌⊎◌, inl, inr, Bool, true, false, List, [], ◌∷◌, ◌++◌, Option, Some, None, refl, sym, ap, subst, ◌∙◌, arith, suc, if◌then◌else◌}
+use Rattle.std.proofs.Common.{ℕ, ◌+◌, ◌-◌, ◌≤◌, ◌<◌, ◌≡◌, ◌≢◌, ◌⊎◌, inl, inr, Bool, true, false, List, [], ◌∷◌, ◌++◌, Option, Some, None, refl, sym, ap, subst, ◌∙◌, arith, zero, suc, if◌then◌else◌}
 use Rattle.std.proofs.lemmas.Bool.{or_parts}
 use Rattle.std.proofs.lemmas.Bool.Decides.{nat_tests}
 use Rattle.std.specs.Prelude.{◌==◌, nat_lt, filter, slice_get}
@@ -70,11 +70,16 @@ waiting-open j i seen values (op.Read k ∷ ops) h = go (is_key_among k seen) (v
     go false None e f h own far = here i e f (grind (arith, h))
 waiting-open j i seen values (op.Write k e ∷ ops) h = open-later j i k (op.Write k e) seen (k ∷ seen) values ops (less-seen k seen) (waiting-open (j + 1) i (k ∷ seen) values ops h)
 
+-- operation i is the one at place i - 1
+pub op-place : (ops : List Op) (i : ℕ) → 1 ≤ i → op_at ops i ≡ slice_get ops (i - 1)
+op-place ops zero least = absurd (grind (arith, least))
+op-place ops (suc i) least = ap (slice_get ops) (omega arith)
+
 -- it is that operation of the script
 pub waiting-read : (i : ℕ) (ops : List Op) (values : List (ℕ × Value)) → waiting ops values ≡ Some i → (k : Key) × (op_at ops i ≡ Some (op.Read k)) × (1 ≤ i)
 waiting-read i ops values h =
     let x = waiting-open 1 i [] values ops h in
-    (x.key, x.read, x.least)
+    (x.key, op-place ops i x.least ∙ x.read, x.least)
 
 -- ---- a value more
 

@@ -1,5 +1,5 @@
 -- The walk over the operations of a script by the values that were taken for its remote reads.
-use Rattle.std.specs.Prelude.{ℕ, ◌+◌, ◌-◌, List, [], ◌∷◌, Option, Some, None, slice_get, if◌then◌else◌}
+use Rattle.std.specs.Prelude.{ℕ, zero, suc, ◌+◌, List, [], ◌∷◌, Option, Some, None, slice_get, if◌then◌else◌}
 use Rattle.score_base.specs.declared.ids.Value.{Value}
 use Rattle.score_base.specs.declared.keys.Key.{Key}
 use Rattle.script_lang.specs.declared.exprs.Expr.{Expr}
@@ -60,7 +60,8 @@ own_map ops values = (walked 1 [] unread values ops).mine
 
 -- operation j of these, numbered from 1
 abbrev pub op_at : List Op → ℕ → Option Op
-op_at ops j = slice_get ops (j - 1)
+op_at ops zero = None
+op_at ops (suc i) = slice_get ops i
 
 -- the key of an operation, where there is one
 abbrev pub op_key : Option Op → Option Key

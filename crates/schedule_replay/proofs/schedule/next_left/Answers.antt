@@ -1,6 +1,6 @@
 use Rattle.std.proofs.Common.{◌≡◌, ◌+◌, ◌∙◌, true, arith}
 use Rattle.std.proofs.lemmas.Grind.{common_steps}
-use Rattle.grid_model.specs.Schedules.{is_gone}
+use Rattle.grid_model.specs.Histories.{is_gone}
 use Rattle.run_state.specs.Kept.{past}
 use Rattle.schedule_replay.proofs.Ranges.{left_more}
 use Rattle.schedule_replay.proofs.schedule.next_left.Goals as goal

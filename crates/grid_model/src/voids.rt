@@ -1,0 +1,42 @@
+//! Why an event changes nothing.
+ghost use Rattle.std.specs.Prelude.{◌≡◌};
+ghost use Rattle.grid_model.specs.Voids.{void_code};
+
+/// Why an event changes nothing.
+#[derive(Clone, Copy, Debug, PartialEq, Eq)]
+pub enum Void {
+    /// The transaction was begun before.
+    Begun,
+    /// The home of the transaction is down.
+    HomeDown,
+    /// No message of this number was sent yet.
+    NotSent,
+    /// No message is left to be delivered.
+    NoneLeft,
+    /// The transaction waits for nothing.
+    NothingOwed,
+    /// The node is down, or the transaction is not pending there.
+    NotPending,
+    /// The node is down already.
+    IsDown,
+    /// The node is up already.
+    IsUp,
+}
+
+impl Void {
+    /// Its number in [`Act::Void`](crate::Act::Void).
+    pub fn code(self) -> u8
+        ensures { result ≡ void_code self }
+    {
+        match self {
+            Void::Begun => 1,
+            Void::HomeDown => 2,
+            Void::NotSent => 3,
+            Void::NoneLeft => 4,
+            Void::NothingOwed => 5,
+            Void::NotPending => 6,
+            Void::IsDown => 7,
+            Void::IsUp => 8,
+        }
+    }
+}
