@@ -44,8 +44,8 @@ all-more P Q (n ∷ ns) go h = and_from (Q n) (list_all Q ns) (go n (and_parts (
 
 pub over-more : (d : DocumentData) (past : List Act) (a : Act) (t : TxId) → is_over d past t ≡ true → is_over d (a ∷ past) t ≡ true
 over-more d past a t h =
-    let then' = λ n. has_commit t (journal d past n) in
-    let now' = λ n. has_commit t (journal d (a ∷ past) n) in
+    let then' : NodeId → Bool = λ n. has_commit t (journal d past n) in
+    let now' : NodeId → Bool = λ n. has_commit t (journal d (a ∷ past) n) in
     let both = and_parts (is_some (script_of t d.scripts)) (list_all then' (parts_at d t)) h in
     and_from (is_some (script_of t d.scripts)) (list_all now' (parts_at d t)) both.0 (all-more then' now' (parts_at d t) (λ n i. commit-more d past a n t i) both.1)
 

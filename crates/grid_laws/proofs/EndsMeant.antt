@@ -2,7 +2,7 @@
 use Rattle.std.proofs.Common.{◌≡◌, Bool, true, false, List, [], ◌∷◌, Option, Some, None, inl, inr, refl, sym, subst, arith}
 use Rattle.std.proofs.lemmas.Bool.Decides.{nat_tests}
 use Rattle.std.proofs.lemmas.Bool.{cases_eq, and_parts}
-use Rattle.std.specs.Prelude.{◌||◌}
+use Rattle.std.specs.Prelude.{is_some, ◌||◌}
 use Rattle.std.specs.List.{list_all}
 use Rattle.score_base.specs.declared.ids.TxId.{TxId}
 use Rattle.score_base.specs.declared.ids.NodeId.{NodeId}
@@ -19,7 +19,7 @@ use Rattle.grid_model.specs.declared.messages.Envelope.{Envelope}
 use Rattle.grid_model.specs.declared.messages.Message.TheVariants as message
 use Rattle.grid_model.specs.Documents.{DocumentData}
 use Rattle.journal_words.specs.Journals.{ended, fits_outcome, pending, has_commit}
-use Rattle.grid_model.specs.Nodes.{got, node, journal, record_of}
+use Rattle.grid_model.specs.Nodes.{got, node, journal, record_of, script_of}
 use Rattle.grid_model.specs.Facts.{IsDecided, Says, MeansNever, is_given_up, is_over, parts_at}
 use Rattle.journal_words.proofs.Once.{pending-prepared, ended-over}
 use Rattle.journal_words.proofs.Stands.{has_commit-says}

@@ -1,5 +1,5 @@
 -- Each key has a holder, and a holder of a key that a script names is a part of the script.
-use Rattle.std.proofs.Common.{◌≡◌, ℕ, ◌+◌, ◌-◌, ◌≤◌, ◌<◌, inl, inr, Bool, true, false, List, [], ◌∷◌, Some, refl, sym, ap, subst, ◌∙◌, arith, zero, suc, length, ◌%◌}
+use Rattle.std.proofs.Common.{◌≡◌, ℕ, ◌+◌, ◌≤◌, ◌<◌, inl, inr, Bool, true, false, List, [], ◌∷◌, Some, refl, sym, ap, subst, ◌∙◌, arith, zero, suc, length, ◌%◌}
 use Rattle.std.proofs.lemmas.Bool.Decides.{nat_tests}
 use Rattle.std.proofs.lemmas.Bool.{and_parts, or_left, or_right, or_cases, cases_eq}
 use Rattle.std.specs.Prelude.{◌==◌, ◌||◌, IsTrue, filter, slice_get, slice_index_or, if◌then◌else◌}
@@ -127,4 +127,5 @@ named-at (x ∷ ops) (suc i) o e = or_right (same_key (key_of o) (key_of x)) (is
 
 -- a holder of the key of an operation is a part
 pub op-part : (d : DocumentData) (s : ScriptData) (j : ℕ) (o : Op) (y : NodeId) → IsOne d → op_at s.ops j ≡ Some o → holds d.cluster.places y (key_of o) ≡ true → is_among y (parts_of d s) ≡ true
-op-part d s j o y one at h = named-part d s y (key_of o) one h (named-at s.ops (j - 1) o at)
+op-part d s zero o y one at h = cc
+op-part d s (suc i) o y one at h = named-part d s y (key_of o) one h (named-at s.ops i o at)
