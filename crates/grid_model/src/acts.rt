@@ -1,3 +1,4 @@
+//! What happened: the acts of a history.
 use crate::messages::Message;
 use score_base::{Cause, Ident, Key, Memory, NodeId, Outcome, TryCopy, TxId, Value};
 

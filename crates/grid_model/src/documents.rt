@@ -1,3 +1,4 @@
+//! What the program is given: a cluster, scripts, and a schedule of items.
 ghost use Rattle.std.specs.Prelude.{◌≡◌};
 
 use crate::items::{Item, ItemList};

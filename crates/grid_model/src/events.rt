@@ -1,3 +1,4 @@
+//! What a node is told, and what it gives.
 use crate::acts::Act;
 use crate::messages::Message;
 use score_base::{Memory, NodeId, TryCopy, TxId};

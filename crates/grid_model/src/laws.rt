@@ -1,3 +1,4 @@
+//! How what a node knows, and the state of a run, follow from what was before.
 ghost use Rattle.std.specs.Prelude.{◌≡◌, ℕ, List, [], ◌∷◌, ◌++◌, Some};
 ghost use Rattle.grid_model.specs.declared.acts.Act.{Act};
 ghost use Rattle.grid_model.specs.Documents.{DocumentData};

@@ -1,3 +1,4 @@
+//! What nodes say to one another.
 use score_base::{
     Ballot, Date, Ident, Key, KeyList, Memory, NodeId, NodeList, Outcome, TryCopy, TxId, Value,
     WriteList,

@@ -1,3 +1,4 @@
+//! The line of each act.
 ghost use Rattle.std.specs.Prelude.{◌≡◌, ◌++◌, ◌∷◌, [], codes, OnOk, OnErr};
 ghost use Rattle.std.specs.Fmt.{decimal};
 ghost use Rattle.history_print.specs.Acts.{joined, spaced, node_word, act_words, act_line};

@@ -1,3 +1,4 @@
+//! The text of a whole history.
 ghost use Rattle.std.specs.Prelude.{◌≡◌, ◌++◌, take, length, vec_len, OnOk, OnErr};
 ghost use Rattle.std.specs.List.{flat_map};
 ghost use Rattle.history_print.specs.Acts.{act_line};

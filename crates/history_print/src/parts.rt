@@ -1,3 +1,4 @@
+//! The words of what acts and messages carry: outcomes, causes, ballots, dates, heads of records.
 ghost use Rattle.std.specs.Prelude.{◌≡◌, ◌++◌, OnOk};
 ghost use Rattle.history_print.specs.Acts.{spaced, outcome_words, cause_words, ballot_words, date_words, flag_words, record_words, head_words};
 

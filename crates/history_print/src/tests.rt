@@ -1,3 +1,4 @@
+//! The line of each kind of act, and the texts of worked runs.
 ghost use Rattle.std.specs.Prelude.{◌≡◌, ◌≤◌, ◌∷◌, [], codes, IfOk};
 
 use crate::{write_act, write_history, write_summary};

@@ -1,3 +1,4 @@
+//! One word behind a space: numbers, nodes, transactions, keys.
 ghost use Rattle.std.specs.Prelude.{◌≡◌, ◌++◌, OnOk};
 ghost use Rattle.std.specs.Fmt.{decimal};
 ghost use Rattle.history_print.specs.Acts.{behind_space, node_word};

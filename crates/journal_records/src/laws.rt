@@ -1,3 +1,4 @@
+//! A record has one spelling.
 ghost use Rattle.std.specs.Prelude.{◌≡◌, ◌≤◌, ℕ, List, Some, length};
 ghost use Rattle.score_base.specs.declared.records.Record.{Record};
 ghost use Rattle.score_fields.specs.Spelling.{IsBytes};

@@ -1,3 +1,4 @@
+//! Bodies of records, byte by byte: those that are, and those that are none.
 use super::*;
 use score_base::{Ident, Key, NodeId, Outcome, Record, TxId, Value};
 use std::test::Fail;

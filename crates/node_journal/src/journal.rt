@@ -1,3 +1,4 @@
+//! A journal on a disk: opened, written record by record, stopped.
 ghost use Rattle.std.specs.Prelude.{◌≡◌, ◌≢◌, ◌⊎◌, ℕ, ◌+◌, ◌<◌, ◌≤◌, ◌^◌, ◌++◌, List, [], ◌∷◌, Some, None, Ok, Err, length, vec_capacity, IsTrue, IfOk, IfErr, OnOk, OnErr};
 ghost use Rattle.score_base.specs.declared.records.Record.{Record};
 ghost use Rattle.score_disk.specs.Files.{Settled, IsSettled, synced, written};

@@ -1,3 +1,4 @@
+//! The receipt for a record that is kept.
 ghost use Rattle.std.specs.Prelude.{◌≡◌};
 
 use score_base::Record;

@@ -1,3 +1,4 @@
+//! A log as it is written is a log as it is read.
 ghost use Rattle.std.specs.Prelude.{◌≡◌, ◌≤◌, ℕ, List, [], Ok, length};
 ghost use Rattle.score_base.specs.declared.records.Record.{Record};
 ghost use Rattle.node_journal.specs.Log.{IsLog, log};

@@ -1,3 +1,4 @@
+//! How the records of a disk are found, and a file is made anew.
 ghost use Rattle.std.specs.Prelude.{◌≡◌, ◌≢◌, ◌⊎◌, ℕ, ◌+◌, ◌<◌, ◌≤◌, ◌^◌, List, [], ◌∷◌, Some, Ok, Err, length, IsTrue, IfOk, IfErr, OnOk, OnErr};
 ghost use Rattle.score_disk.specs.Files.{Settled, IsSettled, synced, written};
 ghost use Rattle.score_disk.specs.Counts.{Counted};

@@ -1,3 +1,4 @@
+//! How the bytes of a log are read, gate by gate.
 ghost use Rattle.std.specs.Prelude.{◌≡◌, ◌≢◌, ℕ, ◌+◌, ◌-◌, ◌<◌, ◌≤◌, Some, None, Ok, Err, length, drop, slice_index, IsTrue, IfOk, IfErr, IfSome, if◌then◌else◌};
 ghost use Rattle.score_disk.specs.Counts.{Counted};
 ghost use Rattle.node_journal.specs.Log.{body_length, has_body, block_at, log, IsLog};

@@ -1,3 +1,4 @@
+//! The bytes of a journal, what is none, and a stop at each device call.
 ghost use Rattle.std.specs.Prelude.{◌≡◌, ◌≤◌, ◌∷◌, [], IfOk};
 ghost use Rattle.score_disk.specs.Files.{IsSettled, Settled};
 ghost use Rattle.score_disk.specs.MemoryFile.{memory_file};

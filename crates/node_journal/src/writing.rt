@@ -1,3 +1,4 @@
+//! How a record is written, so that a crash leaves it whole or not at all.
 ghost use Rattle.std.specs.Prelude.{◌≡◌, ◌≢◌, ℕ, ◌+◌, ◌^◌, ◌≤◌, ◌<◌, ◌++◌, List, [], ◌∷◌, Some, length, slice_index, vec_capacity, IsTrue, OnOk, OnErr};
 ghost use Rattle.journal_records.specs.Records.{record_bytes, CanEncode, IsRecord};
 ghost use Rattle.score_disk.specs.Counts.{Counted};

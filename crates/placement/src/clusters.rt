@@ -1,3 +1,4 @@
+//! Which nodes hold a key, and what it begins with.
 ghost use Rattle.std.specs.Prelude.{◌≡◌, ◌<◌, ◌≤◌, ◌+◌, ◌*◌, ◌%◌, ◌^◌, ◌++◌, ◌∷◌, ◌==◌, [], length, IsTrue, IfOk, OnOk};
 ghost use Rattle.std.specs.List.{list_any, filter};
 ghost use Rattle.placement.specs.Places.{key_sum, holders, is_among, holds, parts, preferred, others, init_of, IsPlaces};

@@ -1,3 +1,4 @@
+//! Where keys lie in worked clusters.
 ghost use Rattle.std.specs.Prelude.{◌≡◌, ◌∷◌, [], IfOk};
 
 use super::*;

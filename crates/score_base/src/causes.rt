@@ -1,3 +1,4 @@
+//! How a transaction ends, why one is refused, what a vote says, what dates a read.
 use crate::ids::{Ident, TxId};
 use crate::keys::Key;
 

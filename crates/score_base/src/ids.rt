@@ -1,3 +1,4 @@
+//! Numbers with a range of their own: nodes, transactions, identifiers, values.
 ghost use Rattle.std.specs.Prelude.{◌≡◌, ◌≤◌, ◌↔◌, IsSome, IfSome};
 
 use std::marker::Model;

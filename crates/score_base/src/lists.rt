@@ -1,3 +1,4 @@
+//! A list that is seen as its members.
 ghost use Rattle.std.specs.Prelude.{◌≡◌, ◌++◌, ◌∷◌, ◌==◌, [], length, OnOk, OnErr};
 
 use crate::ids::{NodeId, Value};

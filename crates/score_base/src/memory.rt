@@ -1,3 +1,4 @@
+//! How want of memory is told, and what copies itself where there is room.
 ghost use Rattle.std.specs.Prelude.{◌≡◌, ◌++◌, ◌∷◌, [], IfOk, OnOk, OnErr};
 
 use std::alloc::{AllocError, AllocFailed};

@@ -1,3 +1,4 @@
+//! How a number is spelled in decimal digits, and read.
 ghost use Rattle.std.specs.Prelude.{◌≡◌, ℕ, ◌<◌, ◌^◌, ◌++◌, List, Some, OnOk, OnErr};
 ghost use Rattle.std.specs.Fmt.{decimal};
 ghost use Rattle.score_base.specs.Numbers.{number, digits_from};

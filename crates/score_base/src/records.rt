@@ -1,3 +1,4 @@
+//! What a journal keeps.
 use crate::causes::Outcome;
 use crate::ids::{Ident, NodeId, TxId};
 use crate::lists::{KeyList, NodeList, WriteList};

@@ -1,3 +1,4 @@
+//! How a text falls into lines, and a line into words.
 ghost use Rattle.std.specs.Prelude.{◌≡◌, ◌≤◌, ◌++◌, ◌∷◌, [], All, IfOk, length, map};
 ghost use Rattle.std.specs.List.{slice_range};
 ghost use Rattle.score_base.specs.Pieces.{pieces, lines, words, places, LieInOrder};

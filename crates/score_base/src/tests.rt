@@ -1,3 +1,4 @@
+//! Keys, numbers, lists, texts and tables at their edges.
 ghost use Rattle.std.specs.Prelude.{◌≡◌, ◌<◌};
 
 use super::*;

@@ -1,3 +1,4 @@
+//! Worked documents and their text; each refusal and each fault with its code.
 use crate::{rows, score};
 use score_base::Memory;
 use score_io::{MemSink, MemSource};

@@ -1,3 +1,4 @@
+//! Bytes and marks of a disk in memory: put, lengthened, garbled, marked.
 ghost use Rattle.std.specs.Prelude.{◌≡◌, ◌≤◌, ◌+◌, ℕ, ◌||◌, ◌<◌, false, if◌then◌else◌, slice_index, length, vec_len, vec_capacity, max};
 ghost use Rattle.score_disk.specs.Files.{put_at, covers};
 ghost use Rattle.score_disk.specs.Copies.{is_marked};

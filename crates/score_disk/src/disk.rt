@@ -1,3 +1,4 @@
+//! What a disk does, how it may fail, and what a crash may leave.
 ghost use Rattle.std.specs.Prelude.{◌≡◌, ◌≤◌, ◌<◌, ◌^◌, ℕ, ◌+◌, length, slice_range, Option, Bool, IsTrue, IfOk, OnOk, OnErr};
 ghost use Rattle.score_disk.specs.Files.{File, IsSound, written, cut_to, synced, Missed, Unsynced, IsCrash};
 ghost use Rattle.score_disk.specs.Counts.{Counted, Burns};

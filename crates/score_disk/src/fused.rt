@@ -1,3 +1,4 @@
+//! A disk that stops at a call set beforehand.
 ghost use Rattle.std.specs.Prelude.{◌≡◌, ◌≢◌, ◌≤◌, ◌+◌, ◌-◌, ◌<◌, ◌^◌, ℕ, Some, None, length, slice_range, IsTrue, IsErr, IfOk, OnOk, OnErr, ◌↔◌};
 ghost use Rattle.std.specs.Option.{option_map};
 ghost use Rattle.score_base.specs.Faults.{Rose};

@@ -1,3 +1,4 @@
+//! A disk in memory that fails at the calls it is told.
 ghost use Rattle.std.specs.Prelude.{◌≡◌, ◌≤◌, ◌+◌, ◌-◌, ◌^◌, ◌<◌, ◌↔◌, ℕ, [], length, min, vec_len, vec_capacity, IsTrue};
 ghost use Rattle.std.specs.Prelude.{MatchBool, Contains};
 ghost use Rattle.score_base.specs.Faults.{Rose};

@@ -1,3 +1,4 @@
+//! Disks in memory: reads, faults, fuses and crash images.
 ghost use Rattle.std.specs.Prelude.{◌≤◌, IfOk, length};
 
 use super::*;

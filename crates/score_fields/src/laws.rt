@@ -1,3 +1,4 @@
+//! Each field of a record has one spelling.
 ghost use Rattle.std.specs.Prelude.{◌≡◌, ℕ, ◌++◌, List};
 ghost use Rattle.score_base.specs.declared.causes.Outcome.{Outcome};
 ghost use Rattle.score_base.specs.declared.causes.Ballot.{Ballot};

@@ -1,3 +1,4 @@
+//! Fields of records, byte by byte: those that are, and those that are none.
 use super::*;
 use score_base::{Ballot, Cause, Date, Ident, Key, Outcome, TxId};
 use std::test::Fail;

@@ -1,3 +1,4 @@
+//! Where a transaction stands: the first remote read whose value it has not.
 ghost use Rattle.std.specs.Prelude.{◌≡◌, ◌≤◌, is_some, length, IfSome};
 ghost use Rattle.script_runs.specs.Waits.{value_taken, waiting};
 ghost use Rattle.script_runs.specs.Waits.{is_waiting};

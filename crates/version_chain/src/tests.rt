@@ -1,3 +1,4 @@
+//! Reads of a chain, and what a read of 50,000 versions costs.
 ghost use Rattle.std.specs.Prelude.{◌≡◌, ◌<◌, ◌≤◌, length, IfOk};
 
 use super::*;
