@@ -49,7 +49,7 @@ over-more d past a t h = all-more (λ n. has_commit t (journal d past n)) (λ n.
 
 commits-acks : (u : Option Decision) (o : Option Open) (some : List NodeId) (y : Decision) (acks : List NodeId) → stage_by u o some ≡ Commits y acks → some ≡ acks
 commits-acks (Some z) o some y acks e = cc
-commits-acks None (Some x) some y acks e = other (waiting x.script.ops x.values) e
+commits-acks None (Some x) some y acks e = other (waiting x.script.ops x.progress.values) e
   where
     other : (w : Option ℕ) → open_stage x w ≡ Commits y acks → some ≡ acks
     other None e = cc

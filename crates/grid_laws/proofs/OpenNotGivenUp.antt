@@ -18,7 +18,7 @@ use Rattle.grid_model.specs.declared.stories.Story.{Story}
 use Rattle.grid_model.specs.Documents.{DocumentData}
 use Rattle.grid_model.specs.Histories.{sent, sent_at}
 use Rattle.grid_model.specs.Nodes.{Node, node, script_of, is_home}
-use Rattle.grid_model.specs.Stories.{Phase, story, phase, phase_at, asked, begun, heard, heard_at, if_told, is_open, with_vote, with_ack, has_voted}
+use Rattle.grid_model.specs.Stories.{Phase, story, phase, phase_at, asked, begun, heard, heard_at, if_told, is_open, with_vote, with_ack, has_voted, progressed}
 use Rattle.grid_model.specs.Facts.{is_given_up}
 use Rattle.grid_model.proofs.Undecided.{script-number}
 use Rattle.grid_laws.proofs.Frames.{same-number}
@@ -44,7 +44,7 @@ either-story true x y h k = h
 either-story false x y h k = k
 
 flagged-heard : (ns : List NodeId) (p : Phase) (h : Node) (t : TxId) (n : NodeId) (said : Message) (o : Option Story) → IsFlagged o → IsFlagged (heard ns p h t n said o)
-flagged-heard ns p h t n (message.Vote u (ballot.Yes q)) o k = if-flagged _ (with_vote n q) o (λ y i. either-story (has_voted n y.votes) y _ i i) k
+flagged-heard ns p h t n (message.Vote u (ballot.Yes q)) o k = if-flagged _ (progressed (with_vote n q)) o (λ y i. either-story (has_voted n y.progress.votes) y _ i i) k
 flagged-heard ns p h t n (message.Ack u) o k = if-flagged _ (with_ack n) o (λ y i. either-story (is_among n y.acks) y _ i i) k
 flagged-heard ns p h t n said o k = k
 

@@ -21,4 +21,4 @@ pub use events::{Event, Out};
 pub use items::{Item, ItemList};
 pub use laws::{law_next_view, law_own_decisions};
 pub use messages::{Envelope, Message, Prepare, ReadRep, ReadReq};
-pub use stories::{HeldRead, Story, Voted};
+pub use stories::{HeldRead, Progress, Story, Voted};
