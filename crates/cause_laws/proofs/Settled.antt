@@ -70,16 +70,8 @@ open-begun s x closed o = open-if x.lost Lost (decided_phase s.ops x closed o) r
 
 -- ---- it stays so
 
-voted-shut : (s : ScriptData) (n : NodeId) (p : Ident) (y : Story) (b : Bool) → is_shut s (Some y) ≡ true → is_shut s (Some (if b then y else record y { votes = y.progress.votes ++ record { from = n; p = p } ∷ [] })) ≡ true
-voted-shut s n p y true h = h
-voted-shut s n p y false h = h
-
-acked-shut : (s : ScriptData) (n : NodeId) (y : Story) (b : Bool) → is_shut s (Some y) ≡ true → is_shut s (Some (if b then y else record y { acks = y.acks ++ n ∷ [] })) ≡ true
-acked-shut s n y true h = h
-acked-shut s n y false h = h
-
 heard-shut : (s : ScriptData) → KeepsHeard (is_shut s)
-heard-shut s = record { vote = λ n q y i. voted-shut s n q y (has_voted n y.progress.votes) i; ack = λ n y i. acked-shut s n y (is_among n y.acks) i }
+heard-shut s = record { vote = λ n q y i. i; ack = λ n y i. i }
 
 asked-shut : (s : ScriptData) (d : DocumentData) (t : TxId) (said : Message) (o : Option Story) → is_shut s o ≡ true → is_shut s (asked d t said o) ≡ true
 asked-shut s d t (message.ReadReq q) o k = if-kept (is_shut s) (q.t == t) _ o (λ y i. i) k

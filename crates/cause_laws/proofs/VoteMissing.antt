@@ -28,10 +28,6 @@ use Rattle.std.specs.Prelude.{if◌then◌else◌, ◌&&◌, ◌==◌}
 
 -- ---- any other message
 
-acked-unvoted : (d : DocumentData) (s : ScriptData) (n : NodeId) (y : Story) (b : Bool) → is_unvoted d s (Some y) ≡ true → is_unvoted d s (Some (if b then y else record y { acks = y.acks ++ n ∷ [] })) ≡ true
-acked-unvoted d s n y true h = h
-acked-unvoted d s n y false h = h
-
 heard-unvoted : (d : DocumentData) (s : ScriptData) (ns : List NodeId) (p : Phase) (h : Node) (x : NodeId) (said : Message) (o : Option Story) → is_vote_of s.number said ≡ false → is_unvoted d s o ≡ true → is_unvoted d s (heard ns p h s.number x said o) ≡ true
 heard-unvoted d s ns p h x (message.Vote u (ballot.Yes q)) o none k =
     let P : Bool → Type 0 = λ b. is_unvoted d s (if_told (b && is_counted_vote ns p h.journal h.next x q) (progressed (with_vote x q)) o) ≡ true in
@@ -41,7 +37,7 @@ heard-unvoted d s ns p h x (message.Vote u (ballot.Yes q)) o none k =
     stays None h = h
     stays (Some y) h = h
 heard-unvoted d s ns p h x (message.Vote u (ballot.No why)) o none k = k
-heard-unvoted d s ns p h x (message.Ack u) o none k = if-unvoted d s ((u == s.number) && is_counted_ack ns p h.journal h.next x) (with_ack x) o (λ e y i j. acked-unvoted d s x y (is_among x y.acks) j) k
+heard-unvoted d s ns p h x (message.Ack u) o none k = if-unvoted d s ((u == s.number) && is_counted_ack ns p h.journal h.next x) (with_ack x) o (λ e y i j. j) k
 heard-unvoted d s ns p h x (message.ReadReq q) o none k = k
 heard-unvoted d s ns p h x (message.ReadRep q) o none k = k
 heard-unvoted d s ns p h x (message.Prepare q) o none k = k

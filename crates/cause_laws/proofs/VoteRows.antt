@@ -106,7 +106,11 @@ heard-known d past s x n t (ballot.Yes p) y h = go (n == s.home) ((t == s.number
     go true false = refl
     go false c = refl
 
-heard-new : (d : DocumentData) (past : List Act) (n : NodeId) (s : ScriptData) (st : Story) (x : NodeId) (p : Ident) → s.home ≡ n → phase_at s (Some st) (node d past n) ≡ Collecting → is_small_node (node d past n).journal (node d past n).next ≡ true → is_fit_ballot (ballot.Yes p) ≡ true → is_among x (parts_of d s) ≡ true → has_voted x st.progress.votes ≡ false → heard_at d past (Some s) (Some (record { from = x; to = n; message = message.Vote s.number (ballot.Yes p) })) (Some st) ≡ Some (record st { votes = st.progress.votes ++ record { from = x; p = p } ∷ [] })
+-- a yes of x more
+abbrev with_yes : NodeId → Ident → Story → Story
+with_yes x p = progressed (λ z. record z { votes = z.votes ++ record { from = x; p = p } ∷ [] })
+
+heard-new : (d : DocumentData) (past : List Act) (n : NodeId) (s : ScriptData) (st : Story) (x : NodeId) (p : Ident) → s.home ≡ n → phase_at s (Some st) (node d past n) ≡ Collecting → is_small_node (node d past n).journal (node d past n).next ≡ true → is_fit_ballot (ballot.Yes p) ≡ true → is_among x (parts_of d s) ≡ true → has_voted x st.progress.votes ≡ false → heard_at d past (Some s) (Some (record { from = x; to = n; message = message.Vote s.number (ballot.Yes p) })) (Some st) ≡ Some (with_yes x p st)
 heard-new d past n s st x p home gathers small fit part new =
     rw (home, same-number n, gathers, small, fit, part, same-number s.number, new) refl
 
@@ -136,7 +140,7 @@ vote-counts d past m n x b s p y rest is home got told unsettled full small fit 
     unended : is_open (phase_at s (Some y) (node d past n)) ≡ true
     unended = subst P home (subst Q told (unsettled-open d past s y told unsettled))
 
-    counted : story d (act.Got m ∷ past) s.number ≡ Some (record y { votes = y.progress.votes ++ record { from = x; p = p } ∷ [] })
+    counted : story d (act.Got m ∷ past) s.number ≡ Some (with_yes x p y)
     counted = rw (got, is, told) (heard-new d past n s y x p home (phase-collecting d past n s y unended full) small fit part new)
 
     f : Ident
@@ -146,7 +150,7 @@ vote-counts d past m n x b s p y rest is home got told unsettled full small fit 
     os = decides s.number f (parts_of d s)
 
     go : (c : Bool) → have_voted (parts_of d s) (y.progress.votes ++ record { from = x; p = p } ∷ []) ≡ c → (b : Bool) → rest ≡ numbered (next_number past) n (kept b n (if c then os else [])) → VoteResult d past m n x s rest
-    go false e b r = counted_vote (record y { votes = y.progress.votes ++ record { from = x; p = p } ∷ [] }) (r ∙ kept-none (next_number past) n b) counted (voted-last x p y.progress.votes) e full
+    go false e b r = counted_vote (with_yes x p y) (r ∙ kept-none (next_number past) n b) counted (voted-last x p y.progress.votes) e full
     go true e true r = decides_now f (numbered (next_number past) n (out.Act (act.Finished s.number) ∷ tells s.number (outcome.Commit f) (parts_of d s))) r
     go true e false r = stops_now f r
 

@@ -39,16 +39,12 @@ abbrev pub is_voted_in : NodeId → Option Story → Bool
 is_voted_in n None = false
 is_voted_in n (Some x) = has_voted n x.progress.votes
 
-vote-voted : (n k : NodeId) (q : Ident) (y : Story) (b : Bool) → has_voted n y.progress.votes ≡ true → has_voted n (if b then y else record y { votes = y.progress.votes ++ record { from = k; p = q } ∷ [] }).progress.votes ≡ true
-vote-voted n k q y true h = h
-vote-voted n k q y false h = list_any-append (λ (v : Voted). v.from == n) y.progress.votes (record { from = k; p = q } ∷ []) ∙ or_left (has_voted n y.progress.votes) (has_voted n (record { from = k; p = q } ∷ [])) h
-
-ack-voted : (n k : NodeId) (y : Story) (b : Bool) → has_voted n y.progress.votes ≡ true → has_voted n (if b then y else record y { acks = y.acks ++ k ∷ [] }).progress.votes ≡ true
-ack-voted n k y true h = h
-ack-voted n k y false h = h
+vote-voted : (n k : NodeId) (q : Ident) (vs : List Voted) (b : Bool) → has_voted n vs ≡ true → has_voted n (if b then vs else vs ++ record { from = k; p = q } ∷ []) ≡ true
+vote-voted n k q vs true h = h
+vote-voted n k q vs false h = list_any-append (λ (v : Voted). v.from == n) vs (record { from = k; p = q } ∷ []) ∙ or_left (has_voted n vs) (has_voted n (record { from = k; p = q } ∷ [])) h
 
 heard-voted : (n : NodeId) → KeepsHeard (is_voted_in n)
-heard-voted n = record { vote = λ k q y i. vote-voted n k q y (has_voted k y.progress.votes) i; ack = λ k y i. ack-voted n k y (is_among k y.acks) i }
+heard-voted n = record { vote = λ k q y i. vote-voted n k q y.progress.votes (has_voted k y.progress.votes) i; ack = λ k y i. i }
 
 asked-voted : (n : NodeId) (d : DocumentData) (t : TxId) (said : Message) (o : Option Story) → is_voted_in n o ≡ true → is_voted_in n (asked d t said o) ≡ true
 asked-voted n d t (message.ReadReq q) o k = if-kept (is_voted_in n) (q.t == t) _ o (λ y i. i) k

@@ -47,13 +47,9 @@ if-says : (s : ScriptData) (ys : List (ℕ × Value)) (b : Bool) (o p : Option S
 if-says s ys true o p h k = h
 if-says s ys false o p h k = k
 
-either-says : (s : ScriptData) (ys : List (ℕ × Value)) (b : Bool) (y z : Story) → Says s ys (Some y) → Says s ys (Some z) → Says s ys (Some (if b then y else z))
-either-says s ys true y z h k = h
-either-says s ys false y z h k = k
-
 heard-says : (s : ScriptData) (ys : List (ℕ × Value)) (ns : List NodeId) (p : Phase) (h : Node) (t : TxId) (n : NodeId) (said : Message) (o : Option Story) → Says s ys o → Says s ys (heard ns p h t n said o)
-heard-says s ys ns p h t n (message.Vote u (ballot.Yes q)) o k = if-told-says s ys _ (progressed (with_vote n q)) o (λ y i. either-says s ys (has_voted n y.progress.votes) y _ i i) k
-heard-says s ys ns p h t n (message.Ack u) o k = if-told-says s ys _ (with_ack n) o (λ y i. either-says s ys _ y _ i i) k
+heard-says s ys ns p h t n (message.Vote u (ballot.Yes q)) o k = if-told-says s ys _ (progressed (with_vote n q)) o (λ y i. i) k
+heard-says s ys ns p h t n (message.Ack u) o k = if-told-says s ys _ (with_ack n) o (λ y i. i) k
 heard-says s ys ns p h t n said o k = k
 
 got-says : (s : ScriptData) (ys : List (ℕ × Value)) (d : DocumentData) (past : List Act) (w : Option ScriptData) (e : Option Envelope) (o : Option Story) → Says s ys o → Says s ys (heard_at d past w e o)

@@ -61,13 +61,9 @@ either-meant : (past : List Act) (t : TxId) (b : Bool) (o p : Option Story) → 
 either-meant past t true o p h k = h
 either-meant past t false o p h k = k
 
-either-story : (past : List Act) (t : TxId) (b : Bool) (x y : Story) → Meant past t (Some x) → Meant past t (Some y) → Meant past t (Some (if b then x else y))
-either-story past t true x y h k = h
-either-story past t false x y h k = k
-
 meant-heard : (past : List Act) (t : TxId) (ns : List NodeId) (p : Phase) (h : Node) (u : TxId) (n : NodeId) (said : Message) (o : Option Story) → Meant past t o → Meant past t (heard ns p h u n said o)
-meant-heard past t ns p h u n (message.Vote w (ballot.Yes q)) o k = if-meant past t _ (progressed (with_vote n q)) o (λ e y i. either-story past t (has_voted n y.progress.votes) y _ i i) k
-meant-heard past t ns p h u n (message.Ack w) o k = if-meant past t _ (with_ack n) o (λ e y i. either-story past t (is_among n y.acks) y _ i i) k
+meant-heard past t ns p h u n (message.Vote w (ballot.Yes q)) o k = if-meant past t _ (progressed (with_vote n q)) o (λ e y i. i) k
+meant-heard past t ns p h u n (message.Ack w) o k = if-meant past t _ (with_ack n) o (λ e y i. i) k
 meant-heard past t ns p h u n said o k = k
 
 meant-got : (now : List Act) (d : DocumentData) (past : List Act) (t : TxId) (w : Option ScriptData) (m : Option Envelope) (o : Option Story) → Meant now t o → Meant now t (heard_at d past w m o)

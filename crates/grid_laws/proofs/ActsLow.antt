@@ -100,7 +100,7 @@ may-low m d past n h all low (held i) = (let f = (ever-covered d past all n h i)
 date-low : (m : ℕ) (x : Story) (q : Date) → IsLowStory m (Some x) → q ≡ date_by x.progress.sid0 x.progress.sid → date_ident q ≤ m
 date-low m x q low is = rw is (by x.progress.sid low)
   where
-    by : (o : Option Ident) → IsLowStory m (Some (record x { sid = o })) → date_ident (date_by x.progress.sid0 o) ≤ m
+    by : (o : Option Ident) → IsLowStory m (Some (record x { progress = record x.progress { sid = o } })) → date_ident (date_by x.progress.sid0 o) ≤ m
     by None h = h.0
     by (Some sid) h = h.1
 

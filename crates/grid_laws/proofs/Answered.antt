@@ -34,20 +34,14 @@ if-told-told s b f None go h = h
 if-told-told s true f (Some x) go h = go x h
 if-told-told s false f (Some x) go h = h
 
-vote-told : (s : ScriptData) (n : NodeId) (p : Ident) (x : Story) → is_told s (Some x) ≡ true → is_told s (Some (progressed (with_vote n p) x)) ≡ true
-vote-told s n p x h = grind (arith, h)
-
-ack-told : (s : ScriptData) (n : NodeId) (x : Story) → is_told s (Some x) ≡ true → is_told s (Some (with_ack n x)) ≡ true
-ack-told s n x h = grind (arith, h)
-
 pub or-true : (a b : Bool) → (a || (b || true)) ≡ true
 or-true true b = refl
 or-true false true = refl
 or-true false false = refl
 
 heard-told : (s : ScriptData) (ns : List NodeId) (p : Phase) (h : Node) (t : TxId) (x : NodeId) (said : Message) (o : Option Story) → is_told s o ≡ true → is_told s (heard ns p h t x said o) ≡ true
-heard-told s ns p h t x (message.Vote u (ballot.Yes q)) o e = if-told-told s _ (progressed (with_vote x q)) o (λ y i. vote-told s x q y i) e
-heard-told s ns p h t x (message.Ack u) o e = if-told-told s _ (with_ack x) o (λ y i. ack-told s x y i) e
+heard-told s ns p h t x (message.Vote u (ballot.Yes q)) o e = if-told-told s _ (progressed (with_vote x q)) o (λ y i. i) e
+heard-told s ns p h t x (message.Ack u) o e = if-told-told s _ (with_ack x) o (λ y i. i) e
 heard-told s ns p h t x said o e = e
 
 if-either : (s : ScriptData) (b : Bool) (o p : Option Story) → is_told s o ≡ true → is_told s p ≡ true → is_told s (if b then o else p) ≡ true

@@ -50,7 +50,7 @@ pub story-taken : (d : DocumentData) (past : List Act) (q : ReadRep) (x : Story)
 story-taken d past q x e = rw (e, same-number q.t) refl
 
 abbrev pub with_reply : ReadRep → Open → Open
-with_reply q x = record x { turn = 0; sid = Some (first_sid x.progress.sid q.sid); values = x.progress.values ++ (q.op, q.value) ∷ [] }
+with_reply q x = record x { progress = with_value q.op q.sid q.value x.progress }
 
 due-taken : (d : DocumentData) (past : List Act) (n : NodeId) (m : ℕ) (y : NodeId) (q : ReadRep) (x : Open) (j : ℕ) (b : Bool) → Opens d past n q.t x (Some j) → IsGot past n y (message.ReadRep q) → (j == q.op) ≡ b → ((j == q.op) ≡ true → is_same_ident q.sid x.progress.sid ≡ true) → OutsDue d past n m (if b then out.Act (act.Taken q.t q.op q.sid q.value) ∷ advance d.cluster (with_reply q x) q.op else [])
 due-taken d past n m y q x j true o got here fit =
@@ -75,7 +75,7 @@ phase-collecting : (d : DocumentData) (past : List Act) (n : NodeId) (s : Script
 phase-collecting d past n s x unended full = grind (arith, unended, full)
 
 abbrev with_yes : NodeId → Ident → Story → Story
-with_yes x p st = record st { votes = st.progress.votes ++ record { from = x; p = p } ∷ [] }
+with_yes x p = progressed (λ z. record z { votes = z.votes ++ record { from = x; p = p } ∷ [] })
 
 heard-voted : (d : DocumentData) (past : List Act) (n : NodeId) (s : ScriptData) (st : Story) (x : NodeId) (t : TxId) (p : Ident) → s.home ≡ n → s.number ≡ t → phase_at s (Some st) (node d past n) ≡ Collecting → is_small_node (node d past n).journal (node d past n).next ≡ true → is_fit_ballot (ballot.Yes p) ≡ true → is_among x (parts_of d s) ≡ true → has_voted x st.progress.votes ≡ false → heard_at d past (Some s) (Some (record { from = x; to = n; message = message.Vote t (ballot.Yes p) })) (Some st) ≡ Some (with_yes x p st)
 heard-voted d past n s st x t p home number collects small fit part new =

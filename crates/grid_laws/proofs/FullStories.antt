@@ -37,13 +37,9 @@ if-keeps : (x : Story) (b : Bool) (o p : Option Story) → Keeps x o → Keeps x
 if-keeps x true o p h k = h
 if-keeps x false o p h k = k
 
-either-keeps : (x : Story) (b : Bool) (y z : Story) → Keeps x (Some y) → Keeps x (Some z) → Keeps x (Some (if b then y else z))
-either-keeps x true y z h k = h
-either-keeps x false y z h k = k
-
 heard-keeps : (x : Story) (ns : List NodeId) (p : Phase) (h : Node) (t : TxId) (n : NodeId) (said : Message) (o : Option Story) → Keeps x o → Keeps x (heard ns p h t n said o)
-heard-keeps x ns p h t n (message.Vote u (ballot.Yes q)) o k = if-told-keeps x _ (progressed (with_vote n q)) o (λ y i. either-keeps x (has_voted n y.progress.votes) y _ i i) k
-heard-keeps x ns p h t n (message.Ack u) o k = if-told-keeps x _ (with_ack n) o (λ y i. either-keeps x _ y _ i i) k
+heard-keeps x ns p h t n (message.Vote u (ballot.Yes q)) o k = if-told-keeps x _ (progressed (with_vote n q)) o (λ y i. i) k
+heard-keeps x ns p h t n (message.Ack u) o k = if-told-keeps x _ (with_ack n) o (λ y i. i) k
 heard-keeps x ns p h t n said o k = k
 
 got-keeps : (x : Story) (d : DocumentData) (past : List Act) (w : Option ScriptData) (e : Option Envelope) (o : Option Story) → Keeps x o → Keeps x (heard_at d past w e o)

@@ -192,17 +192,13 @@ greatest-more : (m : ℕ) (vs : List Voted) (v : Voted) → greatest_vote vs ≤
 greatest-more m [] v h k = omega arith
 greatest-more m (w ∷ vs) v h k = omega (arith, greatest-more m vs v (omega arith) k)
 
-low-vote : (m : ℕ) (n : NodeId) (p : Ident) (x : Story) (b : Bool) → p ≤ m → IsLowStory m (Some x) → IsLowStory m (Some (if b then x else record x { votes = x.progress.votes ++ record { from = n; p = p } ∷ [] }))
+low-vote : (m : ℕ) (n : NodeId) (p : Ident) (x : Story) (b : Bool) → p ≤ m → IsLowStory m (Some x) → IsLowStory m (Some (record x { progress = record x.progress { votes = if b then x.progress.votes else x.progress.votes ++ record { from = n; p = p } ∷ [] } }))
 low-vote m n p x true h k = k
 low-vote m n p x false h k = (k.0, k.1, greatest-more m x.progress.votes (record { from = n; p = p }) k.2 h)
 
-low-ack : (m : ℕ) (n : NodeId) (x : Story) (b : Bool) → IsLowStory m (Some x) → IsLowStory m (Some (if b then x else record x { acks = x.acks ++ n ∷ [] }))
-low-ack m n x true k = k
-low-ack m n x false k = k
-
 low-heard : (m : ℕ) (ns : List NodeId) (p : Phase) (h : Node) (t : TxId) (n : NodeId) (said : Message) (o : Option Story) → message_ident said ≤ m → IsLowStory m o → IsLowStory m (heard ns p h t n said o)
 low-heard m ns p h t n (message.Vote u (ballot.Yes q)) o i k = if-low m _ (progressed (with_vote n q)) o (λ x j. low-vote m n q x (has_voted n x.progress.votes) i j) k
-low-heard m ns p h t n (message.Ack u) o i k = if-low m _ (with_ack n) o (λ x j. low-ack m n x (is_among n x.acks) j) k
+low-heard m ns p h t n (message.Ack u) o i k = if-low m _ (with_ack n) o (λ x j. j) k
 low-heard m ns p h t n said o i k = k
 
 low-got : (m : ℕ) (d : DocumentData) (past : List Act) (w : Option ScriptData) (s : Option Envelope) (o : Option Story) → ((e : Envelope) → s ≡ Some e → message_ident e.message ≤ m) → IsLowStory m o → IsLowStory m (heard_at d past w s o)

@@ -18,7 +18,7 @@ use Rattle.grid_model.specs.declared.messages.Message.{Message}
 use Rattle.grid_model.specs.declared.messages.Message.TheVariants as message
 use Rattle.grid_model.specs.declared.messages.ReadRep.{ReadRep}
 use Rattle.journal_words.specs.Journals.{commit_id}
-use Rattle.grid_model.specs.Stories.{first_sid}
+use Rattle.grid_model.specs.Stories.{with_value}
 use Rattle.script_runs.specs.Waits.{waiting}
 use Rattle.grid_model.specs.Views.{stage, Stage, View, Open, Reads, Collects, Commits, Apart, participant}
 use Rattle.grid_model.specs.Advances.{advance, advance_end, owns}
@@ -115,7 +115,7 @@ none-advance c x i = none-append (owns x.script.number i (own_reads 1 [] unread 
 
 none-reply : (c : ClusterData) (q : ReadRep) (g : Stage) → outs_weight (reply_row c q g) ≡ 0
 none-reply c q (Reads x j) =
-    let y : Open = record x { turn = 0; sid = Some (first_sid x.progress.sid q.sid); values = x.progress.values ++ (q.op, q.value) ∷ [] } in
+    let y : Open = record x { progress = with_value q.op q.sid q.value x.progress } in
     let o : Out = out.Act (act.Taken q.t q.op q.sid q.value) in
     none-if (j == q.op) (o ∷ advance c y q.op) (none-behind o (advance c y q.op) refl (none-advance c y q.op))
 none-reply c q (Collects x) = refl

@@ -35,7 +35,7 @@ use Rattle.grid_model.specs.declared.stories.Story.{Story}
 
 -- a transaction with this snapshot and these values
 abbrev pub open_with : ScriptData → Ident → List (ℕ × Value) → Open
-open_with s sid values = record { script = s; sid0 = 0; sid = Some sid; values = values; votes = []; turn = 0 }
+open_with s sid values = record { script = s; progress = record { sid0 = 0; sid = Some sid; values = values; votes = []; turn = 0 } }
 
 -- the Prepare that n, the home of an update with all its values, sends to its part y
 pub record PrepareSays (d : DocumentData) (past : List Act) (n y : NodeId) (q : Prepare) : Type 0 where

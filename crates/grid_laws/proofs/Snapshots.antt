@@ -39,13 +39,9 @@ else-of : (N : Type 0) (Q : Option Ident → List (ℕ × Value) → Type 0) (b 
 else-of N Q true o p h k = h refl
 else-of N Q false o p h k = k
 
-either-of : (Q : Option Ident → List (ℕ × Value) → Type 0) (b : Bool) (y z : Story) → Q y.progress.sid y.progress.values → Q z.progress.sid z.progress.values → Q (if b then y else z).progress.sid (if b then y else z).progress.values
-either-of Q true y z h k = h
-either-of Q false y z h k = k
-
 heard-of : (N : Type 0) (Q : Option Ident → List (ℕ × Value) → Type 0) (ns : List NodeId) (p : Phase) (h : Node) (t : TxId) (n : NodeId) (said : Message) (o : Option Story) → OfStory N Q o → OfStory N Q (heard ns p h t n said o)
-heard-of N Q ns p h t n (message.Vote u (ballot.Yes q)) o k = if-of N Q _ (progressed (with_vote n q)) o (λ y i. either-of Q (has_voted n y.progress.votes) y _ i i) k
-heard-of N Q ns p h t n (message.Ack u) o k = if-of N Q _ (with_ack n) o (λ y i. either-of Q _ y _ i i) k
+heard-of N Q ns p h t n (message.Vote u (ballot.Yes q)) o k = if-of N Q _ (progressed (with_vote n q)) o (λ y i. i) k
+heard-of N Q ns p h t n (message.Ack u) o k = if-of N Q _ (with_ack n) o (λ y i. i) k
 heard-of N Q ns p h t n said o k = k
 
 pub got-of : (N : Type 0) (Q : Option Ident → List (ℕ × Value) → Type 0) (d : DocumentData) (past : List Act) (w : Option ScriptData) (e : Option Envelope) (o : Option Story) → OfStory N Q o → OfStory N Q (heard_at d past w e o)

@@ -82,11 +82,11 @@ either-backed : (d : DocumentData) (past : List Act) (t : TxId) (b : Bool) (o p 
 either-backed d past t true o p h k = h refl
 either-backed d past t false o p h k = k
 
-with-vote : (d : DocumentData) (past : List Act) (t : TxId) (n : NodeId) (p : Ident) (x : Story) (b : Bool) → VoteHolds d past t (record { from = n; p = p }) → StoryBacked d past t (Some x) → StoryBacked d past t (Some (if b then x else record x { votes = x.progress.votes ++ record { from = n; p = p } ∷ [] }))
+with-vote : (d : DocumentData) (past : List Act) (t : TxId) (n : NodeId) (p : Ident) (x : Story) (b : Bool) → VoteHolds d past t (record { from = n; p = p }) → StoryBacked d past t (Some x) → StoryBacked d past t (Some (record x { progress = record x.progress { votes = if b then x.progress.votes else x.progress.votes ++ record { from = n; p = p } ∷ [] } }))
 with-vote d past t n p x true v h = h
 with-vote d past t n p x false v h = (votes-last d past t x.progress.votes (record { from = n; p = p }) h.0 v, h.1)
 
-with-ack : (d : DocumentData) (past : List Act) (t : TxId) (n : NodeId) (x : Story) (b : Bool) → has_commit t (journal d past n) ≡ true → StoryBacked d past t (Some x) → StoryBacked d past t (Some (if b then x else record x { acks = x.acks ++ n ∷ [] }))
+with-ack : (d : DocumentData) (past : List Act) (t : TxId) (n : NodeId) (x : Story) (b : Bool) → has_commit t (journal d past n) ≡ true → StoryBacked d past t (Some x) → StoryBacked d past t (Some (record x { acks = if b then x.acks else x.acks ++ n ∷ [] }))
 with-ack d past t n x true v h = h
 with-ack d past t n x false v h = (h.0, acks-last d past t x.acks n h.1 v)
 

@@ -163,7 +163,7 @@ counts-taken t op sid value os p = record { sent = p.sent; held = p.held; own = 
 
 counts-reply : (c : ClusterData) (q : ReadRep) (s : Stage) → Counts 16 0 (reply_row c q s)
 counts-reply c q (Reads x j) =
-    let y : Open = record x { turn = 0; sid = Some (first_sid x.progress.sid q.sid); values = x.progress.values ++ (q.op, q.value) ∷ [] } in
+    let y : Open = record x { progress = with_value q.op q.sid q.value x.progress } in
     counts-if (j == q.op) 16 0 (out.Act (act.Taken q.t q.op q.sid q.value) ∷ advance c y q.op) [] (counts-taken q.t q.op q.sid q.value (advance c y q.op) (counts-advance c y q.op)) (counts-none 16 0)
 counts-reply c q Apart = counts-none 16 0
 counts-reply c q (Collects x) = counts-none 16 0

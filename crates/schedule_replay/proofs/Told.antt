@@ -34,8 +34,8 @@ prepare-told c x n t sid ps reads writes e f g h k = λ i. record { t = e i; sid
 same-number : (n : ℕ) → (n == n) ≡ true
 same-number n = grind (arith, nat_tests)
 
-taken-here : (c : ClusterData) (q : ReadRep) (x : Open) → out.Act (act.Taken q.t q.op q.sid q.value) ∷ advance c (record x { turn = 0; sid = Some (first_sid x.progress.sid q.sid); values = x.progress.values ++ (q.op, q.value) ∷ [] }) q.op ≡ reply_row c q (Reads x q.op)
-taken-here c q x = sym (ap (λ b. if b then out.Act (act.Taken q.t q.op q.sid q.value) ∷ advance c (record x { turn = 0; sid = Some (first_sid x.progress.sid q.sid); values = x.progress.values ++ (q.op, q.value) ∷ [] }) q.op else []) (same-number q.op))
+taken-here : (c : ClusterData) (q : ReadRep) (x : Open) → out.Act (act.Taken q.t q.op q.sid q.value) ∷ advance c (record x { progress = with_value q.op q.sid q.value x.progress }) q.op ≡ reply_row c q (Reads x q.op)
+taken-here c q x = sym (ap (λ b. if b then out.Act (act.Taken q.t q.op q.sid q.value) ∷ advance c (record x { progress = with_value q.op q.sid q.value x.progress }) q.op else []) (same-number q.op))
 
 -- a reply that is taken
 pub taken-told : (c : ClusterData) (q : ReadRep) (s : ScriptData) (story more : Story) (x : Open) (outs front rest : List Out) → open_of s story ≡ x → more ≡ progressed (with_value q.op q.sid q.value) story → front ≡ out.Act (act.Taken q.t q.op q.sid q.value) ∷ [] → rest ≡ advance c (open_of s more) q.op → outs ≡ front ++ rest → outs ≡ reply_row c q (Reads x q.op)
