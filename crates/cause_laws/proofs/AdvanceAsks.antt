@@ -82,7 +82,7 @@ asked-by d past acts s None h = λ u n i. sent-later (λ x y said. y == n && is_
 
 pub asked-later : (d : DocumentData) (past acts : List Act) (s : ScriptData) (o : Option Story) → IsAsked d past s o → IsAsked d (after past acts) s o
 asked-later d past acts s None h = tt
-asked-later d past acts s (Some x) h = asked-by d past acts s (waiting s.ops x.values) h
+asked-later d past acts s (Some x) h = asked-by d past acts s (waiting s.ops x.progress.values) h
 
 -- acts that leave the values leave what was asked
 pub calm-asked : (d : DocumentData) (past acts : List Act) (s : ScriptData) → all_calm acts ≡ true → IsAsked d past s (story d past s.number) → IsAsked d (after past acts) s (story d (after past acts) s.number)
@@ -97,7 +97,7 @@ out-request : (d : DocumentData) (s : ScriptData) (x : Story) (n : NodeId) (j : 
 out-request d s x n j k one at =
     let y = preferred-some d s.home k one in
     let P : Option Op → Type 0 = λ o. list_any (is_out (λ x y said. is_request_of s.number j said) n) (request_of d.cluster (open_of s x) j 0 o) ≡ true in
-    let Q : Option NodeId → Type 0 = λ o. list_any (is_out (λ x y said. is_request_of s.number j said) n) (to_node o (message.ReadReq (record { t = s.number; op = j; key = k; date = date_by x.sid0 x.sid }))) ≡ true in
+    let Q : Option NodeId → Type 0 = λ o. list_any (is_out (λ x y said. is_request_of s.number j said) n) (to_node o (message.ReadReq (record { t = s.number; op = j; key = k; date = date_by x.progress.sid0 x.progress.sid }))) ≡ true in
     subst P (sym at) (subst Q (sym y.1) (or_left ((s.number == s.number) && (j == j)) false (read-test s.number j)))
 
 out-prepare : (d : DocumentData) (s : ScriptData) (x : Story) (n k : NodeId) (ns : List NodeId) → is_among k ns ≡ true → list_any (is_out (λ x y said. y == k && is_prepare_of s.number said) n) (prepares d.cluster (open_of s x) ns) ≡ true
@@ -107,20 +107,20 @@ out-prepare d s x n k (i ∷ ns) h = elim (or_cases (i == k) (is_among k ns) h) 
   | inr later ↦ or_right (i == k && s.number == s.number) (list_any (is_out (λ x y said. y == k && is_prepare_of s.number said) n) (prepares d.cluster (open_of s x) ns)) (out-prepare d s x n k ns later)
 ]
 
-out-advance : (d : DocumentData) (p : NodeId → NodeId → Message → Bool) (n : NodeId) (s : ScriptData) (x : Story) (i : ℕ) (w : Option ℕ) → waiting s.ops x.values ≡ w → list_any (is_out p n) (advance_end d.cluster (open_of s x) w) ≡ true → list_any (is_out p n) (advance d.cluster (open_of s x) i) ≡ true
+out-advance : (d : DocumentData) (p : NodeId → NodeId → Message → Bool) (n : NodeId) (s : ScriptData) (x : Story) (i : ℕ) (w : Option ℕ) → waiting s.ops x.progress.values ≡ w → list_any (is_out p n) (advance_end d.cluster (open_of s x) w) ≡ true → list_any (is_out p n) (advance d.cluster (open_of s x) i) ≡ true
 out-advance d p n s x i w e h =
     let P : Option ℕ → Type 0 = λ o. list_any (is_out p n) (advance_end d.cluster (open_of s x) o) ≡ true in
-    list_any-append (is_out p n) (owns s.number i (own_reads 1 [] unread x.values s.ops)) (advance_end d.cluster (open_of s x) (waiting s.ops x.values))
-    ∙ or_right (list_any (is_out p n) (owns s.number i (own_reads 1 [] unread x.values s.ops))) (list_any (is_out p n) (advance_end d.cluster (open_of s x) (waiting s.ops x.values))) (subst P (sym e) h)
+    list_any-append (is_out p n) (owns s.number i (own_reads 1 [] unread x.progress.values s.ops)) (advance_end d.cluster (open_of s x) (waiting s.ops x.progress.values))
+    ∙ or_right (list_any (is_out p n) (owns s.number i (own_reads 1 [] unread x.progress.values s.ops))) (list_any (is_out p n) (advance_end d.cluster (open_of s x) (waiting s.ops x.progress.values))) (subst P (sym e) h)
 
-advance-sent : (d : DocumentData) (p : NodeId → NodeId → Message → Bool) (now : List Act) (m : ℕ) (n : NodeId) (b : Bool) (s : ScriptData) (x : Story) (i : ℕ) (w : Option ℕ) → waiting s.ops x.values ≡ w → list_any (is_out p n) (advance_end d.cluster (open_of s x) w) ≡ true → has_sent p (after now (numbered m n (kept b n (advance d.cluster (open_of s x) i)))) ≡ true
+advance-sent : (d : DocumentData) (p : NodeId → NodeId → Message → Bool) (now : List Act) (m : ℕ) (n : NodeId) (b : Bool) (s : ScriptData) (x : Story) (i : ℕ) (w : Option ℕ) → waiting s.ops x.progress.values ≡ w → list_any (is_out p n) (advance_end d.cluster (open_of s x) w) ≡ true → has_sent p (after now (numbered m n (kept b n (advance d.cluster (open_of s x) i)))) ≡ true
 advance-sent d p now m n b s x i w e h =
     let P : List Out → Type 0 = λ os. has_sent p (after now (numbered m n os)) ≡ true in
     subst P (sym (advance-kept d.cluster (open_of s x) i b n)) (sent-out p now m n (advance d.cluster (open_of s x) i) (out-advance d p n s x i w e h))
 
-advance-asks : (d : DocumentData) (now : List Act) (m : ℕ) (n : NodeId) (b : Bool) (s : ScriptData) (x : Story) (i : ℕ) (w : Option ℕ) → IsOne d → waiting s.ops x.values ≡ w → AskedBy d (after now (numbered m n (kept b n (advance d.cluster (open_of s x) i)))) s w
+advance-asks : (d : DocumentData) (now : List Act) (m : ℕ) (n : NodeId) (b : Bool) (s : ScriptData) (x : Story) (i : ℕ) (w : Option ℕ) → IsOne d → waiting s.ops x.progress.values ≡ w → AskedBy d (after now (numbered m n (kept b n (advance d.cluster (open_of s x) i)))) s w
 advance-asks d now m n b s x i (Some j) one e =
-    let k = waiting-read j s.ops x.values e in
+    let k = waiting-read j s.ops x.progress.values e in
     advance-sent d (λ x y said. is_request_of s.number j said) now m n b s x i (Some j) e (out-request d s x n j k.0 one k.1)
 advance-asks d now m n b s x i None one e = λ u k h.
     let P : Bool → Type 0 = λ c. list_any (is_out (λ x y said. y == k && is_prepare_of s.number said) n) (if c then prepares d.cluster (open_of s x) (parts_of d s) else out.Act (act.Finished s.number) ∷ []) ≡ true in
@@ -130,10 +130,10 @@ advance-asks d now m n b s x i None one e = λ u k h.
 pub self-asked : (d : DocumentData) (now : List Act) (m : ℕ) (n : NodeId) (b : Bool) (s : ScriptData) (x : Story) (i : ℕ) → IsOne d → story d now s.number ≡ Some x → let acts : List Act = numbered m n (kept b n (advance d.cluster (open_of s x) i)) in IsAsked d (after now acts) s (story d (after now acts) s.number)
 self-asked d now m n b s x i one told =
     let acts : List Act = numbered m n (kept b n (advance d.cluster (open_of s x) i)) in
-    let P : Option Story → Type 0 = λ o. OfStory ⊥ (λ i values. values ≡ x.values) o in
-    let same : OfStory ⊥ (λ i values. values ≡ x.values) (story d (after now acts) s.number) = calm-later ⊥ (λ i values. values ≡ x.values) d now acts s.number (advance-calm d.cluster (open_of s x) i b m n) (subst P (sym told) refl) in
-    from (story d (after now acts) s.number) same (advance-asks d now m n b s x i (waiting s.ops x.values) one refl)
+    let P : Option Story → Type 0 = λ o. OfStory ⊥ (λ i values. values ≡ x.progress.values) o in
+    let same : OfStory ⊥ (λ i values. values ≡ x.progress.values) (story d (after now acts) s.number) = calm-later ⊥ (λ i values. values ≡ x.progress.values) d now acts s.number (advance-calm d.cluster (open_of s x) i b m n) (subst P (sym told) refl) in
+    from (story d (after now acts) s.number) same (advance-asks d now m n b s x i (waiting s.ops x.progress.values) one refl)
   where
-    from : (o : Option Story) → OfStory ⊥ (λ i values. values ≡ x.values) o → AskedBy d (after now (numbered m n (kept b n (advance d.cluster (open_of s x) i)))) s (waiting s.ops x.values) → IsAsked d (after now (numbered m n (kept b n (advance d.cluster (open_of s x) i)))) s o
+    from : (o : Option Story) → OfStory ⊥ (λ i values. values ≡ x.progress.values) o → AskedBy d (after now (numbered m n (kept b n (advance d.cluster (open_of s x) i)))) s (waiting s.ops x.progress.values) → IsAsked d (after now (numbered m n (kept b n (advance d.cluster (open_of s x) i)))) s o
     from None k h = absurd k
     from (Some y) k h = let P : List (ℕ × Value) → Type 0 = λ values. AskedBy d (after now (numbered m n (kept b n (advance d.cluster (open_of s x) i)))) s (waiting s.ops values) in subst P (sym k) h

@@ -18,7 +18,7 @@ use Rattle.grid_model.specs.Nodes.{journal, script_of}
 use Rattle.grid_model.specs.Rows.{answer, begin_outs, reply_row}
 use Rattle.grid_model.specs.Runs.{IsRun}
 use Rattle.grid_model.specs.Schedules.{kept, next_number, numbered, start_row}
-use Rattle.grid_model.specs.Stories.{begun, if_told, story, with_value}
+use Rattle.grid_model.specs.Stories.{begun, if_told, story, with_value, progressed}
 use Rattle.grid_model.specs.Views.{Apart, Collects, Commits, Open, Reads, Stage, open_of, stage, view, participant}
 use Rattle.grid_model.specs.declared.acts.Act.TheVariants as act
 use Rattle.grid_model.specs.declared.acts.Act.{Act}
@@ -90,7 +90,7 @@ asked-none d now m n false all = all
 asked-taken : (d : DocumentData) (past : List Act) (m : ℕ) (n : NodeId) (b : Bool) (q : ReadRep) (o : Open) (w : Option ℕ) → IsOne d → Opens d past n q.t o w → AllAsked d past → AllAsked d (after past (numbered m n (kept b n (out.Act (act.Taken q.t q.op q.sid q.value) ∷ advance d.cluster (with_reply q o) q.op))))
 asked-taken d past m n b q o w one h all =
     let u : ScriptData = h.script in
-    let y : Story = with_value q.op q.sid q.value h.story in
+    let y : Story = progressed (with_value q.op q.sid q.value) h.story in
     let now : List Act = act.Taken q.t q.op q.sid q.value ∷ past in
     let rest : List Act = numbered m n (kept b n (advance d.cluster (open_of u y) q.op)) in
     let number : u.number ≡ q.t = script-number q.t d.scripts u h.at.script in
@@ -98,7 +98,7 @@ asked-taken d past m n b q o w one h all =
     let Q : TxId → Type 0 = λ t. story d now t ≡ Some y in
     let S : Open → Type 0 = λ z. AllAsked d (after now (numbered m n (kept b n (advance d.cluster (with_reply q z) q.op)))) in
     let T : List Act → Type 0 = λ acts. AllAsked d (after past acts) in
-    let more : AllAsked d (after now rest) = all-but d past now rest u (subst P (sym number) h.at.script) (λ s other script. other-if d now s (q.t == s.number) (with_value q.op q.sid q.value) (story d past s.number) (let ne : q.t ≢ s.number = (λ e. other (number ∙ e)) in grind (arith, nat_tests, ne)) (asked-later d past (act.Taken q.t q.op q.sid q.value ∷ []) s (story d past s.number) (all s script))) (advance-calm d.cluster (open_of u y) q.op b m n) (self-asked d now m n b u y q.op one (subst Q (sym number) (story-taken d past q h.story h.at.story))) in
+    let more : AllAsked d (after now rest) = all-but d past now rest u (subst P (sym number) h.at.script) (λ s other script. other-if d now s (q.t == s.number) (progressed (with_value q.op q.sid q.value)) (story d past s.number) (let ne : q.t ≢ s.number = (λ e. other (number ∙ e)) in grind (arith, nat_tests, ne)) (asked-later d past (act.Taken q.t q.op q.sid q.value ∷ []) s (story d past s.number) (all s script))) (advance-calm d.cluster (open_of u y) q.op b m n) (self-asked d now m n b u y q.op one (subst Q (sym number) (story-taken d past q h.story h.at.story))) in
     subst T (sym (numbered-taken m n b q.t q.op q.sid q.value (advance d.cluster (with_reply q o) q.op))) (subst S (sym h.is) more)
 
 asked-reply : (d : DocumentData) (past : List Act) (m : ℕ) (n : NodeId) (b : Bool) (q : ReadRep) (g : Stage) → IsOne d → stage (view d past n) q.t ≡ g → AllAsked d past → AllAsked d (after past (numbered m n (kept b n (reply_row d.cluster q g))))

@@ -93,7 +93,7 @@ quiet-end c x (Some j) = quiet-request c x j 0 (op_at x.script.ops j)
 quiet-end c x None = quiet-if (is_update x.script.ops) (prepares c x (parts_now c x)) (out.Act (act.Finished x.script.number) ∷ []) (quiet-prepares c x (parts_now c x)) refl
 
 quiet-advance : (c : ClusterData) (x : Open) (i : ℕ) → list_all is_quiet (advance c x i) ≡ true
-quiet-advance c x i = quiet-owns x.script.number (filter (λ y. nat_lt i y.0) (own_reads 1 [] unread x.values x.script.ops)) (advance_end c x (waiting x.script.ops x.values)) (quiet-end c x (waiting x.script.ops x.values))
+quiet-advance c x i = quiet-owns x.script.number (filter (λ y. nat_lt i y.0) (own_reads 1 [] unread x.progress.values x.script.ops)) (advance_end c x (waiting x.script.ops x.progress.values)) (quiet-end c x (waiting x.script.ops x.progress.values))
 
 -- Advance stops in no record
 pub advance-kept : (c : ClusterData) (x : Open) (i : ℕ) (b : Bool) (n : NodeId) → kept b n (advance c x i) ≡ advance c x i

@@ -126,7 +126,7 @@ result-leaves d past m n x s rest is home some begun due (counted_vote y k told 
     let P : List Act → Type 0 = λ z. VoteLeaves d past m s x z in
     let V : Option Story → Type 0 = λ o. is_voted_in x o ≡ true in
     let U : Option Story → Type 0 = λ o. is_unvoted d s o ≡ true in
-    let W : Option ℕ → Type 0 = λ w. (if is_some w then is_none_voted y.votes else not (have_voted (parts_of d s) y.votes)) ≡ true in
+    let W : Option ℕ → Type 0 = λ w. (if is_some w then is_none_voted y.progress.votes else not (have_voted (parts_of d s) y.progress.votes)) ≡ true in
     subst P (sym k) (record {
       counted = is_counted_in (subst V (sym told) voted);
       waits = λ w. inr (subst U (sym told) (subst W (sym full) (rw not_all refl)));
@@ -161,8 +161,8 @@ vote-leaves d past m n x b s a rest one is got fit r due = go (is_settled d past
     home : s.home ≡ n
     home = ap (λ (z : ScriptData). z.home) (sym same) ∙ v.full.at.home
 
-    full : waiting s.ops v.full.story.values ≡ None
-    full = ap (λ (z : ScriptData). waiting z.ops v.full.story.values) (sym same) ∙ ap (waiting v.script.ops) v.full.told ∙ v.full.full
+    full : waiting s.ops v.full.story.progress.values ≡ None
+    full = ap (λ (z : ScriptData). waiting z.ops v.full.story.progress.values) (sym same) ∙ ap (waiting v.script.ops) v.full.told ∙ v.full.full
 
     begun : HasBegun d past s.number
     begun = (let P : Option Story → Type 0 = λ o. OfStory ⊥ (λ i values. Unit {0}) o in subst P (sym v.full.at.story) tt)

@@ -70,7 +70,7 @@ well-ballot d n t ns vs x (ballot.Yes p) h = well-full d n t ns (vs ++ record { 
 well-ballot d n t ns vs x (ballot.No why) h = well-tells d n t outcome.Abort (others x ns) (fewer d n t (λ m. not (m == x)) ns h)
 
 well-vote : (d : DocumentData) (past : List Act) (n : NodeId) (t : TxId) (x : NodeId) (b : Ballot) (g : Stage) → stage (view d past n) t ≡ g → AreWell d n (vote_row d.cluster t x b g)
-well-vote d past n t x b (Collects o) e = well-if d n (has_voted x o.votes) [] (ballot_row t (parts_now d.cluster o) o.votes x b) refl (well-ballot d n t (parts_now d.cluster o) o.votes x b (open-parts d past n t o e))
+well-vote d past n t x b (Collects o) e = well-if d n (has_voted x o.progress.votes) [] (ballot_row t (parts_now d.cluster o) o.progress.votes x b) refl (well-ballot d n t (parts_now d.cluster o) o.progress.votes x b (open-parts d past n t o e))
 well-vote d past n t x b (Reads o j) e = refl
 well-vote d past n t x b (Commits y acks) e = refl
 well-vote d past n t x b Apart e = refl
@@ -102,8 +102,8 @@ pub well-answer : (d : DocumentData) (past : List Act) (n x : NodeId) (said : Me
 well-answer d past n x said h = well-if d n (is_fit_at n (participant (view d past n)) (stage (view d past n) (tx_in said)) x said) _ [] (well-row_of d past n x said h) refl
 
 well-retry : (d : DocumentData) (past : List Act) (n : NodeId) (t : TxId) (g : Stage) → AllDue d past → stage (view d past n) t ≡ g → AreWell d n (retry_row d.cluster t g)
-well-retry d past n t (Reads x j) all e = well-request d n x j x.turn (op_at x.script.ops j)
-well-retry d past n t (Collects x) all e = well-prepares d n x (not_voted (parts_now d.cluster x) x.votes)
+well-retry d past n t (Reads x j) all e = well-request d n x j x.progress.turn (op_at x.script.ops j)
+well-retry d past n t (Collects x) all e = well-prepares d n x (not_voted (parts_now d.cluster x) x.progress.votes)
 well-retry d past n t (Commits y acks) all e = well-tells d n t (outcome.Commit y.final) (not_among y.parts acks) (fewer d n t (λ n. not (is_among n acks)) y.parts (decided-parts d past n t y acks all e))
 well-retry d past n t Apart all e = refl
 

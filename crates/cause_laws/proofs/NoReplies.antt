@@ -71,18 +71,18 @@ reply-taken d past m n x b q o e fit =
 story-got : (d : DocumentData) (past : List Act) (m : ℕ) (x n : NodeId) (q : ReadRep) (y : Story) → sent_at m (sent past) ≡ Some (record { from = x; to = n; message = message.ReadRep q }) → story d past q.t ≡ Some y → story d (act.Got m ∷ past) q.t ≡ Some y
 story-got d past m x n q y is told = story-quiet d past m x n (message.ReadRep q) q.t is refl ∙ told
 
-taken-now : (d : DocumentData) (past : List Act) (q : ReadRep) (x : Story) → story d past q.t ≡ Some x → value_taken q.op x.values ≡ None → HasTaken d (act.Taken q.t q.op q.sid q.value ∷ past) q.t q.op
+taken-now : (d : DocumentData) (past : List Act) (q : ReadRep) (x : Story) → story d past q.t ≡ Some x → value_taken q.op x.progress.values ≡ None → HasTaken d (act.Taken q.t q.op q.sid q.value ∷ past) q.t q.op
 taken-now d past q x told none =
     let P : Option Story → Type 0 = λ o. OfStory ⊥ (λ i values. is_some (value_taken q.op values) ≡ true) o in
-    subst P (sym (story-taken d past q x told)) (rw (taken-new q.op q.value x.values none) refl)
+    subst P (sym (story-taken d past q x told)) (rw (taken-new q.op q.value x.progress.values none) refl)
 
 -- a home that reads takes the reply in the same event
-reading-takes : (d : DocumentData) (past : List Act) (m : ℕ) (n x : NodeId) (b : Bool) (q : ReadRep) (s : ScriptData) (y : Story) (rest : List Act) → script_of q.t d.scripts ≡ Some s → s.home ≡ n → sent_at m (sent past) ≡ Some (record { from = x; to = n; message = message.ReadRep q }) → is_fit n (view d past n) x (message.ReadRep q) ≡ true → rest ≡ numbered (next_number past) n (kept b n (answer n (view d past n) x (message.ReadRep q))) → AllDue d (after (act.Got m ∷ past) rest) → story d past q.t ≡ Some y → is_settled d past s ≡ false → waiting s.ops y.values ≡ Some q.op → HasTaken d (after (act.Got m ∷ past) rest) q.t q.op
+reading-takes : (d : DocumentData) (past : List Act) (m : ℕ) (n x : NodeId) (b : Bool) (q : ReadRep) (s : ScriptData) (y : Story) (rest : List Act) → script_of q.t d.scripts ≡ Some s → s.home ≡ n → sent_at m (sent past) ≡ Some (record { from = x; to = n; message = message.ReadRep q }) → is_fit n (view d past n) x (message.ReadRep q) ≡ true → rest ≡ numbered (next_number past) n (kept b n (answer n (view d past n) x (message.ReadRep q))) → AllDue d (after (act.Got m ∷ past) rest) → story d past q.t ≡ Some y → is_settled d past s ≡ false → waiting s.ops y.progress.values ≡ Some q.op → HasTaken d (after (act.Got m ∷ past) rest) q.t q.op
 reading-takes d past m n x b q s y rest is home sent fit r due told unsettled reads =
     let e : stage (view d past n) q.t ≡ Reads (open_of s y) q.op = stage-open d past n q.t s y is home told unsettled ∙ ap (λ w. open_stage (open_of s y) w) reads in
     let w = reply-taken d past (next_number past) n x b q (open_of s y) e fit in
     let k : rest ≡ act.Taken q.t q.op q.sid q.value ∷ w.0 = r ∙ w.1 in
-    let none : value_taken q.op y.values ≡ None = (waiting-open 1 q.op [] y.values s.ops reads).untaken in
+    let none : value_taken q.op y.progress.values ≡ None = (waiting-open 1 q.op [] y.progress.values s.ops reads).untaken in
     let now : HasTaken d (act.Taken q.t q.op q.sid q.value ∷ (act.Got m ∷ past)) q.t q.op = taken-now d (act.Got m ∷ past) q y (story-got d past m x n q y sent told) none in
     let P : List Act → Type 0 = λ z. AllDue d (after (act.Got m ∷ past) z) in
     let Q : List Act → Type 0 = λ z. HasTaken d (after (act.Got m ∷ past) z) q.t q.op in
@@ -113,7 +113,7 @@ reply-got d past m n x b q s rest one is sent fit r due = go (is_settled d past 
         let P : Option Story → Type 0 = λ o. OfStory ⊥ (λ i values. is_some (value_taken q.op values) ≡ true) o in
         inr (taken-later d past (act.Got m ∷ rest) q.t q.op due (subst P (sym told) taken))
     go false (Some y) e told (inr reads) =
-        let there : waiting s.ops y.values ≡ Some q.op = ap (λ (z : ScriptData). waiting z.ops y.values) (sym same) ∙ reads in
+        let there : waiting s.ops y.progress.values ≡ Some q.op = ap (λ (z : ScriptData). waiting z.ops y.progress.values) (sym same) ∙ reads in
         inr (reading-takes d past m n x b q s y rest is home sent fit r due told e there)
 
 -- ---- each event
@@ -170,15 +170,15 @@ replies-taken d h one run =
     not-both e = cc
 
 -- no reply was got for what is read
-pub quiet-read : (d : DocumentData) (h : List Act) (s : ScriptData) (x : Story) (j : ℕ) → IsOne d → IsRun d d.items h → script_of s.number d.scripts ≡ Some s → story d (after [] h) s.number ≡ Some x → is_settled d (after [] h) s ≡ false → waiting s.ops x.values ≡ Some j → has_got (λ x y said. is_reply_of s.number j said) (after [] h) ≡ false
+pub quiet-read : (d : DocumentData) (h : List Act) (s : ScriptData) (x : Story) (j : ℕ) → IsOne d → IsRun d d.items h → script_of s.number d.scripts ≡ Some s → story d (after [] h) s.number ≡ Some x → is_settled d (after [] h) s ≡ false → waiting s.ops x.progress.values ≡ Some j → has_got (λ x y said. is_reply_of s.number j said) (after [] h) ≡ false
 quiet-read d h s x j one run script told unsettled reads = go (has_got (λ x y said. is_reply_of s.number j said) (after [] h)) refl
   where
     no-taken : HasTaken d (after [] h) s.number j → ⊥
     no-taken k =
         let P : Option Story → Type 0 = λ o. OfStory ⊥ (λ i values. is_some (value_taken j values) ≡ true) o in
-        let none : value_taken j x.values ≡ None = (waiting-open 1 j [] x.values s.ops reads).untaken in
-        let some : is_some (value_taken j x.values) ≡ true = subst P told k in
-        not-some (value_taken j x.values) none some
+        let none : value_taken j x.progress.values ≡ None = (waiting-open 1 j [] x.progress.values s.ops reads).untaken in
+        let some : is_some (value_taken j x.progress.values) ≡ true = subst P told k in
+        not-some (value_taken j x.progress.values) none some
       where
         not-some : (o : Option Value) → o ≡ None → is_some o ≡ true → ⊥
         not-some None e f = cc

@@ -46,7 +46,7 @@ turned false e true c d home go h = or_right e true refl
 turned false e false c d home go h = or_right e d (go h)
 
 -- the read that it waits for
-waits-read : (d : DocumentData) (h : List Act) (s : ScriptData) (j : ℕ) → IsOne d → IsRun d d.items h → script_of s.number d.scripts ≡ Some s → (w : OpenTold d (after [] h) s) → waiting s.ops w.tale.values ≡ Some j → WaitsForRead d (after [] h) s.number j
+waits-read : (d : DocumentData) (h : List Act) (s : ScriptData) (j : ℕ) → IsOne d → IsRun d d.items h → script_of s.number d.scripts ≡ Some s → (w : OpenTold d (after [] h) s) → waiting s.ops w.tale.progress.values ≡ Some j → WaitsForRead d (after [] h) s.number j
 waits-read d h s j one run is w waits =
     record {
       asked = requests-sent d past s.number j one due asked_for;
@@ -75,13 +75,13 @@ excused-script d h s one run is going = go (node d past s.home).up refl
     w : OpenTold d past s
     w = open-told d past s going
 
-    by : (o : Option ℕ) → waiting s.ops w.tale.values ≡ o → (node d past s.home).up ≡ true → ExcusedOf d past s
+    by : (o : Option ℕ) → waiting s.ops w.tale.progress.values ≡ o → (node d past s.home).up ≡ true → ExcusedOf d past s
     by (Some j) e up = reads j (unsettled-phase d past s w ∙ ap (λ o. open_phase o) e) (waits-read d h s j one run is w e)
     by None e up = collects (unsettled-phase d past s w ∙ ap (λ o. open_phase o) e) (waits-vote d h s one run is (λ n. open-not-ended d (after [] h) (due-run d d.items h run) s s.number is going n) up w e)
 
     go : (b : Bool) → (node d past s.home).up ≡ b → ExcusedOf d past s
     go false e = home_is_down e
-    go true e = by (waiting s.ops w.tale.values) refl e
+    go true e = by (waiting s.ops w.tale.progress.values) refl e
 
 -- each open transaction of a run is excused
 pub excused : (d : DocumentData) (h : List Act) → IsOne d → IsRun d d.items h → Excused d h

@@ -47,13 +47,13 @@ undone-none t r e = go (is_closed t r)
     go true = refl
     go false = e
 
-stage-told : (n : NodeId) (h : Node) (s : ScriptData) (x : Story) (acks : List NodeId) (b c : Bool) → (s.home == n) ≡ b → is_open (phase_at s (Some x) h) ≡ c → b ≡ true → c ≡ true → stage_by None (if b then (if c then Some (open_of s x) else None) else None) acks ≡ open_stage (open_of s x) (waiting s.ops x.values)
+stage-told : (n : NodeId) (h : Node) (s : ScriptData) (x : Story) (acks : List NodeId) (b c : Bool) → (s.home == n) ≡ b → is_open (phase_at s (Some x) h) ≡ c → b ≡ true → c ≡ true → stage_by None (if b then (if c then Some (open_of s x) else None) else None) acks ≡ open_stage (open_of s x) (waiting s.ops x.progress.values)
 stage-told n h s x acks true true e f i j = refl
 stage-told n h s x acks true false e f i j = cc
 stage-told n h s x acks false c e f i j = cc
 
 -- a transaction of home n that is open: it reads its first remote read without a value, or collects
-pub stage-open : (d : DocumentData) (past : List Act) (n : NodeId) (t : TxId) (s : ScriptData) (x : Story) → script_of t d.scripts ≡ Some s → s.home ≡ n → story d past t ≡ Some x → is_settled d past s ≡ false → stage (view d past n) t ≡ open_stage (open_of s x) (waiting s.ops x.values)
+pub stage-open : (d : DocumentData) (past : List Act) (n : NodeId) (t : TxId) (s : ScriptData) (x : Story) → script_of t d.scripts ≡ Some s → s.home ≡ n → story d past t ≡ Some x → is_settled d past s ≡ false → stage (view d past n) t ≡ open_stage (open_of s x) (waiting s.ops x.progress.values)
 stage-open d past n t s x is home told h =
     let number : s.number ≡ t = script-number t d.scripts s is in
     let here : story d past s.number ≡ Some x = (let P : TxId → Type 0 = λ u. story d past u ≡ Some x in subst P (sym number) told) in

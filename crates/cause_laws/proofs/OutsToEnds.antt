@@ -122,7 +122,7 @@ well-end d n x (Some j) = well-request d n x j 0 (op_at x.script.ops j)
 well-end d n x None = well-if d n (is_update x.script.ops) (prepares d.cluster x (parts_now d.cluster x)) (out.Act (act.Finished x.script.number) ∷ []) (well-prepares d n x (parts_now d.cluster x)) refl
 
 pub well-advance : (d : DocumentData) (n : NodeId) (x : Open) (i : ℕ) → AreWell d n (advance d.cluster x i)
-well-advance d n x i = well-append d n (owns x.script.number i (own_reads 1 [] unread x.values x.script.ops)) (advance_end d.cluster x (waiting x.script.ops x.values)) (well-owns d n x.script.number (filter (λ y. nat_lt i y.0) (own_reads 1 [] unread x.values x.script.ops))) (well-end d n x (waiting x.script.ops x.values))
+well-advance d n x i = well-append d n (owns x.script.number i (own_reads 1 [] unread x.progress.values x.script.ops)) (advance_end d.cluster x (waiting x.script.ops x.progress.values)) (well-owns d n x.script.number (filter (λ y. nat_lt i y.0) (own_reads 1 [] unread x.progress.values x.script.ops))) (well-end d n x (waiting x.script.ops x.progress.values))
 
 well-release : (d : DocumentData) (n : NodeId) (c : ClusterData) (r : List Record) (hs : List HeldRead) → AreWell d n (release c r n hs)
 well-release d n c r [] = refl

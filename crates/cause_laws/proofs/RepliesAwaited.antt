@@ -39,7 +39,7 @@ some-stays j op v values h = go (value_taken j values) refl h
     go (Some u) e h = rw (taken-stays j u values ((op, v) ∷ []) e) refl
 
 taken-more : (d : DocumentData) (past : List Act) (a : Act) (t : TxId) (j : ℕ) → AllDue d (a ∷ past) → HasTaken d past t j → HasTaken d (a ∷ past) t j
-taken-more d past a t j due k = of-more ⊥ (λ o values. is_some (value_taken j values) ≡ true) d past a t (λ n. absurd n) (λ op sid v w h. some-stays j op v w.story.values h) due k
+taken-more d past a t j due k = of-more ⊥ (λ o values. is_some (value_taken j values) ≡ true) d past a t (λ n. absurd n) (λ op sid v w h. some-stays j op v w.story.progress.values h) due k
 
 pub taken-later : (d : DocumentData) (past acts : List Act) (t : TxId) (j : ℕ) → AllDue d (after past acts) → HasTaken d past t j → HasTaken d (after past acts) t j
 taken-later d past [] t j due k = k
@@ -56,15 +56,15 @@ pub record Came (d : DocumentData) (past : List Act) (t : TxId) (j : ℕ) : Type
   pub is : script_of t d.scripts ≡ Some script
   pub to : CameTo d past t script j
 
-came-on : (d : DocumentData) (past : List Act) (t : TxId) (s : ScriptData) (j op : ℕ) (sid : Ident) (v : Value) → script_of t d.scripts ≡ Some s → (w : TakenDue d past t op sid v) → (is_some (value_taken j w.story.values) ≡ true) ⊎ (waiting s.ops w.story.values ≡ Some j) → (is_some (value_taken j (w.story.values ++ (op, v) ∷ [])) ≡ true) ⊎ (waiting s.ops (w.story.values ++ (op, v) ∷ []) ≡ Some j)
-came-on d past t s j op sid v is w (inl taken) = inl (some-stays j op v w.story.values taken)
+came-on : (d : DocumentData) (past : List Act) (t : TxId) (s : ScriptData) (j op : ℕ) (sid : Ident) (v : Value) → script_of t d.scripts ≡ Some s → (w : TakenDue d past t op sid v) → (is_some (value_taken j w.story.progress.values) ≡ true) ⊎ (waiting s.ops w.story.progress.values ≡ Some j) → (is_some (value_taken j (w.story.progress.values ++ (op, v) ∷ [])) ≡ true) ⊎ (waiting s.ops (w.story.progress.values ++ (op, v) ∷ []) ≡ Some j)
+came-on d past t s j op sid v is w (inl taken) = inl (some-stays j op v w.story.progress.values taken)
 came-on d past t s j op sid v is w (inr reads) =
     let same : s ≡ w.script = equal-script s w.script (sym is ∙ w.at.script) in
-    let there : waiting w.script.ops w.story.values ≡ Some j = ap (λ (z : ScriptData). waiting z.ops w.story.values) (sym same) ∙ reads in
+    let there : waiting w.script.ops w.story.progress.values ≡ Some j = ap (λ (z : ScriptData). waiting z.ops w.story.progress.values) (sym same) ∙ reads in
     let number : op ≡ j = equal-some op j (sym w.reads ∙ there) in
-    let P : ℕ → Type 0 = λ i. is_some (value_taken i (w.story.values ++ (op, v) ∷ [])) ≡ true in
-    let none : value_taken op w.story.values ≡ None = (waiting-open 1 op [] w.story.values w.script.ops w.reads).untaken in
-    inl (subst P number (rw (taken-new op v w.story.values none) refl))
+    let P : ℕ → Type 0 = λ i. is_some (value_taken i (w.story.progress.values ++ (op, v) ∷ [])) ≡ true in
+    let none : value_taken op w.story.progress.values ≡ None = (waiting-open 1 op [] w.story.progress.values w.script.ops w.reads).untaken in
+    inl (subst P number (rw (taken-new op v w.story.progress.values none) refl))
   where
     equal-script : (y z : ScriptData) → Some y ≡ Some z → y ≡ z
     equal-script y z e = cc

@@ -48,8 +48,8 @@ open-waits (Some j) = refl
 
 open-undecided : (ops : List Op) (x : Story) → is_open (undecided_phase ops x) ≡ (not x.aborted && (not (x.finished && not (is_update ops)) && true))
 open-undecided ops x =
-    open-if x.aborted Aborted (if x.finished && not (is_update ops) then Answered else open_phase (waiting ops x.values)) refl
-    ∙ ap (λ b. not x.aborted && b) (open-if (x.finished && not (is_update ops)) Answered (open_phase (waiting ops x.values)) refl ∙ ap (λ b. not (x.finished && not (is_update ops)) && b) (open-waits (waiting ops x.values)))
+    open-if x.aborted Aborted (if x.finished && not (is_update ops) then Answered else open_phase (waiting ops x.progress.values)) refl
+    ∙ ap (λ b. not x.aborted && b) (open-if (x.finished && not (is_update ops)) Answered (open_phase (waiting ops x.progress.values)) refl ∙ ap (λ b. not (x.finished && not (is_update ops)) && b) (open-waits (waiting ops x.progress.values)))
 
 open-decided : (ops : List Op) (x : Story) (closed : Bool) (o : Option Decision) → is_open (decided_phase ops x closed o) ≡ (is_none o && (not x.aborted && (not (x.finished && not (is_update ops)) && true)))
 open-decided ops x closed None = open-undecided ops x
@@ -70,16 +70,8 @@ open-begun s x closed o = open-if x.lost Lost (decided_phase s.ops x closed o) r
 
 -- ---- it stays so
 
-voted-shut : (s : ScriptData) (n : NodeId) (p : Ident) (y : Story) (b : Bool) → is_shut s (Some y) ≡ true → is_shut s (Some (if b then y else record y { votes = y.votes ++ record { from = n; p = p } ∷ [] })) ≡ true
-voted-shut s n p y true h = h
-voted-shut s n p y false h = h
-
-acked-shut : (s : ScriptData) (n : NodeId) (y : Story) (b : Bool) → is_shut s (Some y) ≡ true → is_shut s (Some (if b then y else record y { acks = y.acks ++ n ∷ [] })) ≡ true
-acked-shut s n y true h = h
-acked-shut s n y false h = h
-
 heard-shut : (s : ScriptData) → KeepsHeard (is_shut s)
-heard-shut s = record { vote = λ n q y i. voted-shut s n q y (has_voted n y.votes) i; ack = λ n y i. acked-shut s n y (is_among n y.acks) i }
+heard-shut s = record { vote = λ n q y i. i; ack = λ n y i. i }
 
 asked-shut : (s : ScriptData) (d : DocumentData) (t : TxId) (said : Message) (o : Option Story) → is_shut s o ≡ true → is_shut s (asked d t said o) ≡ true
 asked-shut s d t (message.ReadReq q) o k = if-kept (is_shut s) (q.t == t) _ o (λ y i. i) k

@@ -2,7 +2,7 @@
 use Rattle.grid_laws.proofs.Causes.{BeganDue}
 use Rattle.grid_model.specs.Documents.{DocumentData}
 use Rattle.grid_model.specs.Nodes.{Node, node, parts_of}
-use Rattle.grid_model.specs.Stories.{Phase, begun, heard, heard_at, if_told, phase_at, story, with_ack, with_vote}
+use Rattle.grid_model.specs.Stories.{Phase, begun, heard, heard_at, if_told, phase_at, story, with_ack, with_vote, progressed}
 use Rattle.grid_model.specs.declared.acts.Act.{Act}
 use Rattle.grid_model.specs.declared.messages.Envelope.{Envelope}
 use Rattle.grid_model.specs.declared.messages.Message.TheVariants as message
@@ -28,11 +28,11 @@ else-kept p false o w h k = k
 
 -- votes and acknowledgements keep the test
 pub record KeepsHeard (p : Option Story → Bool) : Type 0 where
-  pub vote : (n : NodeId) (q : Ident) (y : Story) → p (Some y) ≡ true → p (Some (with_vote n q y)) ≡ true
+  pub vote : (n : NodeId) (q : Ident) (y : Story) → p (Some y) ≡ true → p (Some (progressed (with_vote n q) y)) ≡ true
   pub ack : (n : NodeId) (y : Story) → p (Some y) ≡ true → p (Some (with_ack n y)) ≡ true
 
 heard-kept : (p : Option Story → Bool) (ns : List NodeId) (z : Phase) (h : Node) (t : TxId) (n : NodeId) (said : Message) (o : Option Story) → KeepsHeard p → p o ≡ true → p (heard ns z h t n said o) ≡ true
-heard-kept p ns z h t n (message.Vote u (ballot.Yes q)) o keeps k = if-kept p _ (with_vote n q) o (λ y i. keeps.vote n q y i) k
+heard-kept p ns z h t n (message.Vote u (ballot.Yes q)) o keeps k = if-kept p _ (progressed (with_vote n q)) o (λ y i. keeps.vote n q y i) k
 heard-kept p ns z h t n (message.Ack u) o keeps k = if-kept p _ (with_ack n) o (λ y i. keeps.ack n y i) k
 heard-kept p ns z h t n said o keeps k = k
 

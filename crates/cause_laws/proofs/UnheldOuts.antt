@@ -102,7 +102,7 @@ unheld-end c x (Some j) = unheld-request c x j 0 (op_at x.script.ops j)
 unheld-end c x None = unheld-if (is_update x.script.ops) (prepares c x (parts_now c x)) (out.Act (act.Finished x.script.number) ∷ []) (unheld-prepares c x (parts_now c x)) refl
 
 pub unheld-advance : (c : ClusterData) (x : Open) (i : ℕ) → AreUnheld (advance c x i)
-unheld-advance c x i = unheld-append (owns x.script.number i (own_reads 1 [] unread x.values x.script.ops)) (advance_end c x (waiting x.script.ops x.values)) (unheld-owns x.script.number (filter (λ y. nat_lt i y.0) (own_reads 1 [] unread x.values x.script.ops))) (unheld-end c x (waiting x.script.ops x.values))
+unheld-advance c x i = unheld-append (owns x.script.number i (own_reads 1 [] unread x.progress.values x.script.ops)) (advance_end c x (waiting x.script.ops x.progress.values)) (unheld-owns x.script.number (filter (λ y. nat_lt i y.0) (own_reads 1 [] unread x.progress.values x.script.ops))) (unheld-end c x (waiting x.script.ops x.progress.values))
 
 unheld-reply : (c : ClusterData) (q : ReadRep) (g : Stage) → AreUnheld (reply_row c q g)
 unheld-reply c q (Reads x j) = unheld-if (j == q.op) (out.Act (act.Taken q.t q.op q.sid q.value) ∷ advance c (with_reply q x) q.op) [] (unheld-advance c (with_reply q x) q.op) refl
@@ -129,7 +129,7 @@ unheld-ballot t ns vs x (ballot.Yes p) = unheld-if (have_voted ns (vs ++ record 
 unheld-ballot t ns vs x (ballot.No why) = unheld-tells t outcome.Abort (others x ns)
 
 unheld-vote : (c : ClusterData) (t : TxId) (x : NodeId) (b : Ballot) (g : Stage) → AreUnheld (vote_row c t x b g)
-unheld-vote c t x b (Collects o) = unheld-if (has_voted x o.votes) [] (ballot_row t (parts_now c o) o.votes x b) refl (unheld-ballot t (parts_now c o) o.votes x b)
+unheld-vote c t x b (Collects o) = unheld-if (has_voted x o.progress.votes) [] (ballot_row t (parts_now c o) o.progress.votes x b) refl (unheld-ballot t (parts_now c o) o.progress.votes x b)
 unheld-vote c t x b (Reads o j) = refl
 unheld-vote c t x b (Commits y acks) = refl
 unheld-vote c t x b Apart = refl
@@ -165,8 +165,8 @@ pub unheld-answer : (n : NodeId) (v : View) (x : NodeId) (said : Message) → is
 unheld-answer n v x said h = unheld-if (is_fit_at n (participant v) (stage v (tx_in said)) x said) (row_of n (participant v) v.held (stage v (tx_in said)) x said) [] (unheld-row_of n v (stage v (tx_in said)) x said h) refl
 
 unheld-retry : (c : ClusterData) (t : TxId) (g : Stage) → AreUnheld (retry_row c t g)
-unheld-retry c t (Reads x j) = unheld-request c x j x.turn (op_at x.script.ops j)
-unheld-retry c t (Collects x) = unheld-prepares c x (not_voted (parts_now c x) x.votes)
+unheld-retry c t (Reads x j) = unheld-request c x j x.progress.turn (op_at x.script.ops j)
+unheld-retry c t (Collects x) = unheld-prepares c x (not_voted (parts_now c x) x.progress.votes)
 unheld-retry c t (Commits y acks) = unheld-tells t (outcome.Commit y.final) (not_among y.parts acks)
 unheld-retry c t Apart = refl
 

@@ -53,7 +53,7 @@ open-told d past s h = go (is_settled d past s) (story d past s.number) refl ref
         (let f : false ≡ true = subst P told h in cc)
     go false (Some x) e told h = record { tale = x; told = told; unsettled = e }
 
-phase-told : (ops : List Op) (x : Story) (closed : Bool) (o : Option Decision) (l a f : Bool) → x.lost ≡ l → x.aborted ≡ a → (x.finished && not (is_update ops)) ≡ f → ((l || (a || f)) || is_some o) ≡ false → phase_by ops (Some x) closed o ≡ open_phase (waiting ops x.values)
+phase-told : (ops : List Op) (x : Story) (closed : Bool) (o : Option Decision) (l a f : Bool) → x.lost ≡ l → x.aborted ≡ a → (x.finished && not (is_update ops)) ≡ f → ((l || (a || f)) || is_some o) ≡ false → phase_by ops (Some x) closed o ≡ open_phase (waiting ops x.progress.values)
 phase-told ops x closed None false false false e g i h = rw (e, g, i) refl
 phase-told ops x closed o true a f e g i h = cc
 phase-told ops x closed o false true f e g i h = cc
@@ -61,9 +61,9 @@ phase-told ops x closed o false false true e g i h = cc
 phase-told ops x closed (Some y) false false false e g i h = cc
 
 -- it reads its first remote read without a value, or collects
-pub unsettled-phase : (d : DocumentData) (past : List Act) (s : ScriptData) (w : OpenTold d past s) → phase d past s ≡ open_phase (waiting s.ops w.tale.values)
+pub unsettled-phase : (d : DocumentData) (past : List Act) (s : ScriptData) (w : OpenTold d past s) → phase d past s ≡ open_phase (waiting s.ops w.tale.progress.values)
 unsettled-phase d past s w =
-    let P : Option Story → Type 0 = λ o. phase_at s o (node d past s.home) ≡ open_phase (waiting s.ops w.tale.values) in
+    let P : Option Story → Type 0 = λ o. phase_at s o (node d past s.home) ≡ open_phase (waiting s.ops w.tale.progress.values) in
     let Q : Option Story → Type 0 = λ o. (is_shut s o || is_some (decision s.number (journal d past s.home))) ≡ false in
     subst P (sym w.told) (phase-told s.ops w.tale (is_closed s.number (journal d past s.home)) (decision s.number (journal d past s.home)) w.tale.lost w.tale.aborted (w.tale.finished && not (is_update s.ops)) refl refl refl (subst Q w.told w.unsettled))
 
@@ -84,7 +84,7 @@ all-told d h one run =
     (λ past acts event all. event.answered)
     h one run
 
-collects-update : (d : DocumentData) (past : List Act) (s : ScriptData) (w : OpenTold d past s) → AllTold d past → script_of s.number d.scripts ≡ Some s → waiting s.ops w.tale.values ≡ None → is_update s.ops ≡ true
+collects-update : (d : DocumentData) (past : List Act) (s : ScriptData) (w : OpenTold d past s) → AllTold d past → script_of s.number d.scripts ≡ Some s → waiting s.ops w.tale.progress.values ≡ None → is_update s.ops ≡ true
 collects-update d past s w told is full = go (is_update s.ops) refl
   where
     Q : Option Story → Type 0
@@ -93,7 +93,7 @@ collects-update d past s w told is full = go (is_update s.ops) refl
     T : Option Story → Type 0
     T = λ o. is_told s o ≡ true
 
-    here : (is_some (waiting s.ops w.tale.values) || (is_update s.ops || w.tale.finished)) ≡ true
+    here : (is_some (waiting s.ops w.tale.progress.values) || (is_update s.ops || w.tale.finished)) ≡ true
     here = subst T w.told (told s.number s is)
 
     open_still : ((w.tale.lost || (w.tale.aborted || (w.tale.finished && not (is_update s.ops)))) || is_some (decision s.number (journal d past s.home))) ≡ false
@@ -108,7 +108,7 @@ collects-update d past s w told is full = go (is_update s.ops) refl
     go : (b : Bool) → is_update s.ops ≡ b → b ≡ true
     go true e = refl
     go false e =
-        let A : Bool → Type 0 = λ u. (is_some (waiting s.ops w.tale.values) || (u || w.tale.finished)) ≡ true in
+        let A : Bool → Type 0 = λ u. (is_some (waiting s.ops w.tale.progress.values) || (u || w.tale.finished)) ≡ true in
         let B : Option ℕ → Type 0 = λ o. (is_some o || (false || w.tale.finished)) ≡ true in
         let C : Bool → Type 0 = λ u. ((w.tale.lost || (w.tale.aborted || (w.tale.finished && not u))) || is_some (decision s.number (journal d past s.home))) ≡ false in
         absurd (not-both w.tale.lost w.tale.aborted w.tale.finished (is_some (decision s.number (journal d past s.home))) (subst B full (subst A e here)) (subst C e open_still))
@@ -132,7 +132,7 @@ homed true b c go h = refl
 homed false b c go h = go h
 
 -- where the home is up: the vote that it waits for
-pub waits-vote : (d : DocumentData) (h : List Act) (s : ScriptData) → IsOne d → IsRun d d.items h → script_of s.number d.scripts ≡ Some s → ((n : NodeId) → ended s.number (journal d (after [] h) n) ≡ None) → (node d (after [] h) s.home).up ≡ true → (w : OpenTold d (after [] h) s) → waiting s.ops w.tale.values ≡ None → WaitsForVote d (after [] h) s.number
+pub waits-vote : (d : DocumentData) (h : List Act) (s : ScriptData) → IsOne d → IsRun d d.items h → script_of s.number d.scripts ≡ Some s → ((n : NodeId) → ended s.number (journal d (after [] h) n) ≡ None) → (node d (after [] h) s.home).up ≡ true → (w : OpenTold d (after [] h) s) → waiting s.ops w.tale.progress.values ≡ None → WaitsForVote d (after [] h) s.number
 waits-vote d h s one run is unended up w full =
     record {
       part = part.0;
@@ -148,20 +148,20 @@ waits-vote d h s one run is unended up w full =
     due : AllDue d past
     due = due-run d d.items h run
 
-    not_all : have_voted (parts_of d s) w.tale.votes ≡ false
+    not_all : have_voted (parts_of d s) w.tale.progress.votes ≡ false
     not_all = elim (never-full d h one run s is) [
       | inl settled ↦ absurd (not-both (sym w.unsettled ∙ settled))
       | inr unvoted ↦
           let U : Option Story → Type 0 = λ o. is_unvoted d s o ≡ true in
-          let W : Option ℕ → Type 0 = λ o. (if is_some o then is_none_voted w.tale.votes else not (have_voted (parts_of d s) w.tale.votes)) ≡ true in
-          not-true (have_voted (parts_of d s) w.tale.votes) (subst W full (subst U w.told unvoted))
+          let W : Option ℕ → Type 0 = λ o. (if is_some o then is_none_voted w.tale.progress.votes else not (have_voted (parts_of d s) w.tale.progress.votes)) ≡ true in
+          not-true (have_voted (parts_of d s) w.tale.progress.votes) (subst W full (subst U w.told unvoted))
     ]
       where
         not-both : false ≡ true → ⊥
         not-both e = cc
 
-    part : (n : NodeId) × (is_among n (parts_of d s) ≡ true) × (has_voted n w.tale.votes ≡ false)
-    part = unvoted-part (parts_of d s) w.tale.votes not_all
+    part : (n : NodeId) × (is_among n (parts_of d s) ≡ true) × (has_voted n w.tale.progress.votes ≡ false)
+    part = unvoted-part (parts_of d s) w.tale.progress.votes not_all
 
     update : is_update s.ops ≡ true
     update = collects-update d past s w (all-told d h one run) is full

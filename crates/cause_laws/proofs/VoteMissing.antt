@@ -11,7 +11,7 @@ use Rattle.grid_model.specs.Documents.{DocumentData, IsOne}
 use Rattle.grid_model.specs.Histories.{after, sent, sent_at}
 use Rattle.grid_model.specs.Nodes.{Node, got, node, parts_of, script_of}
 use Rattle.grid_model.specs.Runs.{IsRun}
-use Rattle.grid_model.specs.Stories.{Phase, heard, heard_at, if_told, is_counted_ack, is_counted_vote, phase_at, story, with_ack, with_vote}
+use Rattle.grid_model.specs.Stories.{Phase, heard, heard_at, if_told, is_counted_ack, is_counted_vote, phase_at, story, with_ack, with_vote, progressed}
 use Rattle.grid_model.specs.declared.acts.Act.TheVariants as act
 use Rattle.grid_model.specs.declared.acts.Act.{Act}
 use Rattle.grid_model.specs.declared.messages.Envelope.{Envelope}
@@ -28,20 +28,16 @@ use Rattle.std.specs.Prelude.{if◌then◌else◌, ◌&&◌, ◌==◌}
 
 -- ---- any other message
 
-acked-unvoted : (d : DocumentData) (s : ScriptData) (n : NodeId) (y : Story) (b : Bool) → is_unvoted d s (Some y) ≡ true → is_unvoted d s (Some (if b then y else record y { acks = y.acks ++ n ∷ [] })) ≡ true
-acked-unvoted d s n y true h = h
-acked-unvoted d s n y false h = h
-
 heard-unvoted : (d : DocumentData) (s : ScriptData) (ns : List NodeId) (p : Phase) (h : Node) (x : NodeId) (said : Message) (o : Option Story) → is_vote_of s.number said ≡ false → is_unvoted d s o ≡ true → is_unvoted d s (heard ns p h s.number x said o) ≡ true
 heard-unvoted d s ns p h x (message.Vote u (ballot.Yes q)) o none k =
-    let P : Bool → Type 0 = λ b. is_unvoted d s (if_told (b && is_counted_vote ns p h.journal h.next x q) (with_vote x q) o) ≡ true in
+    let P : Bool → Type 0 = λ b. is_unvoted d s (if_told (b && is_counted_vote ns p h.journal h.next x q) (progressed (with_vote x q)) o) ≡ true in
     subst P (sym none) (stays o k)
   where
-    stays : (o : Option Story) → is_unvoted d s o ≡ true → is_unvoted d s (if_told false (with_vote x q) o) ≡ true
+    stays : (o : Option Story) → is_unvoted d s o ≡ true → is_unvoted d s (if_told false (progressed (with_vote x q)) o) ≡ true
     stays None h = h
     stays (Some y) h = h
 heard-unvoted d s ns p h x (message.Vote u (ballot.No why)) o none k = k
-heard-unvoted d s ns p h x (message.Ack u) o none k = if-unvoted d s ((u == s.number) && is_counted_ack ns p h.journal h.next x) (with_ack x) o (λ e y i j. acked-unvoted d s x y (is_among x y.acks) j) k
+heard-unvoted d s ns p h x (message.Ack u) o none k = if-unvoted d s ((u == s.number) && is_counted_ack ns p h.journal h.next x) (with_ack x) o (λ e y i j. j) k
 heard-unvoted d s ns p h x (message.ReadReq q) o none k = k
 heard-unvoted d s ns p h x (message.ReadRep q) o none k = k
 heard-unvoted d s ns p h x (message.Prepare q) o none k = k

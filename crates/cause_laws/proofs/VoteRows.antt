@@ -14,7 +14,7 @@ use Rattle.grid_model.specs.Histories.{sent, sent_at}
 use Rattle.grid_model.specs.Nodes.{got, journal, node, parts_of, script_of}
 use Rattle.grid_model.specs.Rows.{answer, ballot_row, decides, full_row, greatest_vote, have_voted, tells, vote_row}
 use Rattle.grid_model.specs.Schedules.{kept, next_number, numbered}
-use Rattle.grid_model.specs.Stories.{Collecting, has_voted, heard_at, if_told, is_counted_vote, is_fit_ballot, is_open, is_small_node, phase_at, story, told, with_vote}
+use Rattle.grid_model.specs.Stories.{Collecting, has_voted, heard_at, if_told, is_counted_vote, is_fit_ballot, is_open, is_small_node, phase_at, story, told, with_vote, progressed}
 use Rattle.script_runs.specs.Waits.{waiting}
 use Rattle.grid_model.specs.Views.{Collects, Stage, View, open_of, open_stage, stage, view, participant}
 use Rattle.grid_model.specs.declared.acts.Act.TheVariants as act
@@ -89,11 +89,11 @@ vote-full d past m x y t b due is = sent-hold (VotesFull d) d past (λ now a n k
 pub data VoteResult (d : DocumentData) (past : List Act) (m : ℕ) (n x : NodeId) (s : ScriptData) (rest : List Act) : Type 0 where
   known_vote : rest ≡ [] → is_voted_in x (story d past s.number) ≡ true → story d (act.Got m ∷ past) s.number ≡ story d past s.number → VoteResult d past m n x s rest
   refused_by : (why : Cause) (more : List Act) → rest ≡ act.Aborted s.number x why ∷ more → VoteResult d past m n x s rest
-  counted_vote : (y : Story) → rest ≡ [] → story d (act.Got m ∷ past) s.number ≡ Some y → has_voted x y.votes ≡ true → have_voted (parts_of d s) y.votes ≡ false → waiting s.ops y.values ≡ None → VoteResult d past m n x s rest
+  counted_vote : (y : Story) → rest ≡ [] → story d (act.Got m ∷ past) s.number ≡ Some y → has_voted x y.progress.votes ≡ true → have_voted (parts_of d s) y.progress.votes ≡ false → waiting s.ops y.progress.values ≡ None → VoteResult d past m n x s rest
   decides_now : (f : Ident) (more : List Act) → rest ≡ act.Decided s.number f ∷ more → VoteResult d past m n x s rest
   stops_now : (f : Ident) → rest ≡ act.Down n (Some (head.Decided s.number f)) ∷ [] → VoteResult d past m n x s rest
 
-heard-known : (d : DocumentData) (past : List Act) (s : ScriptData) (x n : NodeId) (t : TxId) (b : Ballot) (y : Story) → has_voted x y.votes ≡ true → heard_at d past (Some s) (Some (record { from = x; to = n; message = message.Vote t b })) (Some y) ≡ Some y
+heard-known : (d : DocumentData) (past : List Act) (s : ScriptData) (x n : NodeId) (t : TxId) (b : Ballot) (y : Story) → has_voted x y.progress.votes ≡ true → heard_at d past (Some s) (Some (record { from = x; to = n; message = message.Vote t b })) (Some y) ≡ Some y
 heard-known d past s x n t (ballot.No why) y h = go (n == s.home)
   where
     go : (b : Bool) → (if b then Some y else Some y) ≡ Some y
@@ -101,16 +101,20 @@ heard-known d past s x n t (ballot.No why) y h = go (n == s.home)
     go false = refl
 heard-known d past s x n t (ballot.Yes p) y h = go (n == s.home) ((t == s.number) && is_counted_vote (parts_of d s) (phase_at s (Some y) (node d past s.home)) (journal d past s.home) (node d past s.home).next x p)
   where
-    go : (b c : Bool) → (if b then if_told c (with_vote x p) (Some y) else Some y) ≡ Some y
+    go : (b c : Bool) → (if b then if_told c (progressed (with_vote x p)) (Some y) else Some y) ≡ Some y
     go true true = rw h refl
     go true false = refl
     go false c = refl
 
-heard-new : (d : DocumentData) (past : List Act) (n : NodeId) (s : ScriptData) (st : Story) (x : NodeId) (p : Ident) → s.home ≡ n → phase_at s (Some st) (node d past n) ≡ Collecting → is_small_node (node d past n).journal (node d past n).next ≡ true → is_fit_ballot (ballot.Yes p) ≡ true → is_among x (parts_of d s) ≡ true → has_voted x st.votes ≡ false → heard_at d past (Some s) (Some (record { from = x; to = n; message = message.Vote s.number (ballot.Yes p) })) (Some st) ≡ Some (record st { votes = st.votes ++ record { from = x; p = p } ∷ [] })
+-- a yes of x more
+abbrev with_yes : NodeId → Ident → Story → Story
+with_yes x p = progressed (λ z. record z { votes = z.votes ++ record { from = x; p = p } ∷ [] })
+
+heard-new : (d : DocumentData) (past : List Act) (n : NodeId) (s : ScriptData) (st : Story) (x : NodeId) (p : Ident) → s.home ≡ n → phase_at s (Some st) (node d past n) ≡ Collecting → is_small_node (node d past n).journal (node d past n).next ≡ true → is_fit_ballot (ballot.Yes p) ≡ true → is_among x (parts_of d s) ≡ true → has_voted x st.progress.votes ≡ false → heard_at d past (Some s) (Some (record { from = x; to = n; message = message.Vote s.number (ballot.Yes p) })) (Some st) ≡ Some (with_yes x p st)
 heard-new d past n s st x p home gathers small fit part new =
     rw (home, same-number n, gathers, small, fit, part, same-number s.number, new) refl
 
-phase-collecting : (d : DocumentData) (past : List Act) (n : NodeId) (s : ScriptData) (x : Story) → is_open (phase_at s (Some x) (node d past n)) ≡ true → waiting s.ops x.values ≡ None → phase_at s (Some x) (node d past n) ≡ Collecting
+phase-collecting : (d : DocumentData) (past : List Act) (n : NodeId) (s : ScriptData) (x : Story) → is_open (phase_at s (Some x) (node d past n)) ≡ true → waiting s.ops x.progress.values ≡ None → phase_at s (Some x) (node d past n) ≡ Collecting
 phase-collecting d past n s x unended full = grind (arith, unended, full)
 
 kept-none : (m : ℕ) (n : NodeId) (b : Bool) → numbered m n (kept b n []) ≡ []
@@ -124,8 +128,8 @@ kept-aborted m n false t x why os = refl
 voted-last : (x : NodeId) (p : Ident) (vs : List Voted) → has_voted x (vs ++ record { from = x; p = p } ∷ []) ≡ true
 voted-last x p vs = list_any-append (λ (v : Voted). v.from == x) vs (record { from = x; p = p } ∷ []) ∙ or_right (has_voted x vs) (has_voted x (record { from = x; p = p } ∷ [])) (or_left (x == x) false (same-number x))
 
-vote-counts : (d : DocumentData) (past : List Act) (m : ℕ) (n x : NodeId) (b : Bool) (s : ScriptData) (p : Ident) (y : Story) (rest : List Act) → script_of s.number d.scripts ≡ Some s → s.home ≡ n → sent_at m (sent past) ≡ Some (record { from = x; to = n; message = message.Vote s.number (ballot.Yes p) }) → story d past s.number ≡ Some y → is_settled d past s ≡ false → waiting s.ops y.values ≡ None → is_small_node (journal d past n) (node d past n).next ≡ true → is_fit_ballot (ballot.Yes p) ≡ true → is_among x (parts_of d s) ≡ true → has_voted x y.votes ≡ false → rest ≡ numbered (next_number past) n (kept b n (full_row s.number (parts_of d s) (y.votes ++ record { from = x; p = p } ∷ []))) → VoteResult d past m n x s rest
-vote-counts d past m n x b s p y rest is home got told unsettled full small fit part new r = go (have_voted (parts_of d s) (y.votes ++ record { from = x; p = p } ∷ [])) refl b r
+vote-counts : (d : DocumentData) (past : List Act) (m : ℕ) (n x : NodeId) (b : Bool) (s : ScriptData) (p : Ident) (y : Story) (rest : List Act) → script_of s.number d.scripts ≡ Some s → s.home ≡ n → sent_at m (sent past) ≡ Some (record { from = x; to = n; message = message.Vote s.number (ballot.Yes p) }) → story d past s.number ≡ Some y → is_settled d past s ≡ false → waiting s.ops y.progress.values ≡ None → is_small_node (journal d past n) (node d past n).next ≡ true → is_fit_ballot (ballot.Yes p) ≡ true → is_among x (parts_of d s) ≡ true → has_voted x y.progress.votes ≡ false → rest ≡ numbered (next_number past) n (kept b n (full_row s.number (parts_of d s) (y.progress.votes ++ record { from = x; p = p } ∷ []))) → VoteResult d past m n x s rest
+vote-counts d past m n x b s p y rest is home got told unsettled full small fit part new r = go (have_voted (parts_of d s) (y.progress.votes ++ record { from = x; p = p } ∷ [])) refl b r
   where
     P : NodeId → Type 0
     P = λ k. is_open (phase_at s (Some y) (node d past k)) ≡ true
@@ -136,23 +140,23 @@ vote-counts d past m n x b s p y rest is home got told unsettled full small fit 
     unended : is_open (phase_at s (Some y) (node d past n)) ≡ true
     unended = subst P home (subst Q told (unsettled-open d past s y told unsettled))
 
-    counted : story d (act.Got m ∷ past) s.number ≡ Some (record y { votes = y.votes ++ record { from = x; p = p } ∷ [] })
+    counted : story d (act.Got m ∷ past) s.number ≡ Some (with_yes x p y)
     counted = rw (got, is, told) (heard-new d past n s y x p home (phase-collecting d past n s y unended full) small fit part new)
 
     f : Ident
-    f = greatest_vote (y.votes ++ record { from = x; p = p } ∷ [])
+    f = greatest_vote (y.progress.votes ++ record { from = x; p = p } ∷ [])
 
     os : List Out
     os = decides s.number f (parts_of d s)
 
-    go : (c : Bool) → have_voted (parts_of d s) (y.votes ++ record { from = x; p = p } ∷ []) ≡ c → (b : Bool) → rest ≡ numbered (next_number past) n (kept b n (if c then os else [])) → VoteResult d past m n x s rest
-    go false e b r = counted_vote (record y { votes = y.votes ++ record { from = x; p = p } ∷ [] }) (r ∙ kept-none (next_number past) n b) counted (voted-last x p y.votes) e full
+    go : (c : Bool) → have_voted (parts_of d s) (y.progress.votes ++ record { from = x; p = p } ∷ []) ≡ c → (b : Bool) → rest ≡ numbered (next_number past) n (kept b n (if c then os else [])) → VoteResult d past m n x s rest
+    go false e b r = counted_vote (with_yes x p y) (r ∙ kept-none (next_number past) n b) counted (voted-last x p y.progress.votes) e full
     go true e true r = decides_now f (numbered (next_number past) n (out.Act (act.Finished s.number) ∷ tells s.number (outcome.Commit f) (parts_of d s))) r
     go true e false r = stops_now f r
 
 -- what the home of an open transaction that has all values does
-pub vote-result : (d : DocumentData) (past : List Act) (m : ℕ) (n x : NodeId) (b : Bool) (s : ScriptData) (a : Ballot) (y : Story) (rest : List Act) → script_of s.number d.scripts ≡ Some s → s.home ≡ n → sent_at m (sent past) ≡ Some (record { from = x; to = n; message = message.Vote s.number a }) → is_fit n (view d past n) x (message.Vote s.number a) ≡ true → rest ≡ numbered (next_number past) n (kept b n (answer n (view d past n) x (message.Vote s.number a))) → story d past s.number ≡ Some y → is_settled d past s ≡ false → waiting s.ops y.values ≡ None → VoteResult d past m n x s rest
-vote-result d past m n x b s a y rest is home got fit r told unsettled full = go (has_voted x y.votes) refl
+pub vote-result : (d : DocumentData) (past : List Act) (m : ℕ) (n x : NodeId) (b : Bool) (s : ScriptData) (a : Ballot) (y : Story) (rest : List Act) → script_of s.number d.scripts ≡ Some s → s.home ≡ n → sent_at m (sent past) ≡ Some (record { from = x; to = n; message = message.Vote s.number a }) → is_fit n (view d past n) x (message.Vote s.number a) ≡ true → rest ≡ numbered (next_number past) n (kept b n (answer n (view d past n) x (message.Vote s.number a))) → story d past s.number ≡ Some y → is_settled d past s ≡ false → waiting s.ops y.progress.values ≡ None → VoteResult d past m n x s rest
+vote-result d past m n x b s a y rest is home got fit r told unsettled full = go (has_voted x y.progress.votes) refl
   where
     v : View
     v = view d past n
@@ -166,7 +170,7 @@ vote-result d past m n x b s a y rest is home got fit r told unsettled full = go
     Acts : List Out → Type 0
     Acts = λ os. rest ≡ numbered (next_number past) n (kept b n os)
 
-    here : Acts (if has_voted x y.votes then [] else ballot_row s.number (parts_of d s) y.votes x a)
+    here : Acts (if has_voted x y.progress.votes then [] else ballot_row s.number (parts_of d s) y.progress.votes x a)
     here = subst Acts row r
 
     same : story d (act.Got m ∷ past) s.number ≡ heard_at d past (Some s) (Some (record { from = x; to = n; message = message.Vote s.number a })) (Some y)
@@ -181,15 +185,15 @@ vote-result d past m n x b s a y rest is home got fit r told unsettled full = go
     both : (is_fit_ballot a ≡ true) × (is_among x (parts_of d s) ≡ true)
     both = and_parts (is_fit_ballot a) (is_among x (parts_of d s)) (and_parts (is_small_node (journal d past n) (node d past n).next) (is_fit_ballot a && is_among x (parts_of d s)) fits).1
 
-    by : (a : Ballot) → sent_at m (sent past) ≡ Some (record { from = x; to = n; message = message.Vote s.number a }) → is_fit_ballot a ≡ true → has_voted x y.votes ≡ false → rest ≡ numbered (next_number past) n (kept b n (ballot_row s.number (parts_of d s) y.votes x a)) → VoteResult d past m n x s rest
+    by : (a : Ballot) → sent_at m (sent past) ≡ Some (record { from = x; to = n; message = message.Vote s.number a }) → is_fit_ballot a ≡ true → has_voted x y.progress.votes ≡ false → rest ≡ numbered (next_number past) n (kept b n (ballot_row s.number (parts_of d s) y.progress.votes x a)) → VoteResult d past m n x s rest
     by (ballot.No why) got fb new k = refused_by why (numbered (next_number past) n (kept b n (tells s.number outcome.Abort (others x (parts_of d s))))) (k ∙ kept-aborted (next_number past) n b s.number x why (tells s.number outcome.Abort (others x (parts_of d s))))
     by (ballot.Yes p) got fb new k = vote-counts d past m n x b s p y rest is home got told unsettled full small fb both.1 new k
 
-    go : (c : Bool) → has_voted x y.votes ≡ c → VoteResult d past m n x s rest
+    go : (c : Bool) → has_voted x y.progress.votes ≡ c → VoteResult d past m n x s rest
     go true e =
-        let P : Bool → Type 0 = λ c. Acts (if c then [] else ballot_row s.number (parts_of d s) y.votes x a) in
+        let P : Bool → Type 0 = λ c. Acts (if c then [] else ballot_row s.number (parts_of d s) y.progress.votes x a) in
         let Q : Option Story → Type 0 = λ o. is_voted_in x o ≡ true in
         known_vote (subst P e here ∙ kept-none (next_number past) n b) (subst Q (sym told) e) (same ∙ heard-known d past s x n s.number a y e ∙ sym told)
     go false e =
-        let P : Bool → Type 0 = λ c. Acts (if c then [] else ballot_row s.number (parts_of d s) y.votes x a) in
+        let P : Bool → Type 0 = λ c. Acts (if c then [] else ballot_row s.number (parts_of d s) y.progress.votes x a) in
         by a got both.0 e (subst P e here)

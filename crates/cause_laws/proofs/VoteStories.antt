@@ -9,7 +9,7 @@ use Rattle.grid_model.specs.Documents.{DocumentData}
 use Rattle.grid_model.specs.Histories.{after, sent, sent_at}
 use Rattle.grid_model.specs.Nodes.{Node, Starts, Stays, Stops, changed, doubt_of, got, is_home, is_home_in, is_kept, node, parts_of, script_of, where_at}
 use Rattle.grid_model.specs.Rows.{have_voted}
-use Rattle.grid_model.specs.Stories.{asked, begun, has_voted, if_told, story, told, with_request, with_value, without_answers}
+use Rattle.grid_model.specs.Stories.{asked, begun, has_voted, if_told, story, told, with_request, with_value, without_answers, progressed}
 use Rattle.script_runs.specs.Waits.{waiting}
 use Rattle.grid_model.specs.declared.acts.Act.TheVariants as act
 use Rattle.grid_model.specs.declared.acts.Act.{Act}
@@ -37,18 +37,14 @@ use Rattle.std.specs.Prelude.{if◌then◌else◌, is_some, not, ◌==◌}
 -- the votes of this story have one of n
 abbrev pub is_voted_in : NodeId → Option Story → Bool
 is_voted_in n None = false
-is_voted_in n (Some x) = has_voted n x.votes
+is_voted_in n (Some x) = has_voted n x.progress.votes
 
-vote-voted : (n k : NodeId) (q : Ident) (y : Story) (b : Bool) → has_voted n y.votes ≡ true → has_voted n (if b then y else record y { votes = y.votes ++ record { from = k; p = q } ∷ [] }).votes ≡ true
-vote-voted n k q y true h = h
-vote-voted n k q y false h = list_any-append (λ (v : Voted). v.from == n) y.votes (record { from = k; p = q } ∷ []) ∙ or_left (has_voted n y.votes) (has_voted n (record { from = k; p = q } ∷ [])) h
-
-ack-voted : (n k : NodeId) (y : Story) (b : Bool) → has_voted n y.votes ≡ true → has_voted n (if b then y else record y { acks = y.acks ++ k ∷ [] }).votes ≡ true
-ack-voted n k y true h = h
-ack-voted n k y false h = h
+vote-voted : (n k : NodeId) (q : Ident) (vs : List Voted) (b : Bool) → has_voted n vs ≡ true → has_voted n (if b then vs else vs ++ record { from = k; p = q } ∷ []) ≡ true
+vote-voted n k q vs true h = h
+vote-voted n k q vs false h = list_any-append (λ (v : Voted). v.from == n) vs (record { from = k; p = q } ∷ []) ∙ or_left (has_voted n vs) (has_voted n (record { from = k; p = q } ∷ [])) h
 
 heard-voted : (n : NodeId) → KeepsHeard (is_voted_in n)
-heard-voted n = record { vote = λ k q y i. vote-voted n k q y (has_voted k y.votes) i; ack = λ k y i. ack-voted n k y (is_among k y.acks) i }
+heard-voted n = record { vote = λ k q y i. vote-voted n k q y.progress.votes (has_voted k y.progress.votes) i; ack = λ k y i. i }
 
 asked-voted : (n : NodeId) (d : DocumentData) (t : TxId) (said : Message) (o : Option Story) → is_voted_in n o ≡ true → is_voted_in n (asked d t said o) ≡ true
 asked-voted n d t (message.ReadReq q) o k = if-kept (is_voted_in n) (q.t == t) _ o (λ y i. i) k
@@ -143,10 +139,10 @@ is_none_voted (v ∷ vs) = false
 -- no vote is counted while reads are left, and then not those of all parts
 abbrev pub is_unvoted : DocumentData → ScriptData → Option Story → Bool
 is_unvoted d s None = true
-is_unvoted d s (Some x) = if is_some (waiting s.ops x.values) then is_none_voted x.votes else not (have_voted (parts_of d s) x.votes)
+is_unvoted d s (Some x) = if is_some (waiting s.ops x.progress.values) then is_none_voted x.progress.votes else not (have_voted (parts_of d s) x.progress.votes)
 
-pub none-unvoted : (d : DocumentData) (s : ScriptData) (x : Story) → have_voted (parts_of d s) [] ≡ false → x.votes ≡ [] → is_unvoted d s (Some x) ≡ true
-none-unvoted d s x some e = go (is_some (waiting s.ops x.values))
+pub none-unvoted : (d : DocumentData) (s : ScriptData) (x : Story) → have_voted (parts_of d s) [] ≡ false → x.progress.votes ≡ [] → is_unvoted d s (Some x) ≡ true
+none-unvoted d s x some e = go (is_some (waiting s.ops x.progress.values))
   where
     P : List Voted → Type 0
     P = λ vs. not (have_voted (parts_of d s) vs) ≡ true
@@ -154,7 +150,7 @@ none-unvoted d s x some e = go (is_some (waiting s.ops x.values))
     Q : List Voted → Type 0
     Q = λ vs. is_none_voted vs ≡ true
 
-    go : (b : Bool) → (if b then is_none_voted x.votes else not (have_voted (parts_of d s) x.votes)) ≡ true
+    go : (b : Bool) → (if b then is_none_voted x.progress.votes else not (have_voted (parts_of d s) x.progress.votes)) ≡ true
     go true = subst Q (sym e) refl
     go false = subst P (sym e) (rw some refl)
 
@@ -164,7 +160,7 @@ if-unvoted d s true f (Some x) go h = go refl x refl h
 if-unvoted d s false f (Some x) go h = h
 
 asked-unvoted : (d : DocumentData) (s : ScriptData) (t : TxId) (said : Message) (o : Option Story) → is_unvoted d s o ≡ true → is_unvoted d s (asked d t said o) ≡ true
-asked-unvoted d s t (message.ReadReq q) o k = if-unvoted d s (q.t == t) (with_request (length (holders d.cluster.places q.key))) o (λ e x i h. h) k
+asked-unvoted d s t (message.ReadReq q) o k = if-unvoted d s (q.t == t) (progressed (with_request (length (holders d.cluster.places q.key)))) o (λ e x i h. h) k
 asked-unvoted d s t said o k = k
 
 began-unvoted : (d : DocumentData) (s : ScriptData) (b : Bool) (sid0 : Ident) (o : Option Story) → have_voted (parts_of d s) [] ≡ false → is_unvoted d s o ≡ true → is_unvoted d s (if b then Some (begun sid0) else o) ≡ true
@@ -175,23 +171,23 @@ none-voted : (vs : List Voted) → is_none_voted vs ≡ true → vs ≡ []
 none-voted [] h = refl
 none-voted (v ∷ vs) h = cc
 
-taken-unvoted : (d : DocumentData) (past : List Act) (s : ScriptData) (u : TxId) (op : ℕ) (sid : Ident) (v : Value) (x : Story) → script_of s.number d.scripts ≡ Some s → have_voted (parts_of d s) [] ≡ false → TakenDue d past u op sid v → (u == s.number) ≡ true → story d past s.number ≡ Some x → is_unvoted d s (Some x) ≡ true → is_unvoted d s (Some (with_value op sid v x)) ≡ true
+taken-unvoted : (d : DocumentData) (past : List Act) (s : ScriptData) (u : TxId) (op : ℕ) (sid : Ident) (v : Value) (x : Story) → script_of s.number d.scripts ≡ Some s → have_voted (parts_of d s) [] ≡ false → TakenDue d past u op sid v → (u == s.number) ≡ true → story d past s.number ≡ Some x → is_unvoted d s (Some x) ≡ true → is_unvoted d s (Some (progressed (with_value op sid v) x)) ≡ true
 taken-unvoted d past s u op sid v x is some due e told h =
     let same : u ≡ s.number = grind (arith, nat_tests, e) in
     let P : TxId → Type 0 = λ w. script_of w d.scripts ≡ Some due.script in
     let Q : TxId → Type 0 = λ w. story d past w ≡ Some due.story in
     let script : due.script ≡ s = (let f : Some due.script ≡ Some s = sym (subst P same due.at.script) ∙ is in cc) in
     let tale : due.story ≡ x = (let f : Some due.story ≡ Some x = sym (subst Q same due.at.story) ∙ told in cc) in
-    let reads : waiting s.ops x.values ≡ Some op = ap (λ (z : ScriptData). waiting z.ops x.values) (sym script) ∙ ap (λ (z : Story). waiting due.script.ops z.values) (sym tale) ∙ due.reads in
-    let R : Option ℕ → Type 0 = λ w. (if is_some w then is_none_voted x.votes else not (have_voted (parts_of d s) x.votes)) ≡ true in
-    none-unvoted d s (with_value op sid v x) some (none-voted x.votes (subst R reads h))
+    let reads : waiting s.ops x.progress.values ≡ Some op = ap (λ (z : ScriptData). waiting z.ops x.progress.values) (sym script) ∙ ap (λ (z : Story). waiting due.script.ops z.progress.values) (sym tale) ∙ due.reads in
+    let R : Option ℕ → Type 0 = λ w. (if is_some w then is_none_voted x.progress.votes else not (have_voted (parts_of d s) x.progress.votes)) ≡ true in
+    none-unvoted d s (progressed (with_value op sid v) x) some (none-voted x.progress.votes (subst R reads h))
 
 -- an act that gets no message
 unvoted-more : (d : DocumentData) (past : List Act) (a : Act) (s : ScriptData) → script_of s.number d.scripts ≡ Some s → have_voted (parts_of d s) [] ≡ false → is_ungot a ≡ true → IsDue d past a → is_unvoted d s (story d past s.number) ≡ true → is_unvoted d s (story d (a ∷ past) s.number) ≡ true
 unvoted-more d past (act.Got m) s is some u due k = cc
 unvoted-more d past (act.Began v m sid0) s is some u due k = began-unvoted d s (v == s.number) sid0 (story d past s.number) some k
 unvoted-more d past (act.Sent m x y said) s is some u due k = asked-unvoted d s s.number said (story d past s.number) k
-unvoted-more d past (act.Taken v op sid w) s is some u due k = if-unvoted d s (v == s.number) (with_value op sid w) (story d past s.number) (λ e x told h. taken-unvoted d past s v op sid w x is some due e told h) k
+unvoted-more d past (act.Taken v op sid w) s is some u due k = if-unvoted d s (v == s.number) (progressed (with_value op sid w)) (story d past s.number) (λ e x told h. taken-unvoted d past s v op sid w x is some due e told h) k
 unvoted-more d past (act.Finished v) s is some u due k = if-unvoted d s (v == s.number) (λ x. record x { finished = true }) (story d past s.number) (λ e x i h. h) k
 unvoted-more d past (act.Aborted v m why) s is some u due k = if-unvoted d s (v == s.number) (λ x. record x { aborted = true }) (story d past s.number) (λ e x i h. h) k
 unvoted-more d past (act.Lost v) s is some u due k = if-unvoted d s (v == s.number) (λ x. record x { lost = true }) (story d past s.number) (λ e x i h. h) k

@@ -77,14 +77,14 @@ silent d past f t ys xs s k sid r at dec reads snap g u member lt = go (script_o
     go (Some v) is = none v (is_key_among k (written_keys [] v.ops)) is refl
 
 -- each of its values is that which those before it wrote last
-takes-of : (d : DocumentData) (past : List Act) (f : Ident) (t : TxId) (ys xs : List (Ident × TxId)) (s : ScriptData) → Rests d past → order d past ≡ ys ++ (f, t) ∷ xs → IsDecided d past t f → script_of t d.scripts ≡ Some s → (x : Story) → story d past t ≡ Some x → AreOfKeys (last_map d (values_in d past) xs) x.values s.ops
+takes-of : (d : DocumentData) (past : List Act) (f : Ident) (t : TxId) (ys xs : List (Ident × TxId)) (s : ScriptData) → Rests d past → order d past ≡ ys ++ (f, t) ∷ xs → IsDecided d past t f → script_of t d.scripts ≡ Some s → (x : Story) → story d past t ≡ Some x → AreOfKeys (last_map d (values_in d past) xs) x.progress.values s.ops
 takes-of d past f t ys xs s r at dec is x told j k v named e =
     let w = taken-served d past t x j v r.due told e in
     let sid : Ident = w.0 in
     let y : IsServed d past t j sid v = w.2 in
-    let snap : snapshot d past t ≡ sid = ap snapshot_in told ∙ ap (λ o. first_sid o x.sid0) w.1 in
+    let snap : snapshot d past t ≡ sid = ap snapshot_in told ∙ ap (λ o. first_sid o x.progress.sid0) w.1 in
     let in-order = story-order d past t s x r.due is told in
-    let remote : IsRemote 1 [] s.ops j = order-remote s.ops x.values in-order.0 j v in-order.1 e in
+    let remote : IsRemote 1 [] s.ops j = order-remote s.ops x.progress.values in-order.0 j v in-order.1 e in
     let key : remote.key ≡ k = some-same remote.key k (sym (ap op_key remote.read) ∙ named) in
     let same : y.key ≡ k = some-same y.key k (sym y.named ∙ ap (λ o. key_at o j) is ∙ named) in
     let fresh : snapshot d past t < f = (decisions-rest d past r.due false dec.0 t f dec.2).1.fresh in
@@ -104,7 +104,7 @@ pub record Decided (d : DocumentData) (past : List Act) (f : Ident) (t : TxId) :
   pub is : script_of t d.scripts ≡ Some script
   pub begun : Story
   pub told : story d past t ≡ Some begun
-  pub full : waiting script.ops begun.values ≡ None
+  pub full : waiting script.ops begun.progress.values ≡ None
   pub decided : IsDecided d past t f
 
 decided-by : (d : DocumentData) (past : List Act) (f : Ident) (t : TxId) → IsDecided d past t f → DecisionSays d past t f → Decided d past f t
@@ -123,11 +123,11 @@ takes d past f t ys xs r at =
     let w : Decided d past f t = decided-member d past f t ys xs r at in
     let s : ScriptData = w.script in
     let x : Story = w.begun in
-    let mine : values_in d past t ≡ x.values = ap story_values w.told in
-    let each : AreOfKeys (last_map d (values_in d past) xs) x.values s.ops = takes-of d past f t ys xs s r at w.decided w.is x w.told in
+    let mine : values_in d past t ≡ x.progress.values = ap story_values w.told in
+    let each : AreOfKeys (last_map d (values_in d past) xs) x.progress.values s.ops = takes-of d past f t ys xs s r at w.decided w.is x w.told in
     let P : List (ℕ × Value) → Type 0 = λ vs. AreOf (last_map d (values_in d past) xs) 1 vs s.ops in
     let Q : Option ScriptData → Type 0 = λ o. Takes o (values_in d past t) (last_map d (values_in d past) xs) in
-    subst Q (sym w.is) (ap (waiting s.ops) mine ∙ w.full, subst P (sym mine) (keys-of (last_map d (values_in d past) xs) x.values s.ops each))
+    subst Q (sym w.is) (ap (waiting s.ops) mine ∙ w.full, subst P (sym mine) (keys-of (last_map d (values_in d past) xs) x.progress.values s.ops each))
 
 -- ---- each of them
 

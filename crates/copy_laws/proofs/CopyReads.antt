@@ -64,25 +64,25 @@ update-shown d h run r later before x at =
     let mine : AllTake d (values_in d past) (x ∷ before) = take-rest d (values_in d past) later (x ∷ before) all in
     let reads = copy-reads d (values_in d past) x before w.script mine w.is in
     let P : Option Story → Type 0 = λ o. Says w.script (shown past x.1) o in
-    let by : shown past x.1 ≡ reads_by w.begun.values w.script.ops = subst P w.told (shown-reads d h run x.1 w.script w.is) in
-    let same : values_in d past x.1 ≡ w.begun.values = ap story_values w.told in
+    let by : shown past x.1 ≡ reads_by w.begun.progress.values w.script.ops = subst P w.told (shown-reads d h run x.1 w.script w.is) in
+    let same : values_in d past x.1 ≡ w.begun.progress.values = ap story_values w.told in
     let R : Option ScriptData → Type 0 = λ o. shown past x.1 ≡ script_reads o (copy_of d before) in
     subst R (sym w.is) (by ∙ ap (λ vs. reads_by vs w.script.ops) (sym same) ∙ sym reads)
 
 -- ---- read-only transactions
 
 -- a transaction with all its values was shown what it reads on the copy at its snapshot
-pub reader-shown : (d : DocumentData) (h : List Act) → IsRun d d.items h → Rests d (after [] h) → (s : ScriptData) (t : TxId) → script_of t d.scripts ≡ Some s → (x : Story) → story d (after [] h) t ≡ Some x → waiting s.ops x.values ≡ None → IsShown d (after [] h) t (copy d (after [] h) (snapshot d (after [] h) t))
-reader-shown d h run r s t is x told full = finished-shown d h run s t is x told full (copy d (after [] h) (snapshot d (after [] h) t)) (keys-of (copy d (after [] h) (snapshot d (after [] h) t)) x.values s.ops each)
+pub reader-shown : (d : DocumentData) (h : List Act) → IsRun d d.items h → Rests d (after [] h) → (s : ScriptData) (t : TxId) → script_of t d.scripts ≡ Some s → (x : Story) → story d (after [] h) t ≡ Some x → waiting s.ops x.progress.values ≡ None → IsShown d (after [] h) t (copy d (after [] h) (snapshot d (after [] h) t))
+reader-shown d h run r s t is x told full = finished-shown d h run s t is x told full (copy d (after [] h) (snapshot d (after [] h) t)) (keys-of (copy d (after [] h) (snapshot d (after [] h) t)) x.progress.values s.ops each)
   where
     some-same : (a b : Key) → Some a ≡ Some b → a ≡ b
     some-same a b h = cc
 
-    each : AreOfKeys (copy d (after [] h) (snapshot d (after [] h) t)) x.values s.ops
+    each : AreOfKeys (copy d (after [] h) (snapshot d (after [] h) t)) x.progress.values s.ops
     each j k v named e =
         let w = taken-served d (after [] h) t x j v r.due told e in
         let y : IsServed d (after [] h) t j w.0 v = w.2 in
-        let snap : snapshot d (after [] h) t ≡ w.0 = ap snapshot_in told ∙ ap (λ o. first_sid o x.sid0) w.1 in
+        let snap : snapshot d (after [] h) t ≡ w.0 = ap snapshot_in told ∙ ap (λ o. first_sid o x.progress.sid0) w.1 in
         let same : y.key ≡ k = some-same y.key k (sym y.named ∙ ap (λ o. key_at o j) is ∙ named) in
         served-copy d (after [] h) t j w.0 v r y ∙ ap (copy d (after [] h) w.0) same ∙ ap (λ i. copy d (after [] h) i k) (sym snap)
 

@@ -24,7 +24,7 @@ pub record Rests (d : DocumentData) (past : List Act) : Type 0 where
 -- the values that a story took
 abbrev pub story_values : Option Story → List (ℕ × Value)
 story_values None = []
-story_values (Some x) = x.values
+story_values (Some x) = x.progress.values
 
 -- the values that t took so far
 abbrev pub values_in : DocumentData → List Act → TxId → List (ℕ × Value)

@@ -118,16 +118,16 @@ served-step d past t op sid v o values same now h j w e = elim (last-taken j op 
 
 of-weaker : (P Q : Option Ident → List (ℕ × Value) → Type 0) (o : Option Story) → ((s : Option Ident) (values : List (ℕ × Value)) → P s values → Q s values) → OfStory (Unit {0}) P o → OfStory (Unit {0}) Q o
 of-weaker P Q None go h = tt
-of-weaker P Q (Some x) go h = go x.sid x.values h
+of-weaker P Q (Some x) go h = go x.progress.sid x.progress.values h
 
 stories-served : (d : DocumentData) (past : List Act) (t : TxId) → AllDue d past → OfStory (Unit {0}) (AreServed d past t) (story d past t)
 stories-served d [] t due = tt
 stories-served d (a ∷ past) t due =
     of-more (Unit {0}) (AreServed d (a ∷ past) t) d past a t (λ n j v e. cc)
-    (λ op sid v w h. served-step d (a ∷ past) t op sid v w.story.sid w.story.values w.same (served-more d past a t op sid v (taken-due d past t op sid v due.1 w)) h)
+    (λ op sid v w h. served-step d (a ∷ past) t op sid v w.story.progress.sid w.story.progress.values w.same (served-more d past a t op sid v (taken-due d past t op sid v due.1 w)) h)
     due
     (of-weaker (AreServed d past t) (AreServed d (a ∷ past) t) (story d past t) (λ s values h j v e. (let i = h j v e in (i.0, i.1, served-more d past a t j i.0 v i.2))) (stories-served d past t due.1))
 
 -- each value of a story was served at its snapshot
-pub taken-served : (d : DocumentData) (past : List Act) (t : TxId) (x : Story) (j : ℕ) (v : Value) → AllDue d past → story d past t ≡ Some x → value_taken j x.values ≡ Some v → (sid : Ident) × (x.sid ≡ Some sid) × IsServed d past t j sid v
-taken-served d past t x j v due told e = (let P : Option Story → Type 0 = λ o. OfStory (Unit {0}) (AreServed d past t) o in let h : AreServed d past t x.sid x.values = subst P told (stories-served d past t due) in h j v e)
+pub taken-served : (d : DocumentData) (past : List Act) (t : TxId) (x : Story) (j : ℕ) (v : Value) → AllDue d past → story d past t ≡ Some x → value_taken j x.progress.values ≡ Some v → (sid : Ident) × (x.progress.sid ≡ Some sid) × IsServed d past t j sid v
+taken-served d past t x j v due told e = (let P : Option Story → Type 0 = λ o. OfStory (Unit {0}) (AreServed d past t) o in let h : AreServed d past t x.progress.sid x.progress.values = subst P told (stories-served d past t due) in h j v e)

@@ -44,19 +44,19 @@ own-shown : (past : List Act) (t : TxId) (j : ℕ) (v : Value) → shown (act.Ow
 own-shown past t j v = rw (same-number t) refl
 
 -- what was shown so far, and the own reads that are left
-shown-owns : (d : DocumentData) (now : List Act) (m : ℕ) (n : NodeId) (b : Bool) (s : ScriptData) (x : Story) (ys : List (ℕ × Value)) (rest : List Out) → script_of s.number d.scripts ≡ Some s → story d now s.number ≡ Some x → shown now s.number ++ ys ≡ reads_by x.values s.ops → OthersShown d now s.number → ((past : List Act) → AllShown d past → AllShown d (after past (numbered m n (kept b n rest)))) → AllShown d (after now (numbered m n (kept b n (map (λ y. out.Act (act.Own s.number y.0 y.1)) ys ++ rest))))
+shown-owns : (d : DocumentData) (now : List Act) (m : ℕ) (n : NodeId) (b : Bool) (s : ScriptData) (x : Story) (ys : List (ℕ × Value)) (rest : List Out) → script_of s.number d.scripts ≡ Some s → story d now s.number ≡ Some x → shown now s.number ++ ys ≡ reads_by x.progress.values s.ops → OthersShown d now s.number → ((past : List Act) → AllShown d past → AllShown d (after past (numbered m n (kept b n rest)))) → AllShown d (after now (numbered m n (kept b n (map (λ y. out.Act (act.Own s.number y.0 y.1)) ys ++ rest))))
 shown-owns d now m n b s x [] rest is at so others go =
     let P : Option Story → Type 0 = λ o. Says s (shown now s.number) o in
     go now (all-from d now s.number s is (subst P (sym at) (sym (append-nil (shown now s.number)) ∙ so)) others)
 shown-owns d now m n b s x (y ∷ ys) rest is at so others go =
     let own : Act = act.Own s.number y.0 y.1 in
-    let so' : shown (own ∷ now) s.number ++ ys ≡ reads_by x.values s.ops = ap (λ zs. zs ++ ys) (own-shown now s.number y.0 y.1) ∙ append_assoc (shown now s.number) (y ∷ []) ys ∙ so in
+    let so' : shown (own ∷ now) s.number ++ ys ≡ reads_by x.progress.values s.ops = ap (λ zs. zs ++ ys) (own-shown now s.number y.0 y.1) ∙ append_assoc (shown now s.number) (y ∷ []) ys ∙ so in
     let P : List Act → Type 0 = λ acts. AllShown d (after now acts) in
     subst P (sym (own-kept m n b s.number y.0 y.1 (map (λ y. out.Act (act.Own s.number y.0 y.1)) ys ++ rest)))
     (shown-owns d (own ∷ now) m n b s x ys rest is at so' (λ t w other e. other-own d now s.number t y.0 y.1 w other (others t w other e)) go)
 
 -- Advance behind operation i
-pub shown-advance : (d : DocumentData) (now : List Act) (m : ℕ) (n : NodeId) (b : Bool) (s : ScriptData) (x : Story) (i : ℕ) → script_of s.number d.scripts ≡ Some s → story d now s.number ≡ Some x → shown now s.number ++ filter (λ y. nat_lt i y.0) (own_reads 1 [] unread x.values s.ops) ≡ reads_by x.values s.ops → OthersShown d now s.number → AllShown d (after now (numbered m n (kept b n (advance d.cluster (open_of s x) i))))
+pub shown-advance : (d : DocumentData) (now : List Act) (m : ℕ) (n : NodeId) (b : Bool) (s : ScriptData) (x : Story) (i : ℕ) → script_of s.number d.scripts ≡ Some s → story d now s.number ≡ Some x → shown now s.number ++ filter (λ y. nat_lt i y.0) (own_reads 1 [] unread x.progress.values s.ops) ≡ reads_by x.progress.values s.ops → OthersShown d now s.number → AllShown d (after now (numbered m n (kept b n (advance d.cluster (open_of s x) i))))
 shown-advance d now m n b s x i is at so others =
-    shown-owns d now m n b s x (filter (λ y. nat_lt i y.0) (own_reads 1 [] unread x.values s.ops)) (advance_end d.cluster (open_of s x) (waiting s.ops x.values)) is at so others
-    (λ past all. silent-all d past (numbered m n (kept b n (advance_end d.cluster (open_of s x) (waiting s.ops x.values)))) (silent-acts m n b (advance_end d.cluster (open_of s x) (waiting s.ops x.values)) (silent-end d.cluster (open_of s x) (waiting s.ops x.values))) all)
+    shown-owns d now m n b s x (filter (λ y. nat_lt i y.0) (own_reads 1 [] unread x.progress.values s.ops)) (advance_end d.cluster (open_of s x) (waiting s.ops x.progress.values)) is at so others
+    (λ past all. silent-all d past (numbered m n (kept b n (advance_end d.cluster (open_of s x) (waiting s.ops x.progress.values)))) (silent-acts m n b (advance_end d.cluster (open_of s x) (waiting s.ops x.progress.values)) (silent-end d.cluster (open_of s x) (waiting s.ops x.progress.values))) all)

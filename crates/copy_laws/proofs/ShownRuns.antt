@@ -23,7 +23,7 @@ use Rattle.grid_model.specs.Documents.{DocumentData, number_order, script_number
 use Rattle.grid_model.specs.Histories.{after, sent, sent_at}
 use Rattle.journal_words.specs.Journals.{commit_id}
 use Rattle.grid_model.specs.Nodes.{node, journal, script_of}
-use Rattle.grid_model.specs.Stories.{begun, story, with_value}
+use Rattle.grid_model.specs.Stories.{begun, story, with_value, progressed}
 use Rattle.script_runs.specs.Waits.{waiting}
 use Rattle.grid_model.specs.Views.{view, stage, Stage, Open, Reads, Collects, Commits, Apart, open_of, participant}
 use Rattle.grid_model.specs.Advances.{advance}
@@ -60,27 +60,27 @@ others-took : (d : DocumentData) (past : List Act) (q : ReadRep) → AllShown d 
 others-took d past q all t s other e = other-took d past q.t t q.op q.sid q.value s other (all t s e)
 
 -- the reply that was waited for is shown, and the own reads behind it are left
-left-behind : (d : DocumentData) (past : List Act) (q : ReadRep) (s : ScriptData) (x : Story) → AllDue d past → script_of q.t d.scripts ≡ Some s → story d past q.t ≡ Some x → waiting s.ops x.values ≡ Some q.op → ShownBy d past q.t s → shown (act.Taken q.t q.op q.sid q.value ∷ past) q.t ++ filter (λ y. nat_lt q.op y.0) (own_reads 1 [] unread (x.values ++ (q.op, q.value) ∷ []) s.ops) ≡ reads_by (x.values ++ (q.op, q.value) ∷ []) s.ops
+left-behind : (d : DocumentData) (past : List Act) (q : ReadRep) (s : ScriptData) (x : Story) → AllDue d past → script_of q.t d.scripts ≡ Some s → story d past q.t ≡ Some x → waiting s.ops x.progress.values ≡ Some q.op → ShownBy d past q.t s → shown (act.Taken q.t q.op q.sid q.value ∷ past) q.t ++ filter (λ y. nat_lt q.op y.0) (own_reads 1 [] unread (x.progress.values ++ (q.op, q.value) ∷ []) s.ops) ≡ reads_by (x.progress.values ++ (q.op, q.value) ∷ []) s.ops
 left-behind d past q s x due is at reads mine =
     let order = story-order d past q.t s x due is at in
     let P : Option Story → Type 0 = λ o. Says s (shown past q.t) o in
-    let before : shown past q.t ≡ reads_by x.values s.ops = subst P at mine in
-    let owns : List (ℕ × Value) = filter (λ y. nat_lt q.op y.0) (own_reads 1 [] unread (x.values ++ (q.op, q.value) ∷ []) s.ops) in
+    let before : shown past q.t ≡ reads_by x.progress.values s.ops = subst P at mine in
+    let owns : List (ℕ × Value) = filter (λ y. nat_lt q.op y.0) (own_reads 1 [] unread (x.progress.values ++ (q.op, q.value) ∷ []) s.ops) in
     ap (λ zs. zs ++ owns) (taken-shown past q.t q.op q.sid q.value)
     ∙ append_assoc (shown past q.t) ((q.op, q.value) ∷ []) owns
     ∙ ap (λ zs. zs ++ ((q.op, q.value) ∷ owns)) before
-    ∙ sym (reads-next q.op q.value x.values order.0 s.ops order.1 reads)
+    ∙ sym (reads-next q.op q.value x.progress.values order.0 s.ops order.1 reads)
 
 shown-taken : (d : DocumentData) (past : List Act) (m : ℕ) (n : NodeId) (b : Bool) (q : ReadRep) (x : Open) → Opens d past n q.t x (Some q.op) → AllDue d past → AllShown d past → AllShown d (after past (numbered m n (kept b n (out.Act (act.Taken q.t q.op q.sid q.value) ∷ advance d.cluster (with_reply q x) q.op))))
 shown-taken d past m n b q x o due all =
     let now : List Act = act.Taken q.t q.op q.sid q.value ∷ past in
-    let y : Story = with_value q.op q.sid q.value o.story in
+    let y : Story = progressed (with_value q.op q.sid q.value) o.story in
     let number : o.script.number ≡ q.t = script-number q.t d.scripts o.script o.at.script in
     let at : story d now q.t ≡ Some y = story-taken d past q o.story o.at.story in
     let left = left-behind d past q o.script o.story due o.at.script o.at.story o.reads (all q.t o.script o.at.script) in
     let P : TxId → Type 0 = λ u. script_of u d.scripts ≡ Some o.script in
     let Q : TxId → Type 0 = λ u. story d now u ≡ Some y in
-    let L : TxId → Type 0 = λ u. shown now u ++ filter (λ z. nat_lt q.op z.0) (own_reads 1 [] unread y.values o.script.ops) ≡ reads_by y.values o.script.ops in
+    let L : TxId → Type 0 = λ u. shown now u ++ filter (λ z. nat_lt q.op z.0) (own_reads 1 [] unread y.progress.values o.script.ops) ≡ reads_by y.progress.values o.script.ops in
     let R : TxId → Type 0 = λ u. OthersShown d now u in
     let S : Open → Type 0 = λ z. AllShown d (after now (numbered m n (kept b n (advance d.cluster (with_reply q z) q.op)))) in
     let T : List Act → Type 0 = λ acts. AllShown d (after past acts) in

@@ -18,7 +18,7 @@ use Rattle.grid_model.specs.declared.stories.Story.{Story}
 use Rattle.grid_model.specs.Documents.{DocumentData}
 use Rattle.grid_model.specs.Histories.{after, sent, sent_at}
 use Rattle.grid_model.specs.Nodes.{Node, node, script_of, parts_of, is_home}
-use Rattle.grid_model.specs.Stories.{Phase, story, asked, heard, heard_at, if_told, has_voted, with_vote, with_ack, with_value}
+use Rattle.grid_model.specs.Stories.{Phase, story, asked, heard, heard_at, if_told, has_voted, with_vote, with_ack, with_value, progressed}
 use Rattle.script_runs.specs.Waits.{waiting}
 use Rattle.grid_model.specs.Copies.{shown}
 use Rattle.script_runs.proofs.RemoteReads.{InOrder, remote_numbers, order-first, order-left, order-more}
@@ -30,7 +30,7 @@ use Rattle.grid_laws.proofs.SilentOuts.{is_silent, all_silent}
 -- the reads of a script, own and remote, by the values that a story took
 abbrev pub story_reads : ScriptData → Option Story → List (ℕ × Value)
 story_reads s None = []
-story_reads s (Some x) = reads_by x.values s.ops
+story_reads s (Some x) = reads_by x.progress.values s.ops
 
 -- these reads are those of the script by this story
 abbrev pub Says : ScriptData → List (ℕ × Value) → Option Story → Type 0
@@ -47,13 +47,9 @@ if-says : (s : ScriptData) (ys : List (ℕ × Value)) (b : Bool) (o p : Option S
 if-says s ys true o p h k = h
 if-says s ys false o p h k = k
 
-either-says : (s : ScriptData) (ys : List (ℕ × Value)) (b : Bool) (y z : Story) → Says s ys (Some y) → Says s ys (Some z) → Says s ys (Some (if b then y else z))
-either-says s ys true y z h k = h
-either-says s ys false y z h k = k
-
 heard-says : (s : ScriptData) (ys : List (ℕ × Value)) (ns : List NodeId) (p : Phase) (h : Node) (t : TxId) (n : NodeId) (said : Message) (o : Option Story) → Says s ys o → Says s ys (heard ns p h t n said o)
-heard-says s ys ns p h t n (message.Vote u (ballot.Yes q)) o k = if-told-says s ys _ (with_vote n q) o (λ y i. either-says s ys (has_voted n y.votes) y _ i i) k
-heard-says s ys ns p h t n (message.Ack u) o k = if-told-says s ys _ (with_ack n) o (λ y i. either-says s ys _ y _ i i) k
+heard-says s ys ns p h t n (message.Vote u (ballot.Yes q)) o k = if-told-says s ys _ (progressed (with_vote n q)) o (λ y i. i) k
+heard-says s ys ns p h t n (message.Ack u) o k = if-told-says s ys _ (with_ack n) o (λ y i. i) k
 heard-says s ys ns p h t n said o k = k
 
 got-says : (s : ScriptData) (ys : List (ℕ × Value)) (d : DocumentData) (past : List Act) (w : Option ScriptData) (e : Option Envelope) (o : Option Story) → Says s ys o → Says s ys (heard_at d past w e o)
@@ -103,7 +99,7 @@ pub other-took : (d : DocumentData) (past : List Act) (u t : TxId) (op : ℕ) (s
 other-took d past u t op sid v s other h =
     let e : (u == t) ≡ false = grind (arith, nat_tests) in
     let same : shown (act.Taken u op sid v ∷ past) t ≡ shown past t = if-other (u == t) (shown past t ++ (op, v) ∷ []) (shown past t) e in
-    same ∙ if-none (u == t) (with_value op sid v) (story d past t) e h
+    same ∙ if-none (u == t) (progressed (with_value op sid v)) (story d past t) e h
   where
     if-none : (b : Bool) (f : Story → Story) (o : Option Story) → b ≡ false → Says s (shown past t) o → Says s (shown past t) (if_told b f o)
     if-none b f None e h = h
@@ -145,13 +141,13 @@ stories-order d (a ∷ past) t s due is =
     of-more (Unit {0}) (IsInOrder s.ops) d past a t (λ n. (remote_numbers 1 [] s.ops, order-first s.ops))
     (λ op sid v w h.
     let same : w.script ≡ s = equal-script w.script s (sym w.at.script ∙ is) in
-    let reads : waiting s.ops w.story.values ≡ Some op = ap (λ (z : ScriptData). waiting z.ops w.story.values) (sym same) ∙ w.reads in
-    order-took s.ops w.story.values h.0 op v reads h.1)
+    let reads : waiting s.ops w.story.progress.values ≡ Some op = ap (λ (z : ScriptData). waiting z.ops w.story.progress.values) (sym same) ∙ w.reads in
+    order-took s.ops w.story.progress.values h.0 op v reads h.1)
     due (stories-order d past t s due.1 is)
   where
     equal-script : (y z : ScriptData) → Some y ≡ Some z → y ≡ z
     equal-script y z e = cc
 
 -- the values of a story are those of the first remote reads
-pub story-order : (d : DocumentData) (past : List Act) (t : TxId) (s : ScriptData) (x : Story) → AllDue d past → script_of t d.scripts ≡ Some s → story d past t ≡ Some x → (rest : List ℕ) × InOrder s.ops x.values rest
+pub story-order : (d : DocumentData) (past : List Act) (t : TxId) (s : ScriptData) (x : Story) → AllDue d past → script_of t d.scripts ≡ Some s → story d past t ≡ Some x → (rest : List ℕ) × InOrder s.ops x.progress.values rest
 story-order d past t s x due is told = let P : Option Story → Type 0 = λ o. OfStory (Unit {0}) (IsInOrder s.ops) o in subst P told (stories-order d past t s due is)

@@ -22,7 +22,7 @@ use Rattle.grid_model.specs.Documents.{DocumentData}
 use Rattle.grid_model.specs.Histories.{sent, sent_at}
 use Rattle.journal_words.specs.Journals.{Decision, Prepared, decision, home_in, is_closed, prepared_of, undone}
 use Rattle.grid_model.specs.Nodes.{Node, got, journal, node, script_of, is_home}
-use Rattle.grid_model.specs.Stories.{story, asked, heard, heard_at, if_told, phase_at, is_open, with_vote, with_ack, has_voted, begun, Phase}
+use Rattle.grid_model.specs.Stories.{story, asked, heard, heard_at, if_told, phase_at, is_open, with_vote, with_ack, has_voted, begun, Phase, progressed}
 use Rattle.script_runs.specs.Waits.{waiting}
 use Rattle.grid_model.specs.Views.{Open, Apart, acks_at, open_at, open_of, open_stage, stage, stage_by, view}
 use Rattle.grid_model.specs.Facts.{is_given_up, is_over, MeansNever, AbortsFinal}
@@ -61,13 +61,9 @@ either-meant : (past : List Act) (t : TxId) (b : Bool) (o p : Option Story) → 
 either-meant past t true o p h k = h
 either-meant past t false o p h k = k
 
-either-story : (past : List Act) (t : TxId) (b : Bool) (x y : Story) → Meant past t (Some x) → Meant past t (Some y) → Meant past t (Some (if b then x else y))
-either-story past t true x y h k = h
-either-story past t false x y h k = k
-
 meant-heard : (past : List Act) (t : TxId) (ns : List NodeId) (p : Phase) (h : Node) (u : TxId) (n : NodeId) (said : Message) (o : Option Story) → Meant past t o → Meant past t (heard ns p h u n said o)
-meant-heard past t ns p h u n (message.Vote w (ballot.Yes q)) o k = if-meant past t _ (with_vote n q) o (λ e y i. either-story past t (has_voted n y.votes) y _ i i) k
-meant-heard past t ns p h u n (message.Ack w) o k = if-meant past t _ (with_ack n) o (λ e y i. either-story past t (is_among n y.acks) y _ i i) k
+meant-heard past t ns p h u n (message.Vote w (ballot.Yes q)) o k = if-meant past t _ (progressed (with_vote n q)) o (λ e y i. i) k
+meant-heard past t ns p h u n (message.Ack w) o k = if-meant past t _ (with_ack n) o (λ e y i. i) k
 meant-heard past t ns p h u n said o k = k
 
 meant-got : (now : List Act) (d : DocumentData) (past : List Act) (t : TxId) (w : Option ScriptData) (m : Option Envelope) (o : Option Story) → Meant now t o → Meant now t (heard_at d past w m o)
@@ -140,7 +136,7 @@ asked-last d past n y t all is = got-hold (AsksOf d) d past (λ now a m k said d
 apart-undone : (u : Option Decision) (o : Option Open) (acks : List NodeId) → stage_by u o acks ≡ Apart → (u ≡ None) × (o ≡ None)
 apart-undone (Some y) o acks e = cc
 apart-undone None None acks e = (refl, refl)
-apart-undone None (Some x) acks e = absurd (other (waiting x.script.ops x.values) e)
+apart-undone None (Some x) acks e = absurd (other (waiting x.script.ops x.progress.values) e)
   where
     other : (w : Option ℕ) → open_stage x w ≡ Apart → ⊥
     other None i = cc
@@ -160,7 +156,7 @@ undone-none : (t : TxId) (r : List Record) → is_closed t r ≡ false → undon
 undone-none t r e is = rw e at is
 
 -- a full update that is neither lost, closed nor aborted, and has no Decided, is open
-still-open : (s : ScriptData) (x : Story) (h : Node) → x.lost ≡ false → is_closed s.number h.journal ≡ false → decision s.number h.journal ≡ None → x.aborted ≡ false → is_update s.ops ≡ true → waiting s.ops x.values ≡ None → is_open (phase_at s (Some x) h) ≡ true
+still-open : (s : ScriptData) (x : Story) (h : Node) → x.lost ≡ false → is_closed s.number h.journal ≡ false → decision s.number h.journal ≡ None → x.aborted ≡ false → is_update s.ops ≡ true → waiting s.ops x.progress.values ≡ None → is_open (phase_at s (Some x) h) ≡ true
 still-open s x h a b c e u w = grind (arith, a, b, c, e, u, w)
 
 false-true : (b : Bool) → b ≡ false → b ≡ true → ⊥
@@ -170,7 +166,7 @@ false-true b e f = cc
 abbrev pub IsGone : DocumentData → List Act → NodeId → TxId → Type 0
 IsGone d past n t = (is_given_up t past ≡ true) ⊎ (is_closed t (journal d past n) ≡ true)
 
-gone : (d : DocumentData) (past : List Act) (n : NodeId) (t : TxId) (s : ScriptData) (x : Story) (l c a : Bool) → s.number ≡ t → Meant past t (Some x) → undone t (journal d past n) ≡ None → is_update s.ops ≡ true → waiting s.ops x.values ≡ None → is_open (phase_at s (Some x) (node d past n)) ≡ false → x.lost ≡ l → is_closed t (journal d past n) ≡ c → x.aborted ≡ a → IsGone d past n t
+gone : (d : DocumentData) (past : List Act) (n : NodeId) (t : TxId) (s : ScriptData) (x : Story) (l c a : Bool) → s.number ≡ t → Meant past t (Some x) → undone t (journal d past n) ≡ None → is_update s.ops ≡ true → waiting s.ops x.progress.values ≡ None → is_open (phase_at s (Some x) (node d past n)) ≡ false → x.lost ≡ l → is_closed t (journal d past n) ≡ c → x.aborted ≡ a → IsGone d past n t
 gone d past n t s x true c a number meant undone update full closes e1 e2 e3 = inl (meant.0 e1)
 gone d past n t s x false true a number meant undone update full closes e1 e2 e3 = inr e2
 gone d past n t s x false false true number meant undone update full closes e1 e2 e3 = inl (meant.1 e3)

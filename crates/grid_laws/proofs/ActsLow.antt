@@ -97,10 +97,10 @@ may-low : (m : ℕ) (d : DocumentData) (past : List Act) (n : NodeId) (h : HeldR
 may-low m d past n h all low (at_once asked cover) = read-low m d past n h low asked
 may-low m d past n h all low (held i) = (let f = (ever-covered d past all n h i).floor in omega (arith, f, node-floor m d past n low))
 
-date-low : (m : ℕ) (x : Story) (q : Date) → IsLowStory m (Some x) → q ≡ date_by x.sid0 x.sid → date_ident q ≤ m
-date-low m x q low is = rw is (by x.sid low)
+date-low : (m : ℕ) (x : Story) (q : Date) → IsLowStory m (Some x) → q ≡ date_by x.progress.sid0 x.progress.sid → date_ident q ≤ m
+date-low m x q low is = rw is (by x.progress.sid low)
   where
-    by : (o : Option Ident) → IsLowStory m (Some (record x { sid = o })) → date_ident (date_by x.sid0 o) ≤ m
+    by : (o : Option Ident) → IsLowStory m (Some (record x { progress = record x.progress { sid = o } })) → date_ident (date_by x.progress.sid0 o) ≤ m
     by None h = h.0
     by (Some sid) h = h.1
 
@@ -160,8 +160,8 @@ record-low k d past n (head.Ceiling c) low due =
     omega arith
 record-low k d past n (head.Decided t f) low due =
     let s = story-low (64 * k) d past t due.1.story low due.1.at.story in
-    let most : greatest_vote due.1.story.votes ≤ 64 * k = s.2 in
-    let is : f ≡ greatest_vote due.1.story.votes = due.1.some.0 in
+    let most : greatest_vote due.1.story.progress.votes ≤ 64 * k = s.2 in
+    let is : f ≡ greatest_vote due.1.story.progress.votes = due.1.some.0 in
     omega arith
 record-low k d past n (head.Closed t) low due = omega arith
 

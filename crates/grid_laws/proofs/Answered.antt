@@ -19,13 +19,13 @@ use Rattle.grid_model.specs.declared.stories.Story.{Story}
 use Rattle.grid_model.specs.Documents.{DocumentData}
 use Rattle.grid_model.specs.Histories.{after, sent, sent_at}
 use Rattle.grid_model.specs.Nodes.{Node, node, script_of, parts_of, is_home}
-use Rattle.grid_model.specs.Stories.{Phase, story, told, asked, heard, heard_at, if_told, with_vote, with_ack}
+use Rattle.grid_model.specs.Stories.{Phase, story, told, asked, heard, heard_at, if_told, with_vote, with_ack, progressed}
 use Rattle.script_runs.specs.Waits.{waiting}
 
 -- reads are left, it writes, or it was answered
 abbrev pub is_told : ScriptData → Option Story → Bool
 is_told s None = true
-is_told s (Some x) = is_some (waiting s.ops x.values) || (is_update s.ops || x.finished)
+is_told s (Some x) = is_some (waiting s.ops x.progress.values) || (is_update s.ops || x.finished)
 
 -- ---- one act
 
@@ -34,20 +34,14 @@ if-told-told s b f None go h = h
 if-told-told s true f (Some x) go h = go x h
 if-told-told s false f (Some x) go h = h
 
-vote-told : (s : ScriptData) (n : NodeId) (p : Ident) (x : Story) → is_told s (Some x) ≡ true → is_told s (Some (with_vote n p x)) ≡ true
-vote-told s n p x h = grind (arith, h)
-
-ack-told : (s : ScriptData) (n : NodeId) (x : Story) → is_told s (Some x) ≡ true → is_told s (Some (with_ack n x)) ≡ true
-ack-told s n x h = grind (arith, h)
-
 pub or-true : (a b : Bool) → (a || (b || true)) ≡ true
 or-true true b = refl
 or-true false true = refl
 or-true false false = refl
 
 heard-told : (s : ScriptData) (ns : List NodeId) (p : Phase) (h : Node) (t : TxId) (x : NodeId) (said : Message) (o : Option Story) → is_told s o ≡ true → is_told s (heard ns p h t x said o) ≡ true
-heard-told s ns p h t x (message.Vote u (ballot.Yes q)) o e = if-told-told s _ (with_vote x q) o (λ y i. vote-told s x q y i) e
-heard-told s ns p h t x (message.Ack u) o e = if-told-told s _ (with_ack x) o (λ y i. ack-told s x y i) e
+heard-told s ns p h t x (message.Vote u (ballot.Yes q)) o e = if-told-told s _ (progressed (with_vote x q)) o (λ y i. i) e
+heard-told s ns p h t x (message.Ack u) o e = if-told-told s _ (with_ack x) o (λ y i. i) e
 heard-told s ns p h t x said o e = e
 
 if-either : (s : ScriptData) (b : Bool) (o p : Option Story) → is_told s o ≡ true → is_told s p ≡ true → is_told s (if b then o else p) ≡ true
@@ -72,7 +66,7 @@ is_calm a = true
 pub calm-told : (s : ScriptData) (d : DocumentData) (past : List Act) (a : Act) (t : TxId) → is_calm a ≡ true → is_told s (story d past t) ≡ true → is_told s (story d (a ∷ past) t) ≡ true
 calm-told s d past (act.Sent m x y said) t calm h = asked-told s d t said (story d past t) h
 calm-told s d past (act.Got m) t calm h = got-told s d past (script_of t d.scripts) (sent_at m (sent past)) (story d past t) h
-calm-told s d past (act.Finished u) t calm h = if-told-told s (u == t) _ (story d past t) (λ x i. or-true (is_some (waiting s.ops x.values)) (is_update s.ops)) h
+calm-told s d past (act.Finished u) t calm h = if-told-told s (u == t) _ (story d past t) (λ x i. or-true (is_some (waiting s.ops x.progress.values)) (is_update s.ops)) h
 calm-told s d past (act.Aborted u n why) t calm h = if-told-told s (u == t) _ (story d past t) (λ x i. i) h
 calm-told s d past (act.Lost u) t calm h = if-told-told s (u == t) _ (story d past t) (λ x i. i) h
 calm-told s d past (act.Down n o) t calm h = if-told-told s (is_home d t n) _ (story d past t) (λ x i. i) h

@@ -66,11 +66,11 @@ plain-end d s x None true e = rw e (plain-prepares d (open_of s x) (parts_of d s
 plain-end d s x None false e = rw e refl
 
 plain-advance : (d : DocumentData) (s : ScriptData) (x : Story) (i : ℕ) → list_all is_plain (advance d.cluster (open_of s x) i) ≡ true
-plain-advance d s x i = plain-owns s.number (filter (λ y. nat_lt i y.0) (own_reads 1 [] unread x.values s.ops)) (advance_end d.cluster (open_of s x) (waiting s.ops x.values)) (plain-end d s x (waiting s.ops x.values) (is_update s.ops) refl)
+plain-advance d s x i = plain-owns s.number (filter (λ y. nat_lt i y.0) (own_reads 1 [] unread x.progress.values s.ops)) (advance_end d.cluster (open_of s x) (waiting s.ops x.progress.values)) (plain-end d s x (waiting s.ops x.progress.values) (is_update s.ops) refl)
 
 -- ---- what stands at the end
 
-told-reading : (s : ScriptData) (x : Story) (j : ℕ) → waiting s.ops x.values ≡ Some j → is_told s (Some x) ≡ true
+told-reading : (s : ScriptData) (x : Story) (j : ℕ) → waiting s.ops x.progress.values ≡ Some j → is_told s (Some x) ≡ true
 told-reading s x j e = rw e refl
 
 told-update : (s : ScriptData) (x : Story) → is_update s.ops ≡ true → is_told s (Some x) ≡ true
@@ -80,9 +80,9 @@ story-finished : (d : DocumentData) (now : List Act) (u : TxId) (x : Story) → 
 story-finished d now u x e = rw (e, same-number u) refl
 
 told-finished : (s : ScriptData) (x : Story) → is_told s (Some (record x { finished = true })) ≡ true
-told-finished s x = or-true (is_some (waiting s.ops x.values)) (is_update s.ops)
+told-finished s x = or-true (is_some (waiting s.ops x.progress.values)) (is_update s.ops)
 
-told-end : (d : DocumentData) (now : List Act) (m : ℕ) (n : NodeId) (s : ScriptData) (x : Story) (w : Option ℕ) (b : Bool) → script_of s.number d.scripts ≡ Some s → story d now s.number ≡ Some x → OthersTold d now s.number → waiting s.ops x.values ≡ w → is_update s.ops ≡ b → AllTold d (after now (numbered m n (advance_end d.cluster (open_of s x) w)))
+told-end : (d : DocumentData) (now : List Act) (m : ℕ) (n : NodeId) (s : ScriptData) (x : Story) (w : Option ℕ) (b : Bool) → script_of s.number d.scripts ≡ Some s → story d now s.number ≡ Some x → OthersTold d now s.number → waiting s.ops x.progress.values ≡ w → is_update s.ops ≡ b → AllTold d (after now (numbered m n (advance_end d.cluster (open_of s x) w)))
 told-end d now m n s x (Some j) b is at others e u = calm-all d now (numbered m n (request_of d.cluster (open_of s x) j 0 (op_at s.ops j))) (calm-numbered m n (request_of d.cluster (open_of s x) j 0 (op_at s.ops j)) (calm-end d.cluster (open_of s x) (Some j))) (all-from d now s.number s is (rw at (told-reading s x j e)) others)
 told-end d now m n s x None true is at others e u = rw u (calm-all d now (numbered m n (prepares d.cluster (open_of s x) (parts_of d s))) (calm-numbered m n (prepares d.cluster (open_of s x) (parts_of d s)) (rw u at (calm-end d.cluster (open_of s x) None))) (all-from d now s.number s is (rw at (told-update s x u)) others))
 told-end d now m n s x None false is at others e u =
@@ -95,5 +95,5 @@ told-owns d now m n s x (y ∷ ys) rest at others go = told-owns d (act.Own s.nu
 pub told-advance : (d : DocumentData) (now : List Act) (m : ℕ) (n : NodeId) (b : Bool) (s : ScriptData) (x : Story) (i : ℕ) → script_of s.number d.scripts ≡ Some s → story d now s.number ≡ Some x → OthersTold d now s.number → AllTold d (after now (numbered m n (kept b n (advance d.cluster (open_of s x) i))))
 told-advance d now m n b s x i is at others =
     rw (kept-plain b n (advance d.cluster (open_of s x) i) (plain-advance d s x i))
-    (told-owns d now m n s x (filter (λ y. nat_lt i y.0) (own_reads 1 [] unread x.values s.ops)) (advance_end d.cluster (open_of s x) (waiting s.ops x.values)) at others
-    (λ now' at' others'. told-end d now' m n s x (waiting s.ops x.values) (is_update s.ops) is at' others' refl refl))
+    (told-owns d now m n s x (filter (λ y. nat_lt i y.0) (own_reads 1 [] unread x.progress.values s.ops)) (advance_end d.cluster (open_of s x) (waiting s.ops x.progress.values)) at others
+    (λ now' at' others'. told-end d now' m n s x (waiting s.ops x.progress.values) (is_update s.ops) is at' others' refl refl))

@@ -18,7 +18,7 @@ use Rattle.grid_model.specs.Documents.{DocumentData, number_order, script_number
 use Rattle.grid_model.specs.Histories.{after, sent, sent_at}
 use Rattle.journal_words.specs.Journals.{commit_id}
 use Rattle.grid_model.specs.Nodes.{node, journal, script_of}
-use Rattle.grid_model.specs.Stories.{begun, story, with_value}
+use Rattle.grid_model.specs.Stories.{begun, story, with_value, progressed}
 use Rattle.grid_model.specs.Views.{view, stage, Stage, Open, Reads, Collects, Commits, Apart, open_of, participant}
 use Rattle.grid_model.specs.Advances.{advance}
 use Rattle.grid_model.specs.Fitness.{is_fit_at}
@@ -46,14 +46,14 @@ told-taken : (d : DocumentData) (past : List Act) (m : ℕ) (n : NodeId) (b : Bo
 told-taken d past m n b q x w o all =
     let now : List Act = act.Taken q.t q.op q.sid q.value ∷ past in
     let number : o.script.number ≡ q.t = script-number q.t d.scripts o.script o.at.script in
-    let at : story d now q.t ≡ Some (with_value q.op q.sid q.value o.story) = story-taken d past q o.story o.at.story in
+    let at : story d now q.t ≡ Some (progressed (with_value q.op q.sid q.value) o.story) = story-taken d past q o.story o.at.story in
     let P : TxId → Type 0 = λ u. script_of u d.scripts ≡ Some o.script in
-    let Q : TxId → Type 0 = λ u. story d now u ≡ Some (with_value q.op q.sid q.value o.story) in
+    let Q : TxId → Type 0 = λ u. story d now u ≡ Some (progressed (with_value q.op q.sid q.value) o.story) in
     let R : TxId → Type 0 = λ u. OthersTold d now u in
     let S : Open → Type 0 = λ z. AllTold d (after now (numbered m n (kept b n (advance d.cluster (with_reply q z) q.op)))) in
     let T : List Act → Type 0 = λ acts. AllTold d (after past acts) in
     subst T (sym (numbered-taken m n b q.t q.op q.sid q.value (advance d.cluster (with_reply q x) q.op)))
-    (subst S (sym o.is) (told-advance d now m n b o.script (with_value q.op q.sid q.value o.story) q.op (subst P (sym number) o.at.script) (subst Q (sym number) at) (subst R (sym number) (others-taken d past q all))))
+    (subst S (sym o.is) (told-advance d now m n b o.script (progressed (with_value q.op q.sid q.value) o.story) q.op (subst P (sym number) o.at.script) (subst Q (sym number) at) (subst R (sym number) (others-taken d past q all))))
 
 told-if : (d : DocumentData) (past : List Act) (m : ℕ) (n : NodeId) (b c : Bool) (os : List Out) → AllTold d past → AllTold d (after past (numbered m n (kept b n os))) → AllTold d (after past (numbered m n (kept b n (if c then os else []))))
 told-if d past m n b true os all go = go

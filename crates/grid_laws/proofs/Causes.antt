@@ -62,10 +62,10 @@ pub record DecidedDue (d : DocumentData) (past : List Act) (n : NodeId) (t : TxI
   pub story : Story
   pub at : AtHome d past n t script story
   pub unended : is_open (phase d past script) ≡ true
-  pub full : waiting script.ops story.values ≡ None
+  pub full : waiting script.ops story.progress.values ≡ None
   pub update : is_update script.ops ≡ true
-  pub voted : have_voted (parts_of d script) story.votes ≡ true
-  pub some : (f ≡ greatest_vote story.votes) × (1 ≤ f)
+  pub voted : have_voted (parts_of d script) story.progress.votes ≡ true
+  pub some : (f ≡ greatest_vote story.progress.votes) × (1 ≤ f)
   pub new : undone t (journal d past n) ≡ None
 
 -- the home closes once each part has acknowledged
@@ -112,8 +112,8 @@ pub record TakenDue (d : DocumentData) (past : List Act) (t : TxId) (op : ℕ) (
   pub story : Story
   pub at : AtHome d past n t script story
   pub got : IsGot past n from (message.ReadRep (record { t = t; op = op; sid = sid; value = v }))
-  pub reads : waiting script.ops story.values ≡ Some op
-  pub same : is_same_ident sid story.sid ≡ true
+  pub reads : waiting script.ops story.progress.values ≡ Some op
+  pub same : is_same_ident sid story.progress.sid ≡ true
 
 pub record HeldDue (d : DocumentData) (past : List Act) (n : NodeId) (h : HeldRead) : Type 0 where
   pub up : IsUp d past n
@@ -135,7 +135,7 @@ pub record AbortedDue (d : DocumentData) (past : List Act) (t : TxId) (x : NodeI
   pub up : IsUp d past n
   pub unended : is_open (phase d past script) ≡ true
   pub update : is_update script.ops ≡ true
-  pub full : waiting script.ops story.values ≡ None
+  pub full : waiting script.ops story.progress.values ≡ None
 
 -- the home was opened, and before that the transaction was open
 pub record LostDue (d : DocumentData) (past : List Act) (t : TxId) : Type 0 where
@@ -153,7 +153,7 @@ pub record ReadDue (d : DocumentData) (past : List Act) (t : TxId) : Type 0 wher
   pub story : Story
   pub at : AtHome d past n t script story
   pub unended : is_open (phase d past script) ≡ true
-  pub full : waiting script.ops story.values ≡ None
+  pub full : waiting script.ops story.progress.values ≡ None
   pub reader : is_update script.ops ≡ false
 
 -- a client is told right behind the decision, or once a read-only transaction has all its values

@@ -57,7 +57,7 @@ home-script (Some s) n h = refl
 
 commits-acks : (u : Option Decision) (o : Option Open) (some : List NodeId) (y : Decision) (acks : List NodeId) → stage_by u o some ≡ Commits y acks → some ≡ acks
 commits-acks (Some z) o some y acks e = cc
-commits-acks None (Some x) some y acks e = other (waiting x.script.ops x.values) e
+commits-acks None (Some x) some y acks e = other (waiting x.script.ops x.progress.values) e
   where
     other : (w : Option ℕ) → open_stage x w ≡ Commits y acks → some ≡ acks
     other None e = cc

@@ -84,23 +84,23 @@ decision-due : (d : DocumentData) (past : List Act) (n : NodeId) (t : TxId) (f :
 decision-due d past n t f all due =
     let x : Story = due.story in
     let P : Option Story → Type 0 = λ o. StoryBacked d past t o in
-    let backed : AllVotes d past t x.votes = (subst P due.at.story (stories-backed d past all t)).0 in
-    let sid : Ident = first_sid x.sid x.sid0 in
-    let full : Full d past n t due.script sid x.values = record { story = x; at = due.at; ident = refl; told = refl; full = due.full } in
+    let backed : AllVotes d past t x.progress.votes = (subst P due.at.story (stories-backed d past all t)).0 in
+    let sid : Ident = first_sid x.progress.sid x.progress.sid0 in
+    let full : Full d past n t due.script sid x.progress.values = record { story = x; at = due.at; ident = refl; told = refl; full = due.full } in
     let parts : parts_at d t ≡ parts_of d due.script = ap (parts_in d) due.at.script in
-    let is : f ≡ greatest_vote x.votes = due.some.0 in
-    let least : 1 ≤ greatest_vote x.votes = (let l : 1 ≤ f = due.some.1 in omega arith) in
+    let is : f ≡ greatest_vote x.progress.votes = due.some.0 in
+    let least : 1 ≤ greatest_vote x.progress.votes = (let l : 1 ≤ f = due.some.1 in omega arith) in
     let Q : Ident → Type 0 = λ g. FoundPart d past t g in
-    let reached : FoundPart d past t f = subst Q (sym is) (vote-greatest d past t x.votes backed least) in
+    let reached : FoundPart d past t f = subst Q (sym is) (vote-greatest d past t x.progress.votes backed least) in
     record {
       home = n;
       script = due.script;
       sid = sid;
-      values = x.values;
+      values = x.progress.values;
       full = full;
-      each = λ k e. (let R : Ident → Type 0 = λ g. FoundVote d past t k g in subst R (sym is) (vote-found d past t k x.votes backed (voted-each k (parts_of d due.script) x.votes due.voted (rw parts at e))));
+      each = λ k e. (let R : Ident → Type 0 = λ g. FoundVote d past t k g in subst R (sym is) (vote-found d past t k x.progress.votes backed (voted-each k (parts_of d due.script) x.progress.votes due.voted (rw parts at e))));
       reached = reached;
-      fresh = fresh-final d past n reached.0 t f due.script sid x.values all full reached.2;
+      fresh = fresh-final d past n reached.0 t f due.script sid x.progress.values all full reached.2;
     }
 
 decided-due : (d : DocumentData) (past : List Act) (n : NodeId) (h : Head) → AllDue d past → RecordDue d past n h → HoldsIn (DecidedSays d past n) (record_of d (got past) h)

@@ -27,7 +27,7 @@ use Rattle.grid_model.specs.Documents.{DocumentData}
 use Rattle.grid_model.specs.Histories.{sent, sent_at}
 use Rattle.journal_words.specs.Journals.{Decision, commit_id, undone}
 use Rattle.grid_model.specs.Nodes.{node, journal, script_of, parts_of, parts_in, is_home}
-use Rattle.grid_model.specs.Stories.{Collecting, phase_at, is_open, is_fit_ballot, is_small_node, story, first_sid, has_voted, heard_at, with_value}
+use Rattle.grid_model.specs.Stories.{Collecting, phase_at, is_open, is_fit_ballot, is_small_node, story, first_sid, has_voted, heard_at, with_value, progressed}
 use Rattle.script_runs.specs.Waits.{waiting}
 use Rattle.grid_model.specs.Views.{Open, Stage, Apart, Reads, Collects, Commits, stage, stage_at, view, View, participant}
 use Rattle.grid_model.specs.Advances.{advance, parts_now}
@@ -46,24 +46,24 @@ use Rattle.grid_laws.proofs.DueHomes.{ReadersAnswered, at-number, due-advance, d
 
 -- ---- a reply
 
-pub story-taken : (d : DocumentData) (past : List Act) (q : ReadRep) (x : Story) → story d past q.t ≡ Some x → story d (act.Taken q.t q.op q.sid q.value ∷ past) q.t ≡ Some (with_value q.op q.sid q.value x)
+pub story-taken : (d : DocumentData) (past : List Act) (q : ReadRep) (x : Story) → story d past q.t ≡ Some x → story d (act.Taken q.t q.op q.sid q.value ∷ past) q.t ≡ Some (progressed (with_value q.op q.sid q.value) x)
 story-taken d past q x e = rw (e, same-number q.t) refl
 
 abbrev pub with_reply : ReadRep → Open → Open
-with_reply q x = record x { turn = 0; sid = Some (first_sid x.sid q.sid); values = x.values ++ (q.op, q.value) ∷ [] }
+with_reply q x = record x { progress = with_value q.op q.sid q.value x.progress }
 
-due-taken : (d : DocumentData) (past : List Act) (n : NodeId) (m : ℕ) (y : NodeId) (q : ReadRep) (x : Open) (j : ℕ) (b : Bool) → Opens d past n q.t x (Some j) → IsGot past n y (message.ReadRep q) → (j == q.op) ≡ b → ((j == q.op) ≡ true → is_same_ident q.sid x.sid ≡ true) → OutsDue d past n m (if b then out.Act (act.Taken q.t q.op q.sid q.value) ∷ advance d.cluster (with_reply q x) q.op else [])
+due-taken : (d : DocumentData) (past : List Act) (n : NodeId) (m : ℕ) (y : NodeId) (q : ReadRep) (x : Open) (j : ℕ) (b : Bool) → Opens d past n q.t x (Some j) → IsGot past n y (message.ReadRep q) → (j == q.op) ≡ b → ((j == q.op) ≡ true → is_same_ident q.sid x.progress.sid ≡ true) → OutsDue d past n m (if b then out.Act (act.Taken q.t q.op q.sid q.value) ∷ advance d.cluster (with_reply q x) q.op else [])
 due-taken d past n m y q x j true o got here fit =
     let same : j ≡ q.op = grind (arith, nat_tests) in
     let now : List Act = act.Taken q.t q.op q.sid q.value ∷ past in
-    let at : AtHome d now n q.t o.script (with_value q.op q.sid q.value o.story) = record { script = o.at.script; home = o.at.home; story = story-taken d past q o.story o.at.story } in
-    let fits : is_same_ident q.sid o.story.sid ≡ true = rw o.is at (fit here) in (
+    let at : AtHome d now n q.t o.script (progressed (with_value q.op q.sid q.value) o.story) = record { script = o.at.script; home = o.at.home; story = story-taken d past q o.story o.at.story } in
+    let fits : is_same_ident q.sid o.story.progress.sid ≡ true = rw o.is at (fit here) in (
       record { n = n; from = y; script = o.script; story = o.story; at = o.at; got = got; reads = o.reads ∙ ap (λ z. Some z) same; same = fits },
-      (let P : Open → Type 0 = λ z. OutsDue d now n m (advance d.cluster (with_reply q z) q.op) in subst P (sym o.is) (due-advance d now n m o.script (with_value q.op q.sid q.value o.story) q.op (at-number d now n q.t o.script (with_value q.op q.sid q.value o.story) at) (open-valued o.script o.story (node d past n) q.op q.sid q.value o.unended))),
+      (let P : Open → Type 0 = λ z. OutsDue d now n m (advance d.cluster (with_reply q z) q.op) in subst P (sym o.is) (due-advance d now n m o.script (progressed (with_value q.op q.sid q.value) o.story) q.op (at-number d now n q.t o.script (progressed (with_value q.op q.sid q.value) o.story) at) (open-valued o.script o.story (node d past n) q.op q.sid q.value o.unended))),
     )
 due-taken d past n m y q x j false o got here fit = tt
 
-due-reply : (d : DocumentData) (past : List Act) (n : NodeId) (m : ℕ) (y : NodeId) (q : ReadRep) (g : Stage) → stage (view d past n) q.t ≡ g → IsGot past n y (message.ReadRep q) → ((x : Open) (j : ℕ) → g ≡ Reads x j → (j == q.op) ≡ true → is_same_ident q.sid x.sid ≡ true) → OutsDue d past n m (reply_row d.cluster q g)
+due-reply : (d : DocumentData) (past : List Act) (n : NodeId) (m : ℕ) (y : NodeId) (q : ReadRep) (g : Stage) → stage (view d past n) q.t ≡ g → IsGot past n y (message.ReadRep q) → ((x : Open) (j : ℕ) → g ≡ Reads x j → (j == q.op) ≡ true → is_same_ident q.sid x.progress.sid ≡ true) → OutsDue d past n m (reply_row d.cluster q g)
 due-reply d past n m y q (Reads x j) e got fit = due-taken d past n m y q x j (j == q.op) (opens-reads d past n q.t x j e) got refl (fit x j refl)
 due-reply d past n m y q (Collects x) e got fit = tt
 due-reply d past n m y q (Commits z acks) e got fit = tt
@@ -71,13 +71,13 @@ due-reply d past n m y q Apart e got fit = tt
 
 -- ---- a vote
 
-phase-collecting : (d : DocumentData) (past : List Act) (n : NodeId) (s : ScriptData) (x : Story) → is_open (phase_at s (Some x) (node d past n)) ≡ true → waiting s.ops x.values ≡ None → phase_at s (Some x) (node d past n) ≡ Collecting
+phase-collecting : (d : DocumentData) (past : List Act) (n : NodeId) (s : ScriptData) (x : Story) → is_open (phase_at s (Some x) (node d past n)) ≡ true → waiting s.ops x.progress.values ≡ None → phase_at s (Some x) (node d past n) ≡ Collecting
 phase-collecting d past n s x unended full = grind (arith, unended, full)
 
 abbrev with_yes : NodeId → Ident → Story → Story
-with_yes x p st = record st { votes = st.votes ++ record { from = x; p = p } ∷ [] }
+with_yes x p = progressed (λ z. record z { votes = z.votes ++ record { from = x; p = p } ∷ [] })
 
-heard-voted : (d : DocumentData) (past : List Act) (n : NodeId) (s : ScriptData) (st : Story) (x : NodeId) (t : TxId) (p : Ident) → s.home ≡ n → s.number ≡ t → phase_at s (Some st) (node d past n) ≡ Collecting → is_small_node (node d past n).journal (node d past n).next ≡ true → is_fit_ballot (ballot.Yes p) ≡ true → is_among x (parts_of d s) ≡ true → has_voted x st.votes ≡ false → heard_at d past (Some s) (Some (record { from = x; to = n; message = message.Vote t (ballot.Yes p) })) (Some st) ≡ Some (with_yes x p st)
+heard-voted : (d : DocumentData) (past : List Act) (n : NodeId) (s : ScriptData) (st : Story) (x : NodeId) (t : TxId) (p : Ident) → s.home ≡ n → s.number ≡ t → phase_at s (Some st) (node d past n) ≡ Collecting → is_small_node (node d past n).journal (node d past n).next ≡ true → is_fit_ballot (ballot.Yes p) ≡ true → is_among x (parts_of d s) ≡ true → has_voted x st.progress.votes ≡ false → heard_at d past (Some s) (Some (record { from = x; to = n; message = message.Vote t (ballot.Yes p) })) (Some st) ≡ Some (with_yes x p st)
 heard-voted d past n s st x t p home number collects small fit part new =
     rw (home, same-number n, collects, small, fit, part, number, same-number t, new) refl
 
@@ -112,7 +112,7 @@ due-aborts d past n m t (y ∷ ns) e = (given_up e, due-aborts d (act.Sent m n y
 opens-update : (d : DocumentData) (past : List Act) (n : NodeId) (t : TxId) (o : Open) (c : Opens d past n t o None) → ReadersAnswered d past → is_update c.script.ops ≡ true
 opens-update d past n t o c told = open-update d past n c.script c.story (is_update c.script.ops) refl c.unended (told t c.script c.story c.at.script c.at.story c.reads)
 
-due-ballot : (d : DocumentData) (before : List Act) (n : NodeId) (k m : ℕ) (t : TxId) (x : NodeId) (b : Ballot) (o : Open) (c : Opens d before n t o None) → ReadersAnswered d before → IsUp d before n → sent_at k (sent before) ≡ Some (record { from = x; to = n; message = message.Vote t b }) → has_voted x c.story.votes ≡ false → is_small_node (node d before n).journal (node d before n).next ≡ true → is_fit_ballot b ≡ true → is_among x (parts_of d c.script) ≡ true → OutsDue d (act.Got k ∷ before) n m (ballot_row t (parts_of d c.script) c.story.votes x b)
+due-ballot : (d : DocumentData) (before : List Act) (n : NodeId) (k m : ℕ) (t : TxId) (x : NodeId) (b : Ballot) (o : Open) (c : Opens d before n t o None) → ReadersAnswered d before → IsUp d before n → sent_at k (sent before) ≡ Some (record { from = x; to = n; message = message.Vote t b }) → has_voted x c.story.progress.votes ≡ false → is_small_node (node d before n).journal (node d before n).next ≡ true → is_fit_ballot b ≡ true → is_among x (parts_of d c.script) ≡ true → OutsDue d (act.Got k ∷ before) n m (ballot_row t (parts_of d c.script) c.story.progress.votes x b)
 due-ballot d before n k m t x (ballot.No why) o c told up got new small fit part =
     let past : List Act = act.Got k ∷ before in
     let number : c.script.number ≡ t = script-number t d.scripts c.script c.at.script in
@@ -135,8 +135,8 @@ due-ballot d before n k m t x (ballot.Yes p) o c told up got new small fit part 
     let number : c.script.number ≡ t = script-number t d.scripts c.script c.at.script in
     let collects = phase-collecting d before n c.script c.story c.unended c.reads in
     let voted : story d past t ≡ Some (with_yes x p c.story) = rw (got, c.at.script, c.at.story) (heard-voted d before n c.script c.story x t p c.at.home number collects small fit part new) in
-    let votes : List Voted = c.story.votes ++ record { from = x; p = p } ∷ [] in
-    let last : p ≤ greatest_vote votes = greatest-last c.story.votes (record { from = x; p = p }) in
+    let votes : List Voted = c.story.progress.votes ++ record { from = x; p = p } ∷ [] in
+    let last : p ≤ greatest_vote votes = greatest-last c.story.progress.votes (record { from = x; p = p }) in
     let least : 1 ≤ p = grind (arith, nat_tests, fit) in
     due-full d past n m t (parts_of d c.script) votes (have_voted (parts_of d c.script) votes) up refl
     (λ all. record {
@@ -152,7 +152,7 @@ due-ballot d before n k m t x (ballot.Yes p) o c told up got new small fit part 
     })
 
 due-vote : (d : DocumentData) (before : List Act) (n : NodeId) (k m : ℕ) (t : TxId) (x : NodeId) (b : Ballot) (g : Stage) → stage (view d before n) t ≡ g → ReadersAnswered d before → IsUp d before n → sent_at k (sent before) ≡ Some (record { from = x; to = n; message = message.Vote t b }) → is_fit_at n (participant (view d before n)) g x (message.Vote t b) ≡ true → OutsDue d (act.Got k ∷ before) n m (vote_row d.cluster t x b g)
-due-vote d before n k m t x b (Collects o) e told up got fit = rw c.is (go (has_voted x c.story.votes) refl)
+due-vote d before n k m t x b (Collects o) e told up got fit = rw c.is (go (has_voted x c.story.progress.votes) refl)
   where
     c : Opens d before n t o None
     c = opens-collects d before n t o e
@@ -166,7 +166,7 @@ due-vote d before n k m t x b (Collects o) e told up got fit = rw c.is (go (has_
     part : is_among x (parts_of d c.script) ≡ true
     part = rw c.is at (and_parts (is_fit_ballot b) (is_among x (parts_now d.cluster o)) rest).1
 
-    go : (v : Bool) → has_voted x c.story.votes ≡ v → OutsDue d (act.Got k ∷ before) n m (if v then [] else ballot_row t (parts_of d c.script) c.story.votes x b)
+    go : (v : Bool) → has_voted x c.story.progress.votes ≡ v → OutsDue d (act.Got k ∷ before) n m (if v then [] else ballot_row t (parts_of d c.script) c.story.progress.votes x b)
     go true new = tt
     go false new = due-ballot d before n k m t x b o c told up got new small (and_parts (is_fit_ballot b) (is_among x (parts_now d.cluster o)) rest).0 part
 due-vote d before n k m t x b (Reads o j) e told up got fit = tt
@@ -205,7 +205,7 @@ due-row_of d before n k m x (message.ReadRep q) told up got fit =
     let same : stage (view d (act.Got k ∷ before) n) q.t ≡ stage (view d before n) q.t = stage-quiet d before k x n (message.ReadRep q) q.t got refl in
     due-reply d (act.Got k ∷ before) n m x q (stage (view d before n) q.t) same got (λ y j e here. reply-fit n (view d before n) y j x q (rw e at fit) here)
   where
-    reply-fit : (n : NodeId) (v : View) (y : Open) (j : ℕ) (x : NodeId) (q : ReadRep) → is_fit_at n (participant v) (Reads y j) x (message.ReadRep q) ≡ true → (j == q.op) ≡ true → is_same_ident q.sid y.sid ≡ true
+    reply-fit : (n : NodeId) (v : View) (y : Open) (j : ℕ) (x : NodeId) (q : ReadRep) → is_fit_at n (participant v) (Reads y j) x (message.ReadRep q) ≡ true → (j == q.op) ≡ true → is_same_ident q.sid y.progress.sid ≡ true
     reply-fit n v y j x q fit here = grind (arith, fit, here)
 due-row_of d before n k m x (message.Prepare q) told up got fit = due-prepare d (act.Got k ∷ before) n m (view d before n) x q refl refl up got (and_parts _ _ fit).1
 due-row_of d before n k m x (message.Vote t b) told up got fit = due-vote d before n k m t x b (stage (view d before n) t) refl told up got fit

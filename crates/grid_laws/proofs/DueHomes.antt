@@ -40,7 +40,7 @@ due-to_node : (d : DocumentData) (past : List Act) (n : NodeId) (m : ℕ) (w : O
 due-to_node d past n m None said go = tt
 due-to_node d past n m (Some y) said go = (go y refl, tt)
 
-due-request_of : (d : DocumentData) (past : List Act) (n : NodeId) (m : ℕ) (s : ScriptData) (x : Story) (j q : ℕ) (o : Option Op) → AtHome d past n s.number s x → waiting s.ops x.values ≡ Some j → op_at s.ops j ≡ o → OutsDue d past n m (request_of d.cluster (open_of s x) j q o)
+due-request_of : (d : DocumentData) (past : List Act) (n : NodeId) (m : ℕ) (s : ScriptData) (x : Story) (j q : ℕ) (o : Option Op) → AtHome d past n s.number s x → waiting s.ops x.progress.values ≡ Some j → op_at s.ops j ≡ o → OutsDue d past n m (request_of d.cluster (open_of s x) j q o)
 due-request_of d past n m s x j q None at reads named = tt
 due-request_of d past n m s x j q (Some o) at reads named =
     due-to_node d past n m (slice_get (preferred d.cluster.places s.home (key_of o)) q) _
@@ -56,10 +56,10 @@ due-request_of d past n m s x j q (Some o) at reads named =
       date = refl;
     })
 
-pub due-request : (d : DocumentData) (past : List Act) (n : NodeId) (m : ℕ) (s : ScriptData) (x : Story) (j q : ℕ) → AtHome d past n s.number s x → waiting s.ops x.values ≡ Some j → OutsDue d past n m (request d.cluster (open_of s x) j q)
+pub due-request : (d : DocumentData) (past : List Act) (n : NodeId) (m : ℕ) (s : ScriptData) (x : Story) (j q : ℕ) → AtHome d past n s.number s x → waiting s.ops x.progress.values ≡ Some j → OutsDue d past n m (request d.cluster (open_of s x) j q)
 due-request d past n m s x j q at reads = due-request_of d past n m s x j q (op_at s.ops j) at reads refl
 
-pub due-prepares : (d : DocumentData) (past : List Act) (n : NodeId) (m : ℕ) (s : ScriptData) (x : Story) (ns : List NodeId) → AtHome d past n s.number s x → waiting s.ops x.values ≡ None → is_update s.ops ≡ true → ((y : NodeId) → is_among y ns ≡ true → is_among y (parts_of d s) ≡ true) → OutsDue d past n m (prepares d.cluster (open_of s x) ns)
+pub due-prepares : (d : DocumentData) (past : List Act) (n : NodeId) (m : ℕ) (s : ScriptData) (x : Story) (ns : List NodeId) → AtHome d past n s.number s x → waiting s.ops x.progress.values ≡ None → is_update s.ops ≡ true → ((y : NodeId) → is_among y ns ≡ true → is_among y (parts_of d s) ≡ true) → OutsDue d past n m (prepares d.cluster (open_of s x) ns)
 due-prepares d past n m s x [] at full update parts = tt
 due-prepares d past n m s x (y ∷ ns) at full update parts = (
   record { script = s; story = x; at = at; full = full; update = update; part = parts y (grind (arith, nat_tests)); is = refl },
@@ -72,15 +72,15 @@ due-owns : (d : DocumentData) (past : List Act) (n : NodeId) (m : ℕ) (t u : Tx
 due-owns d past n m t u s x [] rest at unended go = go past at unended
 due-owns d past n m t u s x (y ∷ ys) rest at unended go = (tt, due-owns d (act.Own t y.0 y.1 ∷ past) n m t u s x ys rest (record { script = at.script; home = at.home; story = at.story }) unended go)
 
-due-end : (d : DocumentData) (past : List Act) (n : NodeId) (m : ℕ) (s : ScriptData) (x : Story) (w : Option ℕ) (b : Bool) → AtHome d past n s.number s x → is_open (phase_at s (Some x) (node d past n)) ≡ true → waiting s.ops x.values ≡ w → is_update s.ops ≡ b → OutsDue d past n m (advance_end d.cluster (open_of s x) w)
+due-end : (d : DocumentData) (past : List Act) (n : NodeId) (m : ℕ) (s : ScriptData) (x : Story) (w : Option ℕ) (b : Bool) → AtHome d past n s.number s x → is_open (phase_at s (Some x) (node d past n)) ≡ true → waiting s.ops x.progress.values ≡ w → is_update s.ops ≡ b → OutsDue d past n m (advance_end d.cluster (open_of s x) w)
 due-end d past n m s x (Some j) b at unended reads update = due-request d past n m s x j 0 at reads
 due-end d past n m s x None true at unended reads update = rw update (due-prepares d past n m s x (parts_of d s) at reads update (λ y i. i))
 due-end d past n m s x None false at unended reads update = rw update (by_reads (record { n = n; script = s; story = x; at = at; unended = rw (at.home, at.story) unended; full = reads; reader = update }), tt)
 
 pub due-advance : (d : DocumentData) (past : List Act) (n : NodeId) (m : ℕ) (s : ScriptData) (x : Story) (i : ℕ) → AtHome d past n s.number s x → is_open (phase_at s (Some x) (node d past n)) ≡ true → OutsDue d past n m (advance d.cluster (open_of s x) i)
 due-advance d past n m s x i at unended =
-    due-owns d past n m s.number s.number s x (filter (λ y. nat_lt i y.0) (own_reads 1 [] unread x.values s.ops)) (advance_end d.cluster (open_of s x) (waiting s.ops x.values)) at unended
-    (λ now at' open'. due-end d now n m s x (waiting s.ops x.values) (is_update s.ops) at' open' refl refl)
+    due-owns d past n m s.number s.number s x (filter (λ y. nat_lt i y.0) (own_reads 1 [] unread x.progress.values s.ops)) (advance_end d.cluster (open_of s x) (waiting s.ops x.progress.values)) at unended
+    (λ now at' open'. due-end d now n m s x (waiting s.ops x.progress.values) (is_update s.ops) at' open' refl refl)
 
 -- ---- a begin
 
@@ -98,7 +98,7 @@ due-begin d past m s is up new none =
 
 -- a read-only transaction whose reads all have their values was answered
 abbrev pub ReadersAnswered : DocumentData → List Act → Type 0
-ReadersAnswered d past = (t : TxId) (s : ScriptData) (x : Story) → script_of t d.scripts ≡ Some s → story d past t ≡ Some x → waiting s.ops x.values ≡ None → is_update s.ops ≡ false → x.finished ≡ true
+ReadersAnswered d past = (t : TxId) (s : ScriptData) (x : Story) → script_of t d.scripts ≡ Some s → story d past t ≡ Some x → waiting s.ops x.progress.values ≡ None → is_update s.ops ≡ false → x.finished ≡ true
 
 -- an open transaction that was not answered is an update
 pub open-update : (d : DocumentData) (past : List Act) (n : NodeId) (s : ScriptData) (x : Story) (b : Bool) → is_update s.ops ≡ b → is_open (phase_at s (Some x) (node d past n)) ≡ true → (is_update s.ops ≡ false → x.finished ≡ true) → is_update s.ops ≡ true
@@ -118,10 +118,10 @@ due-tells d past n m t y (x ∷ ns) is = ((y, is, refl), due-tells d (act.Sent m
 pub due-retry : (d : DocumentData) (past : List Act) (n : NodeId) (m : ℕ) (t : TxId) (g : Stage) → ReadersAnswered d past → stage (view d past n) t ≡ g → OutsDue d past n m (retry_row d.cluster t g)
 due-retry d past n m t (Reads x j) answered e =
     let o : Opens d past n t x (Some j) = opens-reads d past n t x j e in
-    rw o.is (due-request d past n m o.script o.story j o.story.turn (at-number d past n t o.script o.story o.at) o.reads)
+    rw o.is (due-request d past n m o.script o.story j o.story.progress.turn (at-number d past n t o.script o.story o.at) o.reads)
 due-retry d past n m t (Collects x) answered e =
     let o : Opens d past n t x None = opens-collects d past n t x e in
     let update : is_update o.script.ops ≡ true = open-update d past n o.script o.story (is_update o.script.ops) refl o.unended (answered t o.script o.story o.at.script o.at.story o.reads) in
-    rw o.is (due-prepares d past n m o.script o.story (not_voted (parts_of d o.script) o.story.votes) (at-number d past n t o.script o.story o.at) o.reads update (λ y i. among-filter _ (parts_of d o.script) y i))
+    rw o.is (due-prepares d past n m o.script o.story (not_voted (parts_of d o.script) o.story.progress.votes) (at-number d past n t o.script o.story o.at) o.reads update (λ y i. among-filter _ (parts_of d o.script) y i))
 due-retry d past n m t (Commits y acks) answered e = due-tells d past n m t y (not_among y.parts acks) (stage-commits d past n t y acks e)
 due-retry d past n m t Apart answered e = tt

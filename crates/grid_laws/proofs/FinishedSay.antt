@@ -51,7 +51,7 @@ finished-due d past t all (by_decision f before is) =
     let Q : List Act → Type 0 = λ p. FinishedSays d p t in
     let due = (subst P is all).0 in
     subst Q (sym is) (decided-now d before due.0 t f due.1)
-finished-due d past t all (by_reads r) = by_reader r.n r.script (first_sid r.story.sid r.story.sid0) r.story.values (record { story = r.story; at = r.at; ident = refl; told = refl; full = r.full }) r.reader
+finished-due d past t all (by_reads r) = by_reader r.n r.script (first_sid r.story.progress.sid r.story.progress.sid0) r.story.progress.values (record { story = r.story; at = r.at; ident = refl; told = refl; full = r.full }) r.reader
 
 pub finished-say : (d : DocumentData) (past : List Act) → AllDue d past → (t : TxId) → is_finished past t ≡ true → FinishedSays d past t
 finished-say d [] due t e = cc
@@ -78,11 +78,11 @@ finished-update d past all s t is update e = go (finished-say d past all t e)
     go (by_reader n r sid values full u) = (let P : ScriptData → Type 0 = λ z. is_update z.ops ≡ false in absurd (true-false (is_update s.ops) update (subst P (one-script d t r s full.at.script is) u)))
 
 -- a read-only transaction whose client was told has all its values
-pub finished-reader : (d : DocumentData) (past : List Act) → AllDue d past → (s : ScriptData) (t : TxId) → script_of t d.scripts ≡ Some s → is_update s.ops ≡ false → is_finished past t ≡ true → (x : Story) × (story d past t ≡ Some x) × (waiting s.ops x.values ≡ None)
+pub finished-reader : (d : DocumentData) (past : List Act) → AllDue d past → (s : ScriptData) (t : TxId) → script_of t d.scripts ≡ Some s → is_update s.ops ≡ false → is_finished past t ≡ true → (x : Story) × (story d past t ≡ Some x) × (waiting s.ops x.progress.values ≡ None)
 finished-reader d past all s t is reader e = go (finished-say d past all t e)
   where
-    go : FinishedSays d past t → (x : Story) × (story d past t ≡ Some x) × (waiting s.ops x.values ≡ None)
+    go : FinishedSays d past t → (x : Story) × (story d past t ≡ Some x) × (waiting s.ops x.progress.values ≡ None)
     go (by_update f r w there u) = (let P : ScriptData → Type 0 = λ z. is_update z.ops ≡ true in absurd (true-false (is_update s.ops) (subst P (one-script d t r s there is) u) reader))
     go (by_reader n r sid values full u) =
-        let P : ScriptData → Type 0 = λ z. waiting z.ops full.story.values ≡ None in
+        let P : ScriptData → Type 0 = λ z. waiting z.ops full.story.progress.values ≡ None in
         (full.story, full.at.story, subst P (one-script d t r s full.at.script is) (ap (waiting r.ops) full.told ∙ full.full))

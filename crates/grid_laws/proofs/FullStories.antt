@@ -17,7 +17,7 @@ use Rattle.grid_model.specs.declared.stories.Story.{Story}
 use Rattle.grid_model.specs.Documents.{DocumentData}
 use Rattle.grid_model.specs.Histories.{sent, sent_at}
 use Rattle.grid_model.specs.Nodes.{Node, node, script_of, parts_of, is_home}
-use Rattle.grid_model.specs.Stories.{Phase, story, told, asked, heard, heard_at, if_told, first_sid, with_vote, with_ack, has_voted, with_value, begun}
+use Rattle.grid_model.specs.Stories.{Phase, story, told, asked, heard, heard_at, if_told, first_sid, with_vote, with_ack, has_voted, with_value, begun, progressed}
 use Rattle.script_runs.specs.Waits.{waiting}
 use Rattle.grid_model.specs.Copies.{snapshot, snapshot_in}
 use Rattle.grid_laws.proofs.Causes.{AtHome, AllDue, TakenDue, BeganDue}
@@ -26,7 +26,7 @@ use Rattle.grid_laws.proofs.Answered.{is_calm}
 -- a story with the begin, the snapshot and the values of x
 abbrev pub Keeps : Story → Option Story → Type 0
 Keeps x None = ⊥
-Keeps x (Some y) = (y.sid0 ≡ x.sid0) × (y.sid ≡ x.sid) × (y.values ≡ x.values)
+Keeps x (Some y) = (y.progress.sid0 ≡ x.progress.sid0) × (y.progress.sid ≡ x.progress.sid) × (y.progress.values ≡ x.progress.values)
 
 if-told-keeps : (x : Story) (b : Bool) (f : Story → Story) (o : Option Story) → ((y : Story) → Keeps x (Some y) → Keeps x (Some (f y))) → Keeps x o → Keeps x (if_told b f o)
 if-told-keeps x b f None go h = h
@@ -37,13 +37,9 @@ if-keeps : (x : Story) (b : Bool) (o p : Option Story) → Keeps x o → Keeps x
 if-keeps x true o p h k = h
 if-keeps x false o p h k = k
 
-either-keeps : (x : Story) (b : Bool) (y z : Story) → Keeps x (Some y) → Keeps x (Some z) → Keeps x (Some (if b then y else z))
-either-keeps x true y z h k = h
-either-keeps x false y z h k = k
-
 heard-keeps : (x : Story) (ns : List NodeId) (p : Phase) (h : Node) (t : TxId) (n : NodeId) (said : Message) (o : Option Story) → Keeps x o → Keeps x (heard ns p h t n said o)
-heard-keeps x ns p h t n (message.Vote u (ballot.Yes q)) o k = if-told-keeps x _ (with_vote n q) o (λ y i. either-keeps x (has_voted n y.votes) y _ i i) k
-heard-keeps x ns p h t n (message.Ack u) o k = if-told-keeps x _ (with_ack n) o (λ y i. either-keeps x _ y _ i i) k
+heard-keeps x ns p h t n (message.Vote u (ballot.Yes q)) o k = if-told-keeps x _ (progressed (with_vote n q)) o (λ y i. i) k
+heard-keeps x ns p h t n (message.Ack u) o k = if-told-keeps x _ (with_ack n) o (λ y i. i) k
 heard-keeps x ns p h t n said o k = k
 
 got-keeps : (x : Story) (d : DocumentData) (past : List Act) (w : Option ScriptData) (e : Option Envelope) (o : Option Story) → Keeps x o → Keeps x (heard_at d past w e o)
@@ -70,8 +66,8 @@ calm-keeps x d past a t calm k = k
 pub record Full (d : DocumentData) (past : List Act) (n : NodeId) (t : TxId) (s : ScriptData) (sid : Ident) (values : List (ℕ × Value)) : Type 0 where
   pub story : Story
   pub at : AtHome d past n t s story
-  pub ident : first_sid story.sid story.sid0 ≡ sid
-  pub told : story.values ≡ values
+  pub ident : first_sid story.progress.sid story.progress.sid0 ≡ sid
+  pub told : story.progress.values ≡ values
   pub full : waiting s.ops values ≡ None
 
 keeps-full : (d : DocumentData) (past now : List Act) (n : NodeId) (t : TxId) (s : ScriptData) (sid : Ident) (values : List (ℕ × Value)) (f : Full d past n t s sid values) (o : Option Story) → story d now t ≡ o → Keeps f.story o → Full d now n t s sid values
@@ -100,7 +96,7 @@ else-keeps : (x : Story) (b : Bool) (o p : Option Story) → b ≡ false → Kee
 else-keeps x true o p e k = cc
 else-keeps x false o p e k = k
 
-taken-other : (d : DocumentData) (past : List Act) (u t : TxId) (op : ℕ) (sid : Ident) (v : Value) (s : ScriptData) (x : Story) → TakenDue d past u op sid v → script_of t d.scripts ≡ Some s → story d past t ≡ Some x → waiting s.ops x.values ≡ None → u ≢ t
+taken-other : (d : DocumentData) (past : List Act) (u t : TxId) (op : ℕ) (sid : Ident) (v : Value) (s : ScriptData) (x : Story) → TakenDue d past u op sid v → script_of t d.scripts ≡ Some s → story d past t ≡ Some x → waiting s.ops x.progress.values ≡ None → u ≢ t
 taken-other d past u t op sid v s x due is told full same =
     let P : TxId → Type 0 = λ w. script_of w d.scripts ≡ Some due.script in
     let Q : TxId → Type 0 = λ w. story d past w ≡ Some due.story in
@@ -108,8 +104,8 @@ taken-other d past u t op sid v s x due is told full same =
     let b : story d past t ≡ Some due.story = subst Q same due.at.story in
     let e : s ≡ due.script = cc in
     let f : x ≡ due.story = cc in
-    let r : waiting due.script.ops due.story.values ≡ Some op = due.reads in
-    let g : waiting due.script.ops due.story.values ≡ None = rw (e, f) at full in
+    let r : waiting due.script.ops due.story.progress.values ≡ Some op = due.reads in
+    let g : waiting due.script.ops due.story.progress.values ≡ None = rw (e, f) at full in
     none-some op (sym g ∙ r)
   where
     none-some : (j : ℕ) → None ≡ Some j → ⊥
@@ -130,9 +126,9 @@ full-more d past (act.Began u k sid0) n t s sid values due f =
     let other : u ≢ t = began-other d past u t k sid0 f.story due.0 f.at.story in
     keeps-full d past (act.Began u k sid0 ∷ past) n t s sid values f (story d (act.Began u k sid0 ∷ past) t) refl (else-keeps f.story (u == t) (Some (begun sid0)) (story d past t) (grind (arith, nat_tests)) (keeps-self d past t f.story f.at.story))
 full-more d past (act.Taken u op i v) n t s sid values due f =
-    let reads : waiting s.ops f.story.values ≡ None = ap (waiting s.ops) f.told ∙ f.full in
+    let reads : waiting s.ops f.story.progress.values ≡ None = ap (waiting s.ops) f.told ∙ f.full in
     let other : u ≢ t = taken-other d past u t op i v s f.story due.0 f.at.script f.at.story reads in
-    keeps-full d past (act.Taken u op i v ∷ past) n t s sid values f (story d (act.Taken u op i v ∷ past) t) refl (if-other f.story (u == t) (with_value op i v) (story d past t) (grind (arith, nat_tests)) (keeps-self d past t f.story f.at.story))
+    keeps-full d past (act.Taken u op i v ∷ past) n t s sid values f (story d (act.Taken u op i v ∷ past) t) refl (if-other f.story (u == t) (progressed (with_value op i v)) (story d past t) (grind (arith, nat_tests)) (keeps-self d past t f.story f.at.story))
 full-more d past a n t s sid values due f = calm-full d past a n t s sid values refl f
 
 pub full-snapshot : (d : DocumentData) (past : List Act) (n : NodeId) (t : TxId) (s : ScriptData) (sid : Ident) (values : List (ℕ × Value)) → Full d past n t s sid values → snapshot d past t ≡ sid

@@ -24,7 +24,7 @@ use Rattle.grid_model.specs.Documents.{DocumentData}
 use Rattle.grid_model.specs.Histories.{sent, sent_at}
 use Rattle.journal_words.specs.Journals.{floor, Decision, decision}
 use Rattle.grid_model.specs.Nodes.{got, node, script_of, parts_in, parts_of, is_home, Node, Change, Nothing, Writes, Raises, Holds, Frees, Stops, Starts, Stays, change, changed, found, learnt, prepared_by, prepared_from, doubt_of, freed, is_request, said_by, held_by, is_kept, where_at}
-use Rattle.grid_model.specs.Stories.{Phase, story, asked, heard, heard_at, if_told, first_sid, with_vote, with_ack, has_voted, with_value, begun}
+use Rattle.grid_model.specs.Stories.{Phase, story, asked, heard, heard_at, if_told, first_sid, with_vote, with_ack, has_voted, with_value, begun, progressed}
 use Rattle.grid_model.specs.Acts.{EachAct}
 use Rattle.grid_model.specs.Facts.{IsAtMost, act_ident, head_ident, message_ident, outcome_ident}
 use Rattle.grid_model.specs.Rows.{greatest_vote}
@@ -170,14 +170,14 @@ LowIn m (Some sid) = sid ≤ m
 
 abbrev pub IsLowStory : ℕ → Option Story → Type 0
 IsLowStory m None = Unit {0}
-IsLowStory m (Some x) = (x.sid0 ≤ m) × LowIn m x.sid × (greatest_vote x.votes ≤ m)
+IsLowStory m (Some x) = (x.progress.sid0 ≤ m) × LowIn m x.progress.sid × (greatest_vote x.progress.votes ≤ m)
 
 first-low : (m : ℕ) (o : Option Ident) (sid : Ident) → LowIn m o → sid ≤ m → first_sid o sid ≤ m
 first-low m None sid h k = k
 first-low m (Some i) sid h k = h
 
-pub snapshot-low : (m : ℕ) (x : Story) → IsLowStory m (Some x) → first_sid x.sid x.sid0 ≤ m
-snapshot-low m x h = first-low m x.sid x.sid0 h.1 h.0
+pub snapshot-low : (m : ℕ) (x : Story) → IsLowStory m (Some x) → first_sid x.progress.sid x.progress.sid0 ≤ m
+snapshot-low m x h = first-low m x.progress.sid x.progress.sid0 h.1 h.0
 
 if-low : (m : ℕ) (b : Bool) (f : Story → Story) (o : Option Story) → ((x : Story) → IsLowStory m (Some x) → IsLowStory m (Some (f x))) → IsLowStory m o → IsLowStory m (if_told b f o)
 if-low m b f None go h = h
@@ -192,17 +192,13 @@ greatest-more : (m : ℕ) (vs : List Voted) (v : Voted) → greatest_vote vs ≤
 greatest-more m [] v h k = omega arith
 greatest-more m (w ∷ vs) v h k = omega (arith, greatest-more m vs v (omega arith) k)
 
-low-vote : (m : ℕ) (n : NodeId) (p : Ident) (x : Story) (b : Bool) → p ≤ m → IsLowStory m (Some x) → IsLowStory m (Some (if b then x else record x { votes = x.votes ++ record { from = n; p = p } ∷ [] }))
+low-vote : (m : ℕ) (n : NodeId) (p : Ident) (x : Story) (b : Bool) → p ≤ m → IsLowStory m (Some x) → IsLowStory m (Some (record x { progress = record x.progress { votes = if b then x.progress.votes else x.progress.votes ++ record { from = n; p = p } ∷ [] } }))
 low-vote m n p x true h k = k
-low-vote m n p x false h k = (k.0, k.1, greatest-more m x.votes (record { from = n; p = p }) k.2 h)
-
-low-ack : (m : ℕ) (n : NodeId) (x : Story) (b : Bool) → IsLowStory m (Some x) → IsLowStory m (Some (if b then x else record x { acks = x.acks ++ n ∷ [] }))
-low-ack m n x true k = k
-low-ack m n x false k = k
+low-vote m n p x false h k = (k.0, k.1, greatest-more m x.progress.votes (record { from = n; p = p }) k.2 h)
 
 low-heard : (m : ℕ) (ns : List NodeId) (p : Phase) (h : Node) (t : TxId) (n : NodeId) (said : Message) (o : Option Story) → message_ident said ≤ m → IsLowStory m o → IsLowStory m (heard ns p h t n said o)
-low-heard m ns p h t n (message.Vote u (ballot.Yes q)) o i k = if-low m _ (with_vote n q) o (λ x j. low-vote m n q x (has_voted n x.votes) i j) k
-low-heard m ns p h t n (message.Ack u) o i k = if-low m _ (with_ack n) o (λ x j. low-ack m n x (is_among n x.acks) j) k
+low-heard m ns p h t n (message.Vote u (ballot.Yes q)) o i k = if-low m _ (progressed (with_vote n q)) o (λ x j. low-vote m n q x (has_voted n x.progress.votes) i j) k
+low-heard m ns p h t n (message.Ack u) o i k = if-low m _ (with_ack n) o (λ x j. j) k
 low-heard m ns p h t n said o i k = k
 
 low-got : (m : ℕ) (d : DocumentData) (past : List Act) (w : Option ScriptData) (s : Option Envelope) (o : Option Story) → ((e : Envelope) → s ≡ Some e → message_ident e.message ≤ m) → IsLowStory m o → IsLowStory m (heard_at d past w s o)
@@ -218,7 +214,7 @@ low-told : (m : ℕ) (d : DocumentData) (past : List Act) (a : Act) (t : TxId) �
 low-told m d past (act.Began u n sid0) t all h k = either-low m (u == t) (Some (begun sid0)) (story d past t) (h, tt, omega arith) k
 low-told m d past (act.Sent j x y said) t all h k = low-asked m d t said (story d past t) k
 low-told m d past (act.Got j) t all h k = low-got m d past (script_of t d.scripts) (sent_at j (sent past)) (story d past t) (λ e is. messages-low m past all j e is) k
-low-told m d past (act.Taken u op sid v) t all h k = if-low m (u == t) (with_value op sid v) (story d past t) (λ x j. (j.0, first-low m x.sid sid j.1 h, j.2)) k
+low-told m d past (act.Taken u op sid v) t all h k = if-low m (u == t) (progressed (with_value op sid v)) (story d past t) (λ x j. (j.0, first-low m x.progress.sid sid j.1 h, j.2)) k
 low-told m d past (act.Finished u) t all h k = if-low m (u == t) _ (story d past t) (λ x j. j) k
 low-told m d past (act.Aborted u n why) t all h k = if-low m (u == t) _ (story d past t) (λ x j. j) k
 low-told m d past (act.Lost u) t all h k = if-low m (u == t) _ (story d past t) (λ x j. j) k

@@ -52,19 +52,19 @@ pub record RequestDue (d : DocumentData) (past : List Act) (n y : NodeId) (q : R
   pub script : ScriptData
   pub story : Story
   pub at : AtHome d past n q.t script story
-  pub reads : waiting script.ops story.values ≡ Some q.op
+  pub reads : waiting script.ops story.progress.values ≡ Some q.op
   pub op : Op
   pub named : op_at script.ops q.op ≡ Some op
   pub key : q.key ≡ key_of op
   pub holds : IsTrue (holds d.cluster.places y q.key)
-  pub date : q.date ≡ date_by story.sid0 story.sid
+  pub date : q.date ≡ date_by story.progress.sid0 story.progress.sid
 
 -- a home asks a part of an update whose remote reads have their values
 pub record PrepareDue (d : DocumentData) (past : List Act) (n y : NodeId) (q : Prepare) : Type 0 where
   pub script : ScriptData
   pub story : Story
   pub at : AtHome d past n q.t script story
-  pub full : waiting script.ops story.values ≡ None
+  pub full : waiting script.ops story.progress.values ≡ None
   pub update : is_update script.ops ≡ true
   pub part : IsTrue (is_among y (parts_of d script))
   pub is : q ≡ prepare_for d.cluster (open_of script story) y

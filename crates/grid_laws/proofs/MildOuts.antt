@@ -83,8 +83,8 @@ mild-else true os h = refl
 mild-else false os h = h
 
 pub mild-vote : (c : ClusterData) (t : TxId) (x : NodeId) (b : Ballot) (g : Stage) → mild_outs (vote_row c t x b g) ≡ true
-mild-vote c t x (ballot.Yes p) (Collects o) = mild-else (has_voted x o.votes) (full_row t (parts_now c o) (o.votes ++ record { from = x; p = p } ∷ [])) (mild-if (have_voted (parts_now c o) (o.votes ++ record { from = x; p = p } ∷ [])) (decides t (greatest_vote (o.votes ++ record { from = x; p = p } ∷ [])) (parts_now c o)) (mild-tells t (outcome.Commit (greatest_vote (o.votes ++ record { from = x; p = p } ∷ []))) (parts_now c o)))
-mild-vote c t x (ballot.No why) (Collects o) = mild-else (has_voted x o.votes) (ballot_row t (parts_now c o) o.votes x (ballot.No why)) (mild-tells t outcome.Abort (others x (parts_now c o)))
+mild-vote c t x (ballot.Yes p) (Collects o) = mild-else (has_voted x o.progress.votes) (full_row t (parts_now c o) (o.progress.votes ++ record { from = x; p = p } ∷ [])) (mild-if (have_voted (parts_now c o) (o.progress.votes ++ record { from = x; p = p } ∷ [])) (decides t (greatest_vote (o.progress.votes ++ record { from = x; p = p } ∷ [])) (parts_now c o)) (mild-tells t (outcome.Commit (greatest_vote (o.progress.votes ++ record { from = x; p = p } ∷ []))) (parts_now c o)))
+mild-vote c t x (ballot.No why) (Collects o) = mild-else (has_voted x o.progress.votes) (ballot_row t (parts_now c o) o.progress.votes x (ballot.No why)) (mild-tells t outcome.Abort (others x (parts_now c o)))
 mild-vote c t x b (Reads o j) = refl
 mild-vote c t x b (Commits y acks) = refl
 mild-vote c t x b Apart = refl
@@ -123,8 +123,8 @@ mild-request c x j q None = refl
 mild-request c x j q (Some o) = mild-to_node _ _
 
 mild-retry : (c : ClusterData) (t : TxId) (g : Stage) → mild_outs (retry_row c t g) ≡ true
-mild-retry c t (Reads x j) = mild-request c x j x.turn (op_at x.script.ops j)
-mild-retry c t (Collects x) = mild-prepares c x (not_voted (parts_now c x) x.votes)
+mild-retry c t (Reads x j) = mild-request c x j x.progress.turn (op_at x.script.ops j)
+mild-retry c t (Collects x) = mild-prepares c x (not_voted (parts_now c x) x.progress.votes)
 mild-retry c t (Commits y acks) = mild-tells t (outcome.Commit y.final) (not_among y.parts acks)
 mild-retry c t Apart = refl
 

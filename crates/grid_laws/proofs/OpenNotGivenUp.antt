@@ -18,7 +18,7 @@ use Rattle.grid_model.specs.declared.stories.Story.{Story}
 use Rattle.grid_model.specs.Documents.{DocumentData}
 use Rattle.grid_model.specs.Histories.{sent, sent_at}
 use Rattle.grid_model.specs.Nodes.{Node, node, script_of, is_home}
-use Rattle.grid_model.specs.Stories.{Phase, story, phase, phase_at, asked, begun, heard, heard_at, if_told, is_open, with_vote, with_ack, has_voted}
+use Rattle.grid_model.specs.Stories.{Phase, story, phase, phase_at, asked, begun, heard, heard_at, if_told, is_open, with_vote, with_ack, has_voted, progressed}
 use Rattle.grid_model.specs.Facts.{is_given_up}
 use Rattle.grid_model.proofs.Undecided.{script-number}
 use Rattle.grid_laws.proofs.Frames.{same-number}
@@ -39,13 +39,9 @@ either-flagged : (b : Bool) (o p : Option Story) → IsFlagged o → IsFlagged p
 either-flagged true o p h k = h
 either-flagged false o p h k = k
 
-either-story : (b : Bool) (x y : Story) → IsFlagged (Some x) → IsFlagged (Some y) → IsFlagged (Some (if b then x else y))
-either-story true x y h k = h
-either-story false x y h k = k
-
 flagged-heard : (ns : List NodeId) (p : Phase) (h : Node) (t : TxId) (n : NodeId) (said : Message) (o : Option Story) → IsFlagged o → IsFlagged (heard ns p h t n said o)
-flagged-heard ns p h t n (message.Vote u (ballot.Yes q)) o k = if-flagged _ (with_vote n q) o (λ y i. either-story (has_voted n y.votes) y _ i i) k
-flagged-heard ns p h t n (message.Ack u) o k = if-flagged _ (with_ack n) o (λ y i. either-story (is_among n y.acks) y _ i i) k
+flagged-heard ns p h t n (message.Vote u (ballot.Yes q)) o k = if-flagged _ (progressed (with_vote n q)) o (λ y i. i) k
+flagged-heard ns p h t n (message.Ack u) o k = if-flagged _ (with_ack n) o (λ y i. i) k
 flagged-heard ns p h t n said o k = k
 
 flagged-got : (d : DocumentData) (past : List Act) (w : Option ScriptData) (m : Option Envelope) (o : Option Story) → IsFlagged o → IsFlagged (heard_at d past w m o)

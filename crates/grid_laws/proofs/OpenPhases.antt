@@ -5,7 +5,7 @@ use Rattle.script_lang.specs.declared.scripts.Op.{Op}
 use Rattle.script_lang.specs.Scripts.{ScriptData}
 use Rattle.grid_model.specs.declared.stories.Story.{Story}
 use Rattle.grid_model.specs.Nodes.{Node}
-use Rattle.grid_model.specs.Stories.{Answered, phase_by, phase_at, is_open, open_phase, begun, with_value}
+use Rattle.grid_model.specs.Stories.{Answered, phase_by, phase_at, is_open, open_phase, begun, with_value, progressed}
 use Rattle.script_runs.specs.Waits.{waiting}
 use Rattle.script_lang.specs.Reads.{is_update}
 use Rattle.std.specs.Prelude.{◌&&◌, not, if◌then◌else◌}
@@ -50,10 +50,10 @@ open-either false v None e = refl
 open-either false v (Some j) e = refl
 
 -- a value more leaves it open
-pub open-valued : (s : ScriptData) (x : Story) (h : Node) (j sid v : ℕ) → is_open (phase_at s (Some x) h) ≡ true → is_open (phase_at s (Some (with_value j sid v x)) h) ≡ true
+pub open-valued : (s : ScriptData) (x : Story) (h : Node) (j sid v : ℕ) → is_open (phase_at s (Some x) h) ≡ true → is_open (phase_at s (Some (progressed (with_value j sid v) x)) h) ≡ true
 open-valued s x h j sid v e =
     let was = open-is s x h e in
     let l = was.lost in
     let a = was.aborted in
     let u = was.undecided in
-    rw (u, l, a) (open-either (x.finished && not (is_update s.ops)) (waiting s.ops x.values) (waiting s.ops (with_value j sid v x).values) (rw (u, l, a) at e))
+    rw (u, l, a) (open-either (x.finished && not (is_update s.ops)) (waiting s.ops x.progress.values) (waiting s.ops (progressed (with_value j sid v) x).progress.values) (rw (u, l, a) at e))

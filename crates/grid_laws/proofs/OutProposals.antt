@@ -18,7 +18,7 @@ use Rattle.grid_model.specs.declared.messages.Message.{Message}
 use Rattle.grid_model.specs.declared.messages.Message.TheVariants as message
 use Rattle.grid_model.specs.declared.messages.ReadRep.{ReadRep}
 use Rattle.journal_words.specs.Journals.{commit_id}
-use Rattle.grid_model.specs.Stories.{first_sid}
+use Rattle.grid_model.specs.Stories.{with_value}
 use Rattle.script_runs.specs.Waits.{waiting}
 use Rattle.grid_model.specs.Views.{stage, Stage, View, Open, Reads, Collects, Commits, Apart, participant}
 use Rattle.grid_model.specs.Advances.{advance, advance_end, owns}
@@ -111,11 +111,11 @@ none-shown t [] = refl
 none-shown t (y ∷ ys) = omega (arith, none-shown t ys)
 
 none-advance : (c : ClusterData) (x : Open) (i : ℕ) → outs_weight (advance c x i) ≡ 0
-none-advance c x i = none-append (owns x.script.number i (own_reads 1 [] unread x.values x.script.ops)) (advance_end c x (waiting x.script.ops x.values)) (none-shown x.script.number (filter (λ y. nat_lt i y.0) (own_reads 1 [] unread x.values x.script.ops))) (none-mild (advance_end c x (waiting x.script.ops x.values)) (mild-end c x (waiting x.script.ops x.values)))
+none-advance c x i = none-append (owns x.script.number i (own_reads 1 [] unread x.progress.values x.script.ops)) (advance_end c x (waiting x.script.ops x.progress.values)) (none-shown x.script.number (filter (λ y. nat_lt i y.0) (own_reads 1 [] unread x.progress.values x.script.ops))) (none-mild (advance_end c x (waiting x.script.ops x.progress.values)) (mild-end c x (waiting x.script.ops x.progress.values)))
 
 none-reply : (c : ClusterData) (q : ReadRep) (g : Stage) → outs_weight (reply_row c q g) ≡ 0
 none-reply c q (Reads x j) =
-    let y : Open = record x { turn = 0; sid = Some (first_sid x.sid q.sid); values = x.values ++ (q.op, q.value) ∷ [] } in
+    let y : Open = record x { progress = with_value q.op q.sid q.value x.progress } in
     let o : Out = out.Act (act.Taken q.t q.op q.sid q.value) in
     none-if (j == q.op) (o ∷ advance c y q.op) (none-behind o (advance c y q.op) refl (none-advance c y q.op))
 none-reply c q (Collects x) = refl

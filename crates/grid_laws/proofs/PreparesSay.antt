@@ -35,7 +35,7 @@ use Rattle.grid_model.specs.declared.stories.Story.{Story}
 
 -- a transaction with this snapshot and these values
 abbrev pub open_with : ScriptData → Ident → List (ℕ × Value) → Open
-open_with s sid values = record { script = s; sid0 = 0; sid = Some sid; values = values; votes = []; turn = 0 }
+open_with s sid values = record { script = s; progress = record { sid0 = 0; sid = Some sid; values = values; votes = []; turn = 0 } }
 
 -- the Prepare that n, the home of an update with all its values, sends to its part y
 pub record PrepareSays (d : DocumentData) (past : List Act) (n y : NodeId) (q : Prepare) : Type 0 where
@@ -51,11 +51,11 @@ prepare-more d past a n y q due s = record { script = s.script; values = s.value
 
 prepare-due : (d : DocumentData) (past : List Act) (n y : NodeId) (q : Prepare) → PrepareDue d past n y q → PrepareSays d past n y q
 prepare-due d past n y q due =
-    let sid : q.sid ≡ first_sid due.story.sid due.story.sid0 = ap (λ (z : Prepare). z.sid) due.is in
-    let P : Ident → Type 0 = λ i. q ≡ prepare_for d.cluster (open_with due.script i due.story.values) y in
+    let sid : q.sid ≡ first_sid due.story.progress.sid due.story.progress.sid0 = ap (λ (z : Prepare). z.sid) due.is in
+    let P : Ident → Type 0 = λ i. q ≡ prepare_for d.cluster (open_with due.script i due.story.progress.values) y in
     record {
       script = due.script;
-      values = due.story.values;
+      values = due.story.progress.values;
       full = record { story = due.story; at = due.at; ident = sym sid; told = refl; full = due.full };
       update = due.update;
       part = due.part;
@@ -107,8 +107,8 @@ say-same d past x y n q p a b same =
     let g : Full d past y p.t b.script p.sid b.values = b.full in
     let scripts : a.script ≡ b.script = one-script a.script b.script (sym f.at.script ∙ g.at.script) in
     let stories : f.story ≡ g.story = one-story f.story g.story (sym f.at.story ∙ g.at.story) in
-    let values : a.values ≡ b.values = sym f.told ∙ ap (λ (z : Story). z.values) stories ∙ g.told in
-    let idents : q.sid ≡ p.sid = sym f.ident ∙ ap (λ (z : Story). first_sid z.sid z.sid0) stories ∙ g.ident in
+    let values : a.values ≡ b.values = sym f.told ∙ ap (λ (z : Story). z.progress.values) stories ∙ g.told in
+    let idents : q.sid ≡ p.sid = sym f.ident ∙ ap (λ (z : Story). first_sid z.progress.sid z.progress.sid0) stories ∙ g.ident in
     let homes : x ≡ y = sym f.at.home ∙ ap (λ (z : ScriptData). z.home) scripts ∙ g.at.home in (
       homes,
       a.is

@@ -52,7 +52,7 @@ request-due : (d : DocumentData) (past : List Act) (n y : NodeId) (q : ReadReq) 
 request-due d past n y q all due c = elim (story-step d past q.t due.script due.story all due.at.script due.at.story) [
   | inl none ↦ record { script = due.script; is = due.at.script; dated = inl (ap (waiting due.script.ops) (sym none.1) ∙ due.reads) }
   | inr some ↦
-      let date : dated q.date c ≡ some.sid = ap (λ z. dated z c) due.date ∙ ap (λ o. dated (date_by due.story.sid0 o) c) some.is in
+      let date : dated q.date c ≡ some.sid = ap (λ z. dated z c) due.date ∙ ap (λ o. dated (date_by due.story.progress.sid0 o) c) some.is in
       record { script = due.script; is = due.at.script; dated = inr (snapshot-told d past q.t due.story (dated q.date c) due.at.story (some.is ∙ ap (λ z. Some z) (sym date))) }
 ]
 

@@ -43,18 +43,18 @@ some-same : (sid : Ident) (o : Option Ident) → o ≡ Some sid → is_same_iden
 some-same sid None e = cc
 some-same sid (Some s) e = grind (arith, nat_tests, e)
 
-same-ident : (d : DocumentData) (past : List Act) (n : NodeId) (t : TxId) (op : ℕ) (sid : Ident) (x : Open) → AllDue d past → IsDated d past t op sid → Opens d past n t x (Some op) → is_same_ident sid x.sid ≡ true
+same-ident : (d : DocumentData) (past : List Act) (n : NodeId) (t : TxId) (op : ℕ) (sid : Ident) (x : Open) → AllDue d past → IsDated d past t op sid → Opens d past n t x (Some op) → is_same_ident sid x.progress.sid ≡ true
 same-ident d past n t op sid x due h o =
     let same : h.script ≡ o.script = equal-script h.script o.script (sym h.is ∙ o.at.script) in
-    let told : x.sid ≡ o.story.sid = ap (λ (z : Open). z.sid) o.is in
+    let told : x.progress.sid ≡ o.story.progress.sid = ap (λ (z : Open). z.progress.sid) o.is in
     elim h.dated [
       | inl first ↦
           let begins : waiting o.script.ops [] ≡ Some op = ap (λ (z : ScriptData). waiting z.ops []) (sym same) ∙ first in
           elim (story-step d past t o.script o.story due o.at.script o.at.story) [
-            | inl none ↦ none-same sid x.sid (told ∙ none.0)
-            | inr some ↦ absurd (first-untaken o.script.ops o.story.sid o.story.values op begins o.reads some)
+            | inl none ↦ none-same sid x.progress.sid (told ∙ none.0)
+            | inr some ↦ absurd (first-untaken o.script.ops o.story.progress.sid o.story.progress.values op begins o.reads some)
           ]
-      | inr later ↦ some-same sid x.sid (told ∙ snapshot-of d past t o.story sid o.at.story later)
+      | inr later ↦ some-same sid x.progress.sid (told ∙ snapshot-of d past t o.story sid o.at.story later)
     ]
   where
     equal-script : (y z : ScriptData) → Some y ≡ Some z → y ≡ z
@@ -63,7 +63,7 @@ same-ident d past n t op sid x due h o =
 pub dated-fit : (d : DocumentData) (past : List Act) (n : NodeId) (q : ReadRep) (s : Stage) → stage (view d past n) q.t ≡ s → AllDue d past → IsDated d past q.t q.op q.sid → is_fit_reply q s ≡ true
 dated-fit d past n q (Reads x j) is due h = go (j == q.op) refl
   where
-    go : (b : Bool) → (j == q.op) ≡ b → (not b || is_same_ident q.sid x.sid) ≡ true
+    go : (b : Bool) → (j == q.op) ≡ b → (not b || is_same_ident q.sid x.progress.sid) ≡ true
     go false e = refl
     go true e =
         let same : j ≡ q.op = grind (arith, nat_tests, e) in

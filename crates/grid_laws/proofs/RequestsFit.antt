@@ -28,7 +28,7 @@ request-due : (d : DocumentData) (past : List Act) (n y : NodeId) (q : ReadReq) 
 request-due d past n y q one due =
     let s : ScriptData = due.script in
     let short : length s.ops ≤ 32 = body-most d q.t s one due.at.script in
-    let w = waiting-open 1 q.op [] due.story.values s.ops due.reads in
+    let w = waiting-open 1 q.op [] due.story.progress.values s.ops due.reads in
     let within = slice_get_within s.ops _ _ w.read in
     let least = w.least in
     let held : holds d.cluster.places y q.key ≡ true = due.holds in

@@ -18,7 +18,7 @@ use Rattle.grid_model.specs.declared.stories.Story.{Story}
 use Rattle.grid_model.specs.Documents.{DocumentData}
 use Rattle.grid_model.specs.Histories.{sent, sent_at}
 use Rattle.grid_model.specs.Nodes.{Node, node, script_of, parts_of, is_home}
-use Rattle.grid_model.specs.Stories.{Phase, story, asked, heard, heard_at, if_told, phase_at, first_sid, with_vote, with_ack, with_value, has_voted, begun}
+use Rattle.grid_model.specs.Stories.{Phase, story, asked, heard, heard_at, if_told, phase_at, first_sid, with_vote, with_ack, with_value, has_voted, begun, progressed}
 use Rattle.script_runs.specs.Waits.{value_taken, waiting}
 use Rattle.script_runs.proofs.Walks.{taken-stays, taken-new, waiting-open}
 use Rattle.grid_laws.proofs.Causes.{AllDue, BeganDue, TakenDue}
@@ -28,9 +28,9 @@ use Rattle.grid_laws.proofs.Causes.{AllDue, BeganDue, TakenDue}
 -- the claim of a story, or another where nothing is told
 abbrev pub OfStory : Type 0 → (Option Ident → List (ℕ × Value) → Type 0) → Option Story → Type 0
 OfStory N Q None = N
-OfStory N Q (Some x) = Q x.sid x.values
+OfStory N Q (Some x) = Q x.progress.sid x.progress.values
 
-pub if-of : (N : Type 0) (Q : Option Ident → List (ℕ × Value) → Type 0) (b : Bool) (f : Story → Story) (o : Option Story) → ((y : Story) → Q y.sid y.values → Q (f y).sid (f y).values) → OfStory N Q o → OfStory N Q (if_told b f o)
+pub if-of : (N : Type 0) (Q : Option Ident → List (ℕ × Value) → Type 0) (b : Bool) (f : Story → Story) (o : Option Story) → ((y : Story) → Q y.progress.sid y.progress.values → Q (f y).progress.sid (f y).progress.values) → OfStory N Q o → OfStory N Q (if_told b f o)
 if-of N Q b f None go h = h
 if-of N Q true f (Some y) go h = go y h
 if-of N Q false f (Some y) go h = h
@@ -39,13 +39,9 @@ else-of : (N : Type 0) (Q : Option Ident → List (ℕ × Value) → Type 0) (b 
 else-of N Q true o p h k = h refl
 else-of N Q false o p h k = k
 
-either-of : (Q : Option Ident → List (ℕ × Value) → Type 0) (b : Bool) (y z : Story) → Q y.sid y.values → Q z.sid z.values → Q (if b then y else z).sid (if b then y else z).values
-either-of Q true y z h k = h
-either-of Q false y z h k = k
-
 heard-of : (N : Type 0) (Q : Option Ident → List (ℕ × Value) → Type 0) (ns : List NodeId) (p : Phase) (h : Node) (t : TxId) (n : NodeId) (said : Message) (o : Option Story) → OfStory N Q o → OfStory N Q (heard ns p h t n said o)
-heard-of N Q ns p h t n (message.Vote u (ballot.Yes q)) o k = if-of N Q _ (with_vote n q) o (λ y i. either-of Q (has_voted n y.votes) y _ i i) k
-heard-of N Q ns p h t n (message.Ack u) o k = if-of N Q _ (with_ack n) o (λ y i. either-of Q _ y _ i i) k
+heard-of N Q ns p h t n (message.Vote u (ballot.Yes q)) o k = if-of N Q _ (progressed (with_vote n q)) o (λ y i. i) k
+heard-of N Q ns p h t n (message.Ack u) o k = if-of N Q _ (with_ack n) o (λ y i. i) k
 heard-of N Q ns p h t n said o k = k
 
 pub got-of : (N : Type 0) (Q : Option Ident → List (ℕ × Value) → Type 0) (d : DocumentData) (past : List Act) (w : Option ScriptData) (e : Option Envelope) (o : Option Story) → OfStory N Q o → OfStory N Q (heard_at d past w e o)
@@ -66,20 +62,20 @@ began-of N Q d past u t n sid0 due began k e =
     let R : Option Story → Type 0 = λ o. OfStory N Q o in
     began (subst R (subst P (equal u t e) due.new) k)
 
-taken-of : (N : Type 0) (Q : Option Ident → List (ℕ × Value) → Type 0) (d : DocumentData) (past : List Act) (u t : TxId) (op : ℕ) (sid : Ident) (v : Value) (b : Bool) (o : Option Story) → (u == t) ≡ b → story d past t ≡ o → TakenDue d past u op sid v → ((w : TakenDue d past t op sid v) → Q w.story.sid w.story.values → Q (Some (first_sid w.story.sid sid)) (w.story.values ++ (op, v) ∷ [])) → OfStory N Q o → OfStory N Q (if_told b (with_value op sid v) o)
+taken-of : (N : Type 0) (Q : Option Ident → List (ℕ × Value) → Type 0) (d : DocumentData) (past : List Act) (u t : TxId) (op : ℕ) (sid : Ident) (v : Value) (b : Bool) (o : Option Story) → (u == t) ≡ b → story d past t ≡ o → TakenDue d past u op sid v → ((w : TakenDue d past t op sid v) → Q w.story.progress.sid w.story.progress.values → Q (Some (first_sid w.story.progress.sid sid)) (w.story.progress.values ++ (op, v) ∷ [])) → OfStory N Q o → OfStory N Q (if_told b (progressed (with_value op sid v)) o)
 taken-of N Q d past u t op sid v b None e told due go k = k
 taken-of N Q d past u t op sid v false (Some x) e told due go k = k
 taken-of N Q d past u t op sid v true (Some x) e told due go k =
     let P : TxId → Type 0 = λ z. TakenDue d past z op sid v in
     let w : TakenDue d past t op sid v = subst P (equal u t e) due in
-    let R : Story → Type 0 = λ z. Q z.sid z.values → Q (Some (first_sid z.sid sid)) (z.values ++ (op, v) ∷ []) in
+    let R : Story → Type 0 = λ z. Q z.progress.sid z.progress.values → Q (Some (first_sid z.progress.sid sid)) (z.progress.values ++ (op, v) ∷ []) in
     subst R (same w.story x (sym w.at.story ∙ told)) (go w) k
   where
     same : (y z : Story) → Some y ≡ Some z → y ≡ z
     same y z i = cc
 
 -- the claim stays, where it holds of a story that begins and of one that takes a value
-pub of-more : (N : Type 0) (Q : Option Ident → List (ℕ × Value) → Type 0) (d : DocumentData) (past : List Act) (a : Act) (t : TxId) → (N → Q None []) → ((op : ℕ) (sid : Ident) (v : Value) (w : TakenDue d past t op sid v) → Q w.story.sid w.story.values → Q (Some (first_sid w.story.sid sid)) (w.story.values ++ (op, v) ∷ [])) → AllDue d (a ∷ past) → OfStory N Q (story d past t) → OfStory N Q (story d (a ∷ past) t)
+pub of-more : (N : Type 0) (Q : Option Ident → List (ℕ × Value) → Type 0) (d : DocumentData) (past : List Act) (a : Act) (t : TxId) → (N → Q None []) → ((op : ℕ) (sid : Ident) (v : Value) (w : TakenDue d past t op sid v) → Q w.story.progress.sid w.story.progress.values → Q (Some (first_sid w.story.progress.sid sid)) (w.story.progress.values ++ (op, v) ∷ [])) → AllDue d (a ∷ past) → OfStory N Q (story d past t) → OfStory N Q (story d (a ∷ past) t)
 of-more N Q d past (act.Began u n sid0) t began taken due k = else-of N Q (u == t) (Some (begun sid0)) (story d past t) (λ e. began-of N Q d past u t n sid0 due.0 began k e) k
 of-more N Q d past (act.Taken u op sid v) t began taken due k = taken-of N Q d past u t op sid v (u == t) (story d past t) refl refl due.0 (taken op sid v) k
 of-more N Q d past (act.Sent m n y said) t began taken due k = asked-of N Q d t said (story d past t) k
@@ -98,16 +94,16 @@ HasSnapshot d past t sid = OfStory ⊥ (λ o values. o ≡ Some sid) (story d pa
 
 -- it never changes
 pub snapshot-more : (d : DocumentData) (past : List Act) (a : Act) (t : TxId) (sid : Ident) → AllDue d (a ∷ past) → HasSnapshot d past t sid → HasSnapshot d (a ∷ past) t sid
-snapshot-more d past a t sid due k = of-more ⊥ (λ o values. o ≡ Some sid) d past a t (λ n. absurd n) (λ op i v w e. stays w.story.sid i e) due k
+snapshot-more d past a t sid due k = of-more ⊥ (λ o values. o ≡ Some sid) d past a t (λ n. absurd n) (λ op i v w e. stays w.story.progress.sid i e) due k
   where
     stays : (o : Option Ident) (i : Ident) → o ≡ Some sid → Some (first_sid o i) ≡ Some sid
     stays None i e = cc
     stays (Some s) i e = e
 
-pub snapshot-told : (d : DocumentData) (past : List Act) (t : TxId) (x : Story) (sid : Ident) → story d past t ≡ Some x → x.sid ≡ Some sid → HasSnapshot d past t sid
+pub snapshot-told : (d : DocumentData) (past : List Act) (t : TxId) (x : Story) (sid : Ident) → story d past t ≡ Some x → x.progress.sid ≡ Some sid → HasSnapshot d past t sid
 snapshot-told d past t x sid told e = let P : Option Story → Type 0 = λ o. OfStory ⊥ (λ o values. o ≡ Some sid) o in subst P (sym told) e
 
-pub snapshot-of : (d : DocumentData) (past : List Act) (t : TxId) (x : Story) (sid : Ident) → story d past t ≡ Some x → HasSnapshot d past t sid → x.sid ≡ Some sid
+pub snapshot-of : (d : DocumentData) (past : List Act) (t : TxId) (x : Story) (sid : Ident) → story d past t ≡ Some x → HasSnapshot d past t sid → x.progress.sid ≡ Some sid
 snapshot-of d past t x sid told k = let P : Option Story → Type 0 = λ o. OfStory ⊥ (λ o values. o ≡ Some sid) o in subst P told k
 
 -- ---- the first value
@@ -148,12 +144,12 @@ stories-step d (a ∷ past) t s due is =
     of-more (Unit {0}) (IsInStep s.ops) d past a t (λ n. inl (refl, refl))
     (λ op sid v w h.
     let same : w.script ≡ s = equal-script w.script s (sym w.at.script ∙ is) in
-    let reads : waiting s.ops w.story.values ≡ Some op = ap (λ (z : ScriptData). waiting z.ops w.story.values) (sym same) ∙ w.reads in
-    step-more s.ops w.story.sid w.story.values op sid v reads h)
+    let reads : waiting s.ops w.story.progress.values ≡ Some op = ap (λ (z : ScriptData). waiting z.ops w.story.progress.values) (sym same) ∙ w.reads in
+    step-more s.ops w.story.progress.sid w.story.progress.values op sid v reads h)
     due (stories-step d past t s due.1 is)
   where
     equal-script : (y z : ScriptData) → Some y ≡ Some z → y ≡ z
     equal-script y z e = cc
 
-pub story-step : (d : DocumentData) (past : List Act) (t : TxId) (s : ScriptData) (x : Story) → AllDue d past → script_of t d.scripts ≡ Some s → story d past t ≡ Some x → IsInStep s.ops x.sid x.values
+pub story-step : (d : DocumentData) (past : List Act) (t : TxId) (s : ScriptData) (x : Story) → AllDue d past → script_of t d.scripts ≡ Some s → story d past t ≡ Some x → IsInStep s.ops x.progress.sid x.progress.values
 story-step d past t s x due is told = let P : Option Story → Type 0 = λ o. OfStory (Unit {0}) (IsInStep s.ops) o in subst P told (stories-step d past t s due is)

@@ -48,7 +48,7 @@ pub record Opens (d : DocumentData) (past : List Act) (n : NodeId) (t : TxId) (x
   pub at : AtHome d past n t script story
   pub unended : is_open (phase_at script (Some story) (node d past n)) ≡ true
   pub is : x ≡ open_of script story
-  pub reads : waiting script.ops story.values ≡ w
+  pub reads : waiting script.ops story.progress.values ≡ w
   pub new : undone t (node d past n).journal ≡ None
 
 -- the script and the story of an open transaction
@@ -74,7 +74,7 @@ open-some : (n : NodeId) (h : Node) (o : Option ScriptData) (y : Option Story) (
 open-some n h None y x e = cc
 open-some n h (Some s) y x e = open-home n h s y x (s.home == n) refl e
 
-opens-at : (d : DocumentData) (past : List Act) (n : NodeId) (t : TxId) (x : Open) (w : Option ℕ) → undone t (node d past n).journal ≡ None → OpenAt n (node d past n) (script_of t d.scripts) (story d past t) x → waiting x.script.ops x.values ≡ w → Opens d past n t x w
+opens-at : (d : DocumentData) (past : List Act) (n : NodeId) (t : TxId) (x : Open) (w : Option ℕ) → undone t (node d past n).journal ≡ None → OpenAt n (node d past n) (script_of t d.scripts) (story d past t) x → waiting x.script.ops x.progress.values ≡ w → Opens d past n t x w
 opens-at d past n t x w new o reads =
     record {
       script = o.script;
@@ -91,14 +91,14 @@ stage-open d past n t (Some y) o acks x None e f is = cc
 stage-open d past n t (Some y) o acks x (Some j) e f is = cc
 stage-open d past n t None None acks x None e f is = cc
 stage-open d past n t None None acks x (Some j) e f is = cc
-stage-open d past n t None (Some y) acks x w e f is = same (waiting y.script.ops y.values) w refl is
+stage-open d past n t None (Some y) acks x w e f is = same (waiting y.script.ops y.progress.values) w refl is
   where
-    same : (v w : Option ℕ) → waiting y.script.ops y.values ≡ v → open_stage y v ≡ open_stage x w → Opens d past n t x w
-    same None None r is = let s : y ≡ x = cc in opens-at d past n t x None e (open-some n (node d past n) (script_of t d.scripts) (story d past t) x (f ∙ ap (λ z. Some z) s)) (ap (λ (z : Open). waiting z.script.ops z.values) (sym s) ∙ r)
+    same : (v w : Option ℕ) → waiting y.script.ops y.progress.values ≡ v → open_stage y v ≡ open_stage x w → Opens d past n t x w
+    same None None r is = let s : y ≡ x = cc in opens-at d past n t x None e (open-some n (node d past n) (script_of t d.scripts) (story d past t) x (f ∙ ap (λ z. Some z) s)) (ap (λ (z : Open). waiting z.script.ops z.progress.values) (sym s) ∙ r)
     same (Some i) (Some j) r is =
         let s : y ≡ x = cc in
         let k : i ≡ j = cc in
-        opens-at d past n t x (Some j) e (open-some n (node d past n) (script_of t d.scripts) (story d past t) x (f ∙ ap (λ z. Some z) s)) (ap (λ (z : Open). waiting z.script.ops z.values) (sym s) ∙ r ∙ ap (λ z. Some z) k)
+        opens-at d past n t x (Some j) e (open-some n (node d past n) (script_of t d.scripts) (story d past t) x (f ∙ ap (λ z. Some z) s)) (ap (λ (z : Open). waiting z.script.ops z.progress.values) (sym s) ∙ r ∙ ap (λ z. Some z) k)
     same None (Some j) r is = cc
     same (Some i) None r is = cc
 
@@ -110,7 +110,7 @@ opens-collects d past n t x e = stage-open d past n t (undone t (node d past n).
 
 commits-by : (u : Option Decision) (o : Option Open) (acks : List NodeId) (y : Decision) (some : List NodeId) → stage_by u o acks ≡ Commits y some → u ≡ Some y
 commits-by (Some z) o acks y some e = cc
-commits-by None (Some x) acks y some e = other (waiting x.script.ops x.values) e
+commits-by None (Some x) acks y some e = other (waiting x.script.ops x.progress.values) e
   where
     other : (w : Option ℕ) → open_stage x w ≡ Commits y some → None ≡ Some y
     other None e = cc

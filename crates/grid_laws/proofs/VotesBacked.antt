@@ -20,7 +20,7 @@ use Rattle.grid_model.specs.declared.stories.Voted.{Voted}
 use Rattle.grid_model.specs.Documents.{DocumentData}
 use Rattle.grid_model.specs.Histories.{sent, sent_at}
 use Rattle.grid_model.specs.Nodes.{Node, node, journal, script_of, parts_of, is_home}
-use Rattle.grid_model.specs.Stories.{Phase, Unbegun, Lost, Closed, Decided, Aborted, Answered, Reading, Collecting, story, asked, heard, heard_at, if_told, phase_at, with_vote, with_ack, has_voted, is_counted_vote, is_counted_ack, begun}
+use Rattle.grid_model.specs.Stories.{Phase, Unbegun, Lost, Closed, Decided, Aborted, Answered, Reading, Collecting, story, asked, heard, heard_at, if_told, phase_at, with_vote, with_ack, has_voted, is_counted_vote, is_counted_ack, begun, progressed}
 use Rattle.journal_words.specs.Journals.{has_prepared, has_commit}
 use Rattle.grid_model.specs.Facts.{parts_at, Says}
 use Rattle.grid_model.specs.Rows.{greatest_vote, have_voted, are_all_among}
@@ -49,7 +49,7 @@ AllAcks d past t (k ∷ ks) = (has_commit t (journal d past k) ≡ true) × AllA
 
 abbrev pub StoryBacked : DocumentData → List Act → TxId → Option Story → Type 0
 StoryBacked d past t None = Unit {0}
-StoryBacked d past t (Some x) = AllVotes d past t x.votes × AllAcks d past t x.acks
+StoryBacked d past t (Some x) = AllVotes d past t x.progress.votes × AllAcks d past t x.acks
 
 votes-last : (d : DocumentData) (past : List Act) (t : TxId) (vs : List Voted) (v : Voted) → AllVotes d past t vs → VoteHolds d past t v → AllVotes d past t (vs ++ v ∷ [])
 votes-last d past t [] v h k = (k, tt)
@@ -69,7 +69,7 @@ acks-more d past a t (k ∷ ks) h = (commit-more d past a k t h.0, acks-more d p
 
 story-more : (d : DocumentData) (past : List Act) (a : Act) (t : TxId) (o : Option Story) → StoryBacked d past t o → StoryBacked d (a ∷ past) t o
 story-more d past a t None h = tt
-story-more d past a t (Some x) h = (votes-more d past a t x.votes h.0, acks-more d past a t x.acks h.1)
+story-more d past a t (Some x) h = (votes-more d past a t x.progress.votes h.0, acks-more d past a t x.acks h.1)
 
 -- ---- one act
 
@@ -82,11 +82,11 @@ either-backed : (d : DocumentData) (past : List Act) (t : TxId) (b : Bool) (o p 
 either-backed d past t true o p h k = h refl
 either-backed d past t false o p h k = k
 
-with-vote : (d : DocumentData) (past : List Act) (t : TxId) (n : NodeId) (p : Ident) (x : Story) (b : Bool) → VoteHolds d past t (record { from = n; p = p }) → StoryBacked d past t (Some x) → StoryBacked d past t (Some (if b then x else record x { votes = x.votes ++ record { from = n; p = p } ∷ [] }))
+with-vote : (d : DocumentData) (past : List Act) (t : TxId) (n : NodeId) (p : Ident) (x : Story) (b : Bool) → VoteHolds d past t (record { from = n; p = p }) → StoryBacked d past t (Some x) → StoryBacked d past t (Some (record x { progress = record x.progress { votes = if b then x.progress.votes else x.progress.votes ++ record { from = n; p = p } ∷ [] } }))
 with-vote d past t n p x true v h = h
-with-vote d past t n p x false v h = (votes-last d past t x.votes (record { from = n; p = p }) h.0 v, h.1)
+with-vote d past t n p x false v h = (votes-last d past t x.progress.votes (record { from = n; p = p }) h.0 v, h.1)
 
-with-ack : (d : DocumentData) (past : List Act) (t : TxId) (n : NodeId) (x : Story) (b : Bool) → has_commit t (journal d past n) ≡ true → StoryBacked d past t (Some x) → StoryBacked d past t (Some (if b then x else record x { acks = x.acks ++ n ∷ [] }))
+with-ack : (d : DocumentData) (past : List Act) (t : TxId) (n : NodeId) (x : Story) (b : Bool) → has_commit t (journal d past n) ≡ true → StoryBacked d past t (Some x) → StoryBacked d past t (Some (record x { acks = if b then x.acks else x.acks ++ n ∷ [] }))
 with-ack d past t n x true v h = h
 with-ack d past t n x false v h = (h.0, acks-last d past t x.acks n h.1 v)
 
@@ -102,13 +102,13 @@ counted-part ns (Reading j) r next x q h = cc
 
 backed-heard : (d : DocumentData) (past : List Act) (t : TxId) (s : ScriptData) (p : Phase) (h : Node) (x : NodeId) (said : Message) (o : Option Story) → script_of t d.scripts ≡ Some s → Says d past x said → StoryBacked d past t o → StoryBacked d past t (heard (parts_of d s) p h s.number x said o)
 backed-heard d past t s p h x (message.Vote u (ballot.Yes q)) o is says k =
-    if-backed d past t ((u == s.number) && is_counted_vote (parts_of d s) p h.journal h.next x q) (with_vote x q) o
+    if-backed d past t ((u == s.number) && is_counted_vote (parts_of d s) p h.journal h.next x q) (progressed (with_vote x q)) o
     (λ e y i.
     let number : s.number ≡ t = script-number t d.scripts s is in
     let here : u ≡ s.number = equal u s.number (and_parts (u == s.number) (is_counted_vote (parts_of d s) p h.journal h.next x q) e).0 in
     let part : is_among x (parts_of d s) ≡ true = counted-part (parts_of d s) p h.journal h.next x q (and_parts (u == s.number) (is_counted_vote (parts_of d s) p h.journal h.next x q) e).1 in
     let P : TxId → Type 0 = λ w. has_prepared w q (journal d past x) ≡ true in
-    with-vote d past t x q y (has_voted x y.votes) (subst P (here ∙ number) says, rw is part) i)
+    with-vote d past t x q y (has_voted x y.progress.votes) (subst P (here ∙ number) says, rw is part) i)
     k
   where
     equal : (a b : ℕ) → (a == b) ≡ true → a ≡ b

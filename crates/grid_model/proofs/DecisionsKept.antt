@@ -22,7 +22,7 @@ use Rattle.grid_model.specs.Histories.{after, sent, sent_at}
 use Rattle.grid_model.proofs.PlainOuts.{both}
 use Rattle.journal_words.specs.Journals.{Decision, decision, undone, is_closed}
 use Rattle.grid_model.specs.Nodes.{Node, Change, Writes, Starts, Stops, node, journal, script_of, parts_of, is_home, got, change, changed, where_at, written, prepared_by, freed, parts_in, is_request, said_by}
-use Rattle.grid_model.specs.Stories.{Phase, story, told, begun, heard, heard_at, if_told, phase_at, with_vote, with_ack, with_value, with_request, without_answers}
+use Rattle.grid_model.specs.Stories.{Phase, story, told, begun, heard, heard_at, if_told, phase_at, with_vote, with_ack, with_value, with_request, without_answers, progressed}
 use Rattle.grid_model.specs.NextViews.{OwnDecisions, is_own_decision, is_running}
 
 -- ---- the decisions of a node
@@ -87,15 +87,9 @@ runs-told b f None keeps is = is
 runs-told true f (Some x) keeps is = rw (keeps x) is
 runs-told false f (Some x) keeps is = is
 
-vote-lost : (n : NodeId) (p : Ident) (x : Story) → (with_vote n p x).lost ≡ x.lost
-vote-lost n p x = grind arith
-
-ack-lost : (n : NodeId) (x : Story) → (with_ack n x).lost ≡ x.lost
-ack-lost n x = grind arith
-
 runs-heard : (ns : List NodeId) (p : Phase) (h : Node) (t : TxId) (x : NodeId) (said : Message) (o : Option Story) → IsTrue (is_running o) → IsTrue (is_running (heard ns p h t x said o))
-runs-heard ns p h t x (message.Vote u (ballot.Yes q)) o is = runs-told _ (with_vote x q) o (vote-lost x q) is
-runs-heard ns p h t x (message.Ack u) o is = runs-told _ (with_ack x) o (ack-lost x) is
+runs-heard ns p h t x (message.Vote u (ballot.Yes q)) o is = runs-told _ (progressed (with_vote x q)) o (λ z. refl) is
+runs-heard ns p h t x (message.Ack u) o is = runs-told _ (with_ack x) o (λ z. refl) is
 runs-heard ns p h t x said o is = is
 
 runs-got : (d : DocumentData) (past : List Act) (so : Option ScriptData) (e : Option Envelope) (o : Option Story) → IsTrue (is_running o) → IsTrue (is_running (heard_at d past so e o))
@@ -114,10 +108,10 @@ begun-runs false sid0 o is = is
 -- an act leaves it running, unless it is lost
 pub runs-on : (d : DocumentData) (past : List Act) (a : Act) (t : TxId) (o : Option Story) → ((u : TxId) → a ≡ act.Lost u → (u == t) ≡ false) → IsTrue (is_running o) → IsTrue (is_running (told d past a t o))
 runs-on d past (act.Began u n sid0) t o apart is = begun-runs (u == t) sid0 o is
-runs-on d past (act.Sent m x y (message.ReadReq q)) t o apart is = runs-told (q.t == t) (with_request _) o (λ z. refl) is
+runs-on d past (act.Sent m x y (message.ReadReq q)) t o apart is = runs-told (q.t == t) (progressed (with_request _)) o (λ z. refl) is
 runs-on d past (act.Sent m x y said) t o apart is = is
 runs-on d past (act.Got m) t o apart is = runs-got d past (script_of t d.scripts) (sent_at m (sent past)) o is
-runs-on d past (act.Taken u j sid v) t o apart is = runs-told (u == t) (with_value j sid v) o (λ z. refl) is
+runs-on d past (act.Taken u j sid v) t o apart is = runs-told (u == t) (progressed (with_value j sid v)) o (λ z. refl) is
 runs-on d past (act.Finished u) t o apart is = runs-told (u == t) (λ x. record x { finished = true }) o (λ z. refl) is
 runs-on d past (act.Aborted u n c) t o apart is = runs-told (u == t) (λ x. record x { aborted = true }) o (λ z. refl) is
 runs-on d past (act.Lost u) t o apart is = rw (apart u refl) (runs-not o is)

@@ -22,22 +22,22 @@ use Rattle.grid_model.specs.Histories.{sent, sent_at}
 use Rattle.journal_words.specs.Journals.{Decision, decision, is_closed, undone}
 use Rattle.grid_model.specs.Nodes.{Node, node, script_of, parts_of, is_home_in}
 use Rattle.grid_model.specs.Advances.{parts_now}
-use Rattle.grid_model.specs.Stories.{Decided, open_phase, is_collecting, is_part, story, heard, heard_at, if_told, phase_by, phase_at, is_small_node, is_fit_ballot, is_counted_vote, with_vote, with_ack}
+use Rattle.grid_model.specs.Stories.{Decided, open_phase, is_collecting, is_part, story, heard, heard_at, if_told, phase_by, phase_at, is_small_node, is_fit_ballot, is_counted_vote, with_vote, with_node, with_ack, progressed}
 use Rattle.script_runs.specs.Waits.{waiting}
 use Rattle.grid_model.specs.Views.{Stage, Open, open_at, acks_by, acks_at, view, stage_by, open_stage}
 use Rattle.grid_model.specs.Fitness.{is_part_at}
-use Rattle.grid_model.specs.NextViews.{changed_open, with_yes, with_node, is_collects, is_commits, heard_view, OwnDecisions, is_running}
+use Rattle.grid_model.specs.NextViews.{changed_open, is_collects, is_commits, heard_view, OwnDecisions, is_running}
 use Rattle.grid_model.proofs.Undecided.{script-number}
 use Rattle.grid_model.proofs.ViewSteps.{same-view, entry, entry-decided, here, acks-told}
 
 -- ---- a yes
 
 -- a yes that is taken, in a story and at the desk
-vote-taken : (s : ScriptData) (closed : Bool) (y : Option Decision) (o : Option Story) (b : Bool) (x : NodeId) (p : Ident) → entry s closed y (if_told b (with_vote x p) o) ≡ (if b then changed_open (with_yes x p) (entry s closed y o) else entry s closed y o)
+vote-taken : (s : ScriptData) (closed : Bool) (y : Option Decision) (o : Option Story) (b : Bool) (x : NodeId) (p : Ident) → entry s closed y (if_told b (progressed (with_vote x p)) o) ≡ (if b then changed_open (with_vote x p) (entry s closed y o) else entry s closed y o)
 vote-taken s closed y o b x p = grind arith
 
 -- the phase of what stands at the desk
-open-phase : (s : ScriptData) (closed : Bool) (y : Option Decision) (o : Option Story) (q : Open) → entry s closed y o ≡ Some q → (phase_by s.ops o closed y ≡ open_phase (waiting q.script.ops q.values)) × (q.script ≡ s) × (y ≡ None)
+open-phase : (s : ScriptData) (closed : Bool) (y : Option Decision) (o : Option Story) (q : Open) → entry s closed y o ≡ Some q → (phase_by s.ops o closed y ≡ open_phase (waiting q.script.ops q.progress.values)) × (q.script ≡ s) × (y ≡ None)
 open-phase s closed (Some y) o q is = grind (arith, entry-decided s closed y o)
 open-phase s closed None o q is = (grind arith, grind arith, refl)
 
@@ -51,9 +51,9 @@ and-false false = refl
 
 -- a yes counts where its transaction collects
 counts-same : (c : ClusterData) (q : Open) (acks : List NodeId) (r : List Record) (next : Ident) (x : NodeId) (p : Ident) →
-    is_counted_vote (parts_now c q) (open_phase (waiting q.script.ops q.values)) r next x p
-    ≡ ((is_small_node r next && (is_fit_ballot (ballot.Yes p) && is_part_at c (open_stage q (waiting q.script.ops q.values)) x)) && is_collects (open_stage q (waiting q.script.ops q.values)))
-counts-same c q acks r next x p = go (waiting q.script.ops q.values) (is_small_node r next) (is_fit_ballot (ballot.Yes p))
+    is_counted_vote (parts_now c q) (open_phase (waiting q.script.ops q.progress.values)) r next x p
+    ≡ ((is_small_node r next && (is_fit_ballot (ballot.Yes p) && is_part_at c (open_stage q (waiting q.script.ops q.progress.values)) x)) && is_collects (open_stage q (waiting q.script.ops q.progress.values)))
+counts-same c q acks r next x p = go (waiting q.script.ops q.progress.values) (is_small_node r next) (is_fit_ballot (ballot.Yes p))
   where
     go : (w : Option ℕ) (small fit : Bool) → (is_collecting (open_phase w) && (small && (fit && is_part (parts_now c q) (open_phase w) x))) ≡ ((small && (fit && is_part_at c (open_stage q w) x)) && is_collects (open_stage q w))
     go (Some j) small fit = and-false (small && (fit && true))
@@ -61,16 +61,16 @@ counts-same c q acks r next x p = go (waiting q.script.ops q.values) (is_small_n
 
 -- the yes of x counts in a story where it counts at the desk
 vote-entry : (c : ClusterData) (s : ScriptData) (closed : Bool) (y : Option Decision) (o : Option Story) (acks : List NodeId) (told : Bool) (x : NodeId) (p : Ident) (next : Ident) (r : List Record) →
-    entry s closed y (if_told (told && is_counted_vote (parts c.places (keys_of s.ops)) (phase_by s.ops o closed y) r next x p) (with_vote x p) o)
+    entry s closed y (if_told (told && is_counted_vote (parts c.places (keys_of s.ops)) (phase_by s.ops o closed y) r next x p) (progressed (with_vote x p)) o)
     ≡ (if told && ((is_small_node r next && (is_fit_ballot (ballot.Yes p) && is_part_at c (stage_by (if closed then None else y) (entry s closed y o) acks) x)) && is_collects (stage_by (if closed then None else y) (entry s closed y o) acks))
-    then changed_open (with_yes x p) (entry s closed y o)
+    then changed_open (with_vote x p) (entry s closed y o)
     else entry s closed y o)
 vote-entry c s closed y o acks told x p next r = vote-taken s closed y o _ x p ∙ go (entry s closed y o) refl
   where
     go : (en : Option Open) → entry s closed y o ≡ en →
-        (if told && is_counted_vote (parts c.places (keys_of s.ops)) (phase_by s.ops o closed y) r next x p then changed_open (with_yes x p) en else en)
+        (if told && is_counted_vote (parts c.places (keys_of s.ops)) (phase_by s.ops o closed y) r next x p then changed_open (with_vote x p) en else en)
         ≡ (if told && ((is_small_node r next && (is_fit_ballot (ballot.Yes p) && is_part_at c (stage_by (if closed then None else y) en acks) x)) && is_collects (stage_by (if closed then None else y) en acks))
-        then changed_open (with_yes x p) en
+        then changed_open (with_vote x p) en
         else en)
     go None is = grind arith
     go (Some q) is =
@@ -98,14 +98,14 @@ same-if false x = refl
 vote-home : (d : DocumentData) (past : List Act) (x : NodeId) (u : TxId) (p : Ident) (s : ScriptData) (o : Option Story) →
     open_at s.home (node d past s.home) (Some s) (heard_at d past (Some s) (Some (letter s.home x (message.Vote u (ballot.Yes p)))) o)
     ≡ (if (u == s.number) && ((is_small_node (node d past s.home).journal (node d past s.home).next && (is_fit_ballot (ballot.Yes p) && is_part_at d.cluster (at_stage s.home (node d past s.home) s.number (Some s) o) x)) && is_collects (at_stage s.home (node d past s.home) s.number (Some s) o))
-    then changed_open (with_yes x p) (open_at s.home (node d past s.home) (Some s) o)
+    then changed_open (with_vote x p) (open_at s.home (node d past s.home) (Some s) o)
     else open_at s.home (node d past s.home) (Some s) o)
 vote-home d past x u p s o = rw (here s.home) (vote-entry d.cluster s (is_closed s.number (node d past s.home).journal) (decision s.number (node d past s.home).journal) o (if is_some (undone s.number (node d past s.home).journal) then acks_by o else []) (u == s.number) x p (node d past s.home).next (node d past s.home).journal)
 
 vote-desk : (d : DocumentData) (past : List Act) (n x : NodeId) (u t : TxId) (p : Ident) (so : Option ScriptData) (o : Option Story) → ((s : ScriptData) → so ≡ Some s → s.number ≡ t) →
     open_at n (node d past n) so (heard_at d past so (Some (letter n x (message.Vote u (ballot.Yes p)))) o)
     ≡ (if (u == t) && ((is_small_node (node d past n).journal (node d past n).next && (is_fit_ballot (ballot.Yes p) && is_part_at d.cluster (at_stage n (node d past n) t so o) x)) && is_collects (at_stage n (node d past n) t so o))
-    then changed_open (with_yes x p) (open_at n (node d past n) so o)
+    then changed_open (with_vote x p) (open_at n (node d past n) so o)
     else open_at n (node d past n) so o)
 vote-desk d past n x u t p None o number = same-if _ None
 vote-desk d past n x u t p (Some s) o number = elim (cases_eq s.home n) [
@@ -128,24 +128,18 @@ heard-nothing d past (Some s) n x said o nothing = rw (nothing s) (sym (same-if 
 
 -- ---- the acknowledgements behind a message
 
-vote-keeps : (x : NodeId) (p : Ident) (z : Story) → (with_vote x p z).acks ≡ z.acks
-vote-keeps x p z = grind arith
-
 vote-acks : (d : DocumentData) (past : List Act) (n x : NodeId) (u t : TxId) (p : Ident) (so : Option ScriptData) (o : Option Story) → acks_at n (node d past n) t so (heard_at d past so (Some (letter n x (message.Vote u (ballot.Yes p)))) o) ≡ acks_at n (node d past n) t so o
 vote-acks d past n x u t p None o = refl
 vote-acks d past n x u t p (Some s) o = go (n == s.home)
   where
     go : (b : Bool) → acks_at n (node d past n) t (Some s) (if b then heard (parts_of d s) (phase_at s o (node d past s.home)) (node d past s.home) s.number x (message.Vote u (ballot.Yes p)) o else o) ≡ acks_at n (node d past n) t (Some s) o
-    go true = acks-told n (node d past n) t (Some s) o _ (with_vote x p) (vote-keeps x p)
+    go true = acks-told n (node d past n) t (Some s) o _ (progressed (with_vote x p)) (λ z. refl)
     go false = refl
-
-ack-node : (x : NodeId) (z : Story) → (with_ack x z).acks ≡ with_node x z.acks
-ack-node x z = grind arith
 
 ack-counted : (told b : Bool) (x : NodeId) (z : Story) → acks_by (if_told (told && b) (with_ack x) (Some z)) ≡ (if told && (b && true) then with_node x z.acks else z.acks)
 ack-counted false b x z = refl
 ack-counted true false x z = refl
-ack-counted true true x z = ack-node x z
+ack-counted true true x z = refl
 
 -- what stands undone is decided and not closed
 undone-decided : (closed : Bool) (o : Option Decision) (y : Decision) → (if closed then None else o) ≡ Some y → (closed ≡ false) × (o ≡ Some y)
@@ -168,7 +162,7 @@ no-decision n h t so o none = grind arith
 
 no-commit : (en : Option Open) (acks : List NodeId) → is_commits (stage_by None en acks) ≡ false
 no-commit None acks = refl
-no-commit (Some q) acks = go (waiting q.script.ops q.values)
+no-commit (Some q) acks = go (waiting q.script.ops q.progress.values)
   where
     go : (w : Option ℕ) → is_commits (open_stage q w) ≡ false
     go None = refl

@@ -29,7 +29,7 @@ use Rattle.grid_model.specs.Documents.{DocumentData}
 use Rattle.grid_model.specs.Histories.{after, sent, sent_at}
 use Rattle.journal_words.specs.Journals.{Decision, commit_id, floor, is_clear, undone, pending, ended, is_commit, home_of, holder, newer}
 use Rattle.grid_model.specs.Nodes.{node, is_home, journal, script_of}
-use Rattle.grid_model.specs.Stories.{story, has_voted, first_sid}
+use Rattle.grid_model.specs.Stories.{story, has_voted, with_value, with_vote}
 use Rattle.script_runs.specs.Waits.{waiting}
 use Rattle.grid_model.specs.Views.{View, Open, Stage, Apart, Reads, Collects, Commits, view, stage, stage_by, open_stage, participant}
 use Rattle.grid_model.specs.Advances.{advance, advance_end, request_of, to_node, prepares, prepare_for, date_by, owns, parts_now}
@@ -37,7 +37,7 @@ use Rattle.script_runs.specs.Walks.{op_at, own_reads, unread}
 use Rattle.grid_model.specs.Fitness.{is_fit, is_fit_at, tx_in}
 use Rattle.grid_model.specs.Rows.{release, served, ceiling_of, ceilings, raises, answered, read_row, version_for, dated, reply_row, prepare_row, tells, have_voted, decides, greatest_vote, ballot_row, vote_row, are_all_among, ack_row, ask_row, commit_row, abort_row, tell_outs, freed_by, row_of, answer, begin_outs, begun_at, retry_row, not_voted, not_among, ask_outs, if_pending}
 use Rattle.grid_model.specs.Schedules.{numbered}
-use Rattle.grid_model.specs.NextViews.{is_running, OwnDecisions, behind, behind_all, heard_view, next_view, changed_open, is_collects, desk_heard, with_yes}
+use Rattle.grid_model.specs.NextViews.{is_running, OwnDecisions, behind, behind_all, heard_view, next_view, changed_open, is_collects, desk_heard}
 use Rattle.grid_model.proofs.ViewSteps.{here, step-began, step-decided}
 use Rattle.grid_model.proofs.HeardViews.{letter, step-got}
 use Rattle.grid_model.proofs.PlainOuts.{are_plain, plain-view, plain-append, plain-sends, plain-owns}
@@ -50,7 +50,7 @@ to-plain d n b (Some m) said = refl
 
 request-plain : (d : DocumentData) (n : NodeId) (b : Bool) (c : ClusterData) (x : Open) (j q : ℕ) (o : Option Op) → IsTrue (are_plain d n b (request_of c x j q o))
 request-plain d n b c x j q None = refl
-request-plain d n b c x j q (Some o) = to-plain d n b (slice_get (preferred c.places x.script.home (key_of o)) q) (message.ReadReq (record { t = x.script.number; op = j; key = key_of o; date = date_by x.sid0 x.sid }))
+request-plain d n b c x j q (Some o) = to-plain d n b (slice_get (preferred c.places x.script.home (key_of o)) q) (message.ReadReq (record { t = x.script.number; op = j; key = key_of o; date = date_by x.progress.sid0 x.progress.sid }))
 
 end-plain : (d : DocumentData) (n : NodeId) (b : Bool) (c : ClusterData) (x : Open) (w : Option ℕ) → IsTrue (are_plain d n b (advance_end c x w))
 end-plain d n b c x (Some j) = request-plain d n b c x j 0 (op_at x.script.ops j)
@@ -62,15 +62,15 @@ end-plain d n b c x None = go (is_update x.script.ops)
 
 pub advance-plain : (d : DocumentData) (n : NodeId) (b : Bool) (c : ClusterData) (x : Open) (i : ℕ) → IsTrue (are_plain d n b (advance c x i))
 advance-plain d n b c x i =
-    plain-append d n b (owns x.script.number i (own_reads 1 [] unread x.values x.script.ops)) (advance_end c x (waiting x.script.ops x.values))
-    (plain-owns d n b x.script.number (filter (λ y. nat_lt i y.0) (own_reads 1 [] unread x.values x.script.ops)))
-    (end-plain d n b c x (waiting x.script.ops x.values))
+    plain-append d n b (owns x.script.number i (own_reads 1 [] unread x.progress.values x.script.ops)) (advance_end c x (waiting x.script.ops x.progress.values))
+    (plain-owns d n b x.script.number (filter (λ y. nat_lt i y.0) (own_reads 1 [] unread x.progress.values x.script.ops)))
+    (end-plain d n b c x (waiting x.script.ops x.progress.values))
 
 reply-plain : (d : DocumentData) (n : NodeId) (c : ClusterData) (q : ReadRep) (s : Stage) → IsTrue (are_plain d n true (reply_row c q s))
 reply-plain d n c q (Reads x j) = go (j == q.op)
   where
-    go : (same : Bool) → IsTrue (are_plain d n true (if same then out.Act (act.Taken q.t q.op q.sid q.value) ∷ advance c (record x { turn = 0; sid = Some (first_sid x.sid q.sid); values = x.values ++ (q.op, q.value) ∷ [] }) q.op else []))
-    go true = advance-plain d n true c (record x { turn = 0; sid = Some (first_sid x.sid q.sid); values = x.values ++ (q.op, q.value) ∷ [] }) q.op
+    go : (same : Bool) → IsTrue (are_plain d n true (if same then out.Act (act.Taken q.t q.op q.sid q.value) ∷ advance c (record x { progress = with_value q.op q.sid q.value x.progress }) q.op else []))
+    go true = advance-plain d n true c (record x { progress = with_value q.op q.sid q.value x.progress }) q.op
     go false = refl
 reply-plain d n c q s = refl
 
@@ -90,8 +90,8 @@ ask-plain d n t x (Commits y acks) = refl
 ask-plain d n t x Apart = refl
 
 pub retry-plain : (d : DocumentData) (n : NodeId) (c : ClusterData) (t : TxId) (s : Stage) → IsTrue (are_plain d n false (retry_row c t s))
-retry-plain d n c t (Reads x j) = request-plain d n false c x j x.turn (op_at x.script.ops j)
-retry-plain d n c t (Collects x) = plain-sends d n false (λ m. message.Prepare (prepare_for c x m)) (not_voted (parts_now c x) x.votes)
+retry-plain d n c t (Reads x j) = request-plain d n false c x j x.progress.turn (op_at x.script.ops j)
+retry-plain d n c t (Collects x) = plain-sends d n false (λ m. message.Prepare (prepare_for c x m)) (not_voted (parts_now c x) x.progress.votes)
 retry-plain d n c t (Commits y acks) = plain-sends d n false (λ m. message.Tell t (outcome.Commit y.final)) (not_among y.parts acks)
 retry-plain d n c t Apart = refl
 
@@ -153,7 +153,7 @@ own-home d past n t own y acks is = go (undone t (journal d past n)) (is_home d 
     go w true h en cs is = refl
     go (Some z) false h en cs is = grind arith
     go None false h None cs is = grind arith
-    go None false h (Some x) cs is = opened (waiting x.script.ops x.values) is
+    go None false h (Some x) cs is = opened (waiting x.script.ops x.progress.values) is
       where
         opened : (j : Option ℕ) → open_stage x j ≡ Commits y acks → false ≡ true
         opened None is = grind arith
@@ -163,7 +163,7 @@ own-home d past n t own y acks is = go (undone t (journal d past n)) (is_home d 
 collects-desk : (w : Option Decision) (en : Option Open) (cs : List NodeId) (x : Open) → stage_by w en cs ≡ Collects x → en ≡ Some x
 collects-desk (Some y) en cs x is = grind arith
 collects-desk None None cs x is = grind arith
-collects-desk None (Some q) cs x is = go (waiting q.script.ops q.values) is
+collects-desk None (Some q) cs x is = go (waiting q.script.ops q.progress.values) is
   where
     go : (j : Option ℕ) → open_stage q j ≡ Collects x → Some q ≡ Some x
     go None is = grind arith
@@ -183,24 +183,24 @@ abbrev pub Given : DocumentData → NodeId → View → List Out → Type 0
 Given d n v os = IsTrue (are_plain d n true os) ⊎ Decides d n v os
 
 vote-given : (d : DocumentData) (n : NodeId) (v : View) (c : ClusterData) (t : TxId) (x : NodeId) (b : Ballot) (s : Stage) → ((o : Open) → s ≡ Collects o → v.desk t ≡ Some o) → Given d n v (vote_row c t x b s)
-vote-given d n v c t x (ballot.No why) (Collects o) desk = go (has_voted x o.votes)
+vote-given d n v c t x (ballot.No why) (Collects o) desk = go (has_voted x o.progress.votes)
   where
-    go : (taken : Bool) → Given d n v (if taken then [] else ballot_row t (parts_now c o) o.votes x (ballot.No why))
+    go : (taken : Bool) → Given d n v (if taken then [] else ballot_row t (parts_now c o) o.progress.votes x (ballot.No why))
     go true = inl refl
     go false = inl (plain-sends d n true (λ m. message.Tell t outcome.Abort) (others x (parts_now c o)))
-vote-given d n v c t x (ballot.Yes p) (Collects o) desk = go (has_voted x o.votes) (have_voted (parts_now c o) (o.votes ++ record { from = x; p = p } ∷ []))
+vote-given d n v c t x (ballot.Yes p) (Collects o) desk = go (has_voted x o.progress.votes) (have_voted (parts_now c o) (o.progress.votes ++ record { from = x; p = p } ∷ []))
   where
-    go : (taken all : Bool) → Given d n v (if taken then [] else (if all then decides t (greatest_vote (o.votes ++ record { from = x; p = p } ∷ [])) (parts_now c o) else []))
+    go : (taken all : Bool) → Given d n v (if taken then [] else (if all then decides t (greatest_vote (o.progress.votes ++ record { from = x; p = p } ∷ [])) (parts_now c o) else []))
     go true all = inl refl
     go false false = inl refl
     go false true = inr (record {
       t = t;
-      f = greatest_vote (o.votes ++ record { from = x; p = p } ∷ []);
-      rest = out.Act (act.Finished t) ∷ tells t (outcome.Commit (greatest_vote (o.votes ++ record { from = x; p = p } ∷ []))) (parts_now c o);
+      f = greatest_vote (o.progress.votes ++ record { from = x; p = p } ∷ []);
+      rest = out.Act (act.Finished t) ∷ tells t (outcome.Commit (greatest_vote (o.progress.votes ++ record { from = x; p = p } ∷ []))) (parts_now c o);
       asked = o;
       first = refl;
       desk = desk o refl;
-      plain = plain-sends d n true (λ m. message.Tell t (outcome.Commit (greatest_vote (o.votes ++ record { from = x; p = p } ∷ [])))) (parts_now c o);
+      plain = plain-sends d n true (λ m. message.Tell t (outcome.Commit (greatest_vote (o.progress.votes ++ record { from = x; p = p } ∷ [])))) (parts_now c o);
     })
 vote-given d n v c t x b s desk = inl refl
 
@@ -225,8 +225,8 @@ answer-given d past n x said own = go (is_fit_at n (participant (view d past n))
 heard-open : (n : NodeId) (v : View) (x : NodeId) (said : Message) (t : TxId) (o : Open) → v.desk t ≡ Some o → (p : Open) × (desk_heard n v x said t ≡ Some p)
 heard-open n v x (message.Vote u (ballot.Yes p)) t o is = go ((u == t) && (is_fit n v x (message.Vote t (ballot.Yes p)) && is_collects (stage v t)))
   where
-    go : (b : Bool) → (q : Open) × ((if b then changed_open (with_yes x p) (v.desk t) else v.desk t) ≡ Some q)
-    go true = (with_yes x p o, rw is refl)
+    go : (b : Bool) → (q : Open) × ((if b then changed_open (with_vote x p) (v.desk t) else v.desk t) ≡ Some q)
+    go true = (record o { progress = with_vote x p o.progress }, rw is refl)
     go false = (o, is)
 heard-open n v x said t o is = (o, is)
 

@@ -19,7 +19,7 @@ use Rattle.grid_model.specs.Documents.{DocumentData}
 use Rattle.grid_model.specs.Histories.{sent, sent_at}
 use Rattle.journal_words.specs.Journals.{decision}
 use Rattle.grid_model.specs.Nodes.{Node, Change, Writes, Starts, node, script_of, parts_of, got, change, changed, written, found}
-use Rattle.grid_model.specs.Stories.{story, told, heard, heard_at, if_told, phase_by, phase_at, is_decided, with_vote, with_value, with_request, without_answers}
+use Rattle.grid_model.specs.Stories.{story, told, heard, heard_at, if_told, phase_by, phase_at, is_decided, with_vote, with_value, with_request, without_answers, progressed}
 use Rattle.grid_model.specs.Views.{acks_by}
 
 -- the script of a number has that number
@@ -56,11 +56,8 @@ told-acks b f None keeps is = refl
 told-acks true f (Some x) keeps is = keeps x is
 told-acks false f (Some x) keeps is = is
 
-voted-acks : (n : NodeId) (p : Ident) (x : Story) → x.acks ≡ [] → (with_vote n p x).acks ≡ []
-voted-acks n p x is = grind arith
-
 heard-acks : (s : ScriptData) (ns : List NodeId) (h : Node) (x : NodeId) (said : Message) (o : Option Story) → decision s.number h.journal ≡ None → acks_by o ≡ [] → acks_by (heard ns (phase_at s o h) h s.number x said o) ≡ []
-heard-acks s ns h x (message.Vote u (ballot.Yes p)) o none is = told-acks _ (with_vote x p) o (voted-acks x p) is
+heard-acks s ns h x (message.Vote u (ballot.Yes p)) o none is = told-acks _ (progressed (with_vote x p)) o (λ z h. h) is
 heard-acks s ns h x (message.Vote u (ballot.No why)) o none is = is
 heard-acks s ns h x (message.Ack u) o none is = rw (none, undecided-phase s.ops o) (grind arith)
 heard-acks s ns h x said o none is = is
@@ -71,10 +68,10 @@ got-acks d past s (Some e) o none is = grind (arith, heard-acks s (parts_of d s)
 
 told_one-acks : (d : DocumentData) (past : List Act) (a : Act) (s : ScriptData) (t : TxId) → script_of t d.scripts ≡ Some s → decision s.number (node d past s.home).journal ≡ None → (o : Option Story) → acks_by o ≡ [] → acks_by (told d past a t o) ≡ []
 told_one-acks d past (act.Began u n sid0) s t script none o is = grind arith
-told_one-acks d past (act.Sent m x y (message.ReadReq q)) s t script none o is = told-acks _ (with_request _) o (λ z h. h) is
+told_one-acks d past (act.Sent m x y (message.ReadReq q)) s t script none o is = told-acks _ (progressed (with_request _)) o (λ z h. h) is
 told_one-acks d past (act.Sent m x y said) s t script none o is = is
 told_one-acks d past (act.Got m) s t script none o is = rw script (got-acks d past s (sent_at m (sent past)) o none is)
-told_one-acks d past (act.Taken u j sid v) s t script none o is = told-acks _ (with_value j sid v) o (λ z h. h) is
+told_one-acks d past (act.Taken u j sid v) s t script none o is = told-acks _ (progressed (with_value j sid v)) o (λ z h. h) is
 told_one-acks d past (act.Finished u) s t script none o is = told-acks _ _ o (λ z h. h) is
 told_one-acks d past (act.Aborted u n c) s t script none o is = told-acks _ _ o (λ z h. h) is
 told_one-acks d past (act.Lost u) s t script none o is = told-acks _ _ o (λ z h. h) is

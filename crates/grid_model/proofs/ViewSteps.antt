@@ -22,11 +22,11 @@ use Rattle.journal_words.specs.Journals.{Decision, decision, is_closed}
 use Rattle.grid_model.specs.declared.events.Out.TheVariants as out
 use Rattle.grid_model.specs.declared.messages.Envelope.{Envelope}
 use Rattle.grid_model.specs.Nodes.{Node, node, script_of, got, written, prepared_by, changed, freed, without_read, is_request, said_by, is_home, parts_in}
-use Rattle.grid_model.specs.Stories.{story, told, begun, with_value, with_request, if_told, phase_by}
+use Rattle.grid_model.specs.Stories.{story, told, begun, with_value, with_request, if_told, phase_by, progressed}
 use Rattle.grid_model.specs.Views.{View, Open, open_by, open_at, acks_by, acks_at, view}
 use Rattle.grid_model.specs.Advances.{parts_now}
 use Rattle.grid_model.proofs.Undecided.{script-number, undecided-acks}
-use Rattle.grid_model.specs.NextViews.{changed_open, with_taken, with_turn, if_update, opened_by, behind}
+use Rattle.grid_model.specs.NextViews.{changed_open, if_update, opened_by, behind}
 
 -- ---- equal views
 
@@ -51,10 +51,10 @@ entry-closed s c c' y o = grind arith
 pub entry-begun : (s : ScriptData) (closed : Bool) (y : Option Decision) (sid0 : Ident) → entry s closed y (Some (begun sid0)) ≡ opened_by y (Some s) sid0
 entry-begun s closed y sid0 = grind arith
 
-pub desk-taken : (n : NodeId) (h : Node) (so : Option ScriptData) (o : Option Story) (b : Bool) (j : ℕ) (sid : Ident) (v : Value) → open_at n h so (if_told b (with_value j sid v) o) ≡ (if b then changed_open (with_taken j sid v) (open_at n h so o) else open_at n h so o)
+pub desk-taken : (n : NodeId) (h : Node) (so : Option ScriptData) (o : Option Story) (b : Bool) (j : ℕ) (sid : Ident) (v : Value) → open_at n h so (if_told b (progressed (with_value j sid v)) o) ≡ (if b then changed_open (with_value j sid v) (open_at n h so o) else open_at n h so o)
 desk-taken n h so o b j sid v = grind arith
 
-pub desk-turn : (n : NodeId) (h : Node) (so : Option ScriptData) (o : Option Story) (b : Bool) (r : ℕ) → open_at n h so (if_told b (with_request r) o) ≡ (if b then changed_open (with_turn r) (open_at n h so o) else open_at n h so o)
+pub desk-turn : (n : NodeId) (h : Node) (so : Option ScriptData) (o : Option Story) (b : Bool) (r : ℕ) → open_at n h so (if_told b (progressed (with_request r)) o) ≡ (if b then changed_open (with_request r) (open_at n h so o) else open_at n h so o)
 desk-turn n h so o b r = grind arith
 
 pub desk-finished : (n : NodeId) (h : Node) (so : Option ScriptData) (o : Option Story) (b : Bool) → open_at n h so (if_told b (λ x. record x { finished = true }) o) ≡ (if b then if_update (open_at n h so o) else open_at n h so o)
@@ -133,7 +133,7 @@ step-refused d past m t why n e s = refl
 pub step-taken : (d : DocumentData) (past : List Act) (u : TxId) (j : ℕ) (sid : Ident) (v : Value) (n : NodeId) (e : Option Envelope) (s : Option ScriptData) → view d (act.Taken u j sid v ∷ past) n ≡ behind e s (view d past n) (out.Act (act.Taken u j sid v))
 step-taken d past u j sid v n e s = same-view _ _ refl refl refl refl
     (λ t. desk-taken n (node d past n) (script_of t d.scripts) (story d past t) (u == t) j sid v)
-    (λ t. acks-told n (node d past n) t (script_of t d.scripts) (story d past t) (u == t) (with_value j sid v) (λ x. refl))
+    (λ t. acks-told n (node d past n) t (script_of t d.scripts) (story d past t) (u == t) (progressed (with_value j sid v)) (λ x. refl))
 
 pub step-finished : (d : DocumentData) (past : List Act) (u : TxId) (n : NodeId) (e : Option Envelope) (s : Option ScriptData) → view d (act.Finished u ∷ past) n ≡ behind e s (view d past n) (out.Act (act.Finished u))
 step-finished d past u n e s = same-view _ _ refl refl refl refl
@@ -149,7 +149,7 @@ step-aborted d past u m why n e s = same-view _ _ refl refl refl refl
 pub step-sent : (d : DocumentData) (past : List Act) (k : ℕ) (m to : NodeId) (said : Message) (n : NodeId) (e : Option Envelope) (s : Option ScriptData) → view d (act.Sent k m to said ∷ past) n ≡ behind e s (view d past n) (out.Send to said)
 step-sent d past k m to (message.ReadReq q) n e s = same-view _ _ refl refl refl refl
     (λ t. desk-turn n (node d past n) (script_of t d.scripts) (story d past t) (q.t == t) (length (holders d.cluster.places q.key)))
-    (λ t. acks-told n (node d past n) t (script_of t d.scripts) (story d past t) (q.t == t) (with_request (length (holders d.cluster.places q.key))) (λ x. refl))
+    (λ t. acks-told n (node d past n) t (script_of t d.scripts) (story d past t) (q.t == t) (progressed (with_request (length (holders d.cluster.places q.key)))) (λ x. refl))
 step-sent d past k m to said n e s = refl
 
 -- ---- a transaction begins

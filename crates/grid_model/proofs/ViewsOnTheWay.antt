@@ -76,7 +76,7 @@ held_at_1-update = refl
 
 -- the reader has the value of `b` at the snapshot 1, and reads `a`
 abbrev pub reader_open : Open
-reader_open = record { script = reader; sid0 = 1; sid = Some 1; values = (1, 11) ∷ []; votes = []; turn = 0 }
+reader_open = record { script = reader; progress = record { sid0 = 1; sid = Some 1; values = (1, 11) ∷ []; votes = []; turn = 0 } }
 
 pub held_at_1-desk : (view held_read while_held 1).desk 2 ≡ Some reader_open
 held_at_1-desk = refl

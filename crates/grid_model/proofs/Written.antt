@@ -56,11 +56,11 @@ prepare-reads c x n k = among-filter (holds c.places n) k (remote_keys [] x.scri
 -- a key is written there where it is written and the node holds it
 pub prepare-keys : (c : ClusterData) (x : Open) (n : NodeId) (k : Key) → is_key_among k (keys_in (prepare_for c x n).writes) ≡ (is_key_among k (written_keys [] x.script.ops) && holds c.places n k)
 prepare-keys c x n k =
-    ap (is_key_among k) (with_values-keys (own_map x.script.ops x.values) (filter (holds c.places n) (written_keys [] x.script.ops)))
+    ap (is_key_among k) (with_values-keys (own_map x.script.ops x.progress.values) (filter (holds c.places n) (written_keys [] x.script.ops)))
     ∙ among-filter (holds c.places n) k (written_keys [] x.script.ops)
 
 -- with the value that the transaction wrote last
-pub prepare-value : (c : ClusterData) (x : Open) (n : NodeId) (k : Key) → written_value k (prepare_for c x n).writes ≡ (if is_key_among k (written_keys [] x.script.ops) && holds c.places n k then Some (own_map x.script.ops x.values k) else None)
+pub prepare-value : (c : ClusterData) (x : Open) (n : NodeId) (k : Key) → written_value k (prepare_for c x n).writes ≡ (if is_key_among k (written_keys [] x.script.ops) && holds c.places n k then Some (own_map x.script.ops x.progress.values k) else None)
 prepare-value c x n k =
-    with_values-at (own_map x.script.ops x.values) k (filter (holds c.places n) (written_keys [] x.script.ops))
-    ∙ ap (λ b. if b then Some (own_map x.script.ops x.values k) else None) (among-filter (holds c.places n) k (written_keys [] x.script.ops))
+    with_values-at (own_map x.script.ops x.progress.values) k (filter (holds c.places n) (written_keys [] x.script.ops))
+    ∙ ap (λ b. if b then Some (own_map x.script.ops x.progress.values k) else None) (among-filter (holds c.places n) k (written_keys [] x.script.ops))

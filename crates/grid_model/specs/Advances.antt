@@ -41,7 +41,7 @@ to_node (Some n) said = out.Send n said ∷ []
 -- the request of an operation, where there is one
 abbrev pub request_of : ClusterData → Open → ℕ → ℕ → Option Op → List Out
 request_of c x j q None = []
-request_of c x j q (Some o) = to_node (slice_get (preferred c.places x.script.home (key_of o)) q) (message.ReadReq (record { t = x.script.number; op = j; key = key_of o; date = date_by x.sid0 x.sid }))
+request_of c x j q (Some o) = to_node (slice_get (preferred c.places x.script.home (key_of o)) q) (message.ReadReq (record { t = x.script.number; op = j; key = key_of o; date = date_by x.progress.sid0 x.progress.sid }))
 
 -- the request of operation j goes to the holder of its key at place q of the preferred order
 abbrev pub request : ClusterData → Open → ℕ → ℕ → List Out
@@ -56,10 +56,10 @@ abbrev pub prepare_for : ClusterData → Open → NodeId → Prepare
 prepare_for c x n =
     record {
       t = x.script.number;
-      sid = first_sid x.sid x.sid0;
+      sid = first_sid x.progress.sid x.progress.sid0;
       parts = parts_now c x;
       reads = filter (holds c.places n) (remote_keys [] x.script.ops);
-      writes = map (λ k. (k, own_map x.script.ops x.values k)) (filter (holds c.places n) (written_keys [] x.script.ops));
+      writes = map (λ k. (k, own_map x.script.ops x.progress.values k)) (filter (holds c.places n) (written_keys [] x.script.ops));
     }
 
 -- a Prepare to each of these nodes
@@ -80,4 +80,4 @@ owns t i values = map (λ y. out.Act (act.Own t y.0 y.1)) (filter (λ y. nat_lt 
 
 -- Advance of an open transaction behind operation i, 0 at its begin
 abbrev pub advance : ClusterData → Open → ℕ → List Out
-advance c x i = owns x.script.number i (own_reads 1 [] unread x.values x.script.ops) ++ advance_end c x (waiting x.script.ops x.values)
+advance c x i = owns x.script.number i (own_reads 1 [] unread x.progress.values x.script.ops) ++ advance_end c x (waiting x.script.ops x.progress.values)

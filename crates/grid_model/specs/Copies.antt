@@ -80,7 +80,7 @@ is_finished (a ∷ past) t = is_finished past t
 -- the snapshot identifier by a story
 abbrev pub snapshot_in : Option Story → Ident
 snapshot_in None = 0
-snapshot_in (Some x) = first_sid x.sid x.sid0
+snapshot_in (Some x) = first_sid x.progress.sid x.progress.sid0
 
 -- the snapshot identifier of t: that of the first reply taken, or, where it reads nothing remotely, the
 -- identifier at which it began

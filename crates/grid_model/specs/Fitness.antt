@@ -35,7 +35,7 @@ is_same_ident sid (Some s) = s == sid
 
 -- where the transaction reads that operation and has a snapshot, it is that of the reply
 abbrev pub is_fit_reply : ReadRep → Stage → Bool
-is_fit_reply q (Reads x j) = not (j == q.op) || is_same_ident q.sid x.sid
+is_fit_reply q (Reads x j) = not (j == q.op) || is_same_ident q.sid x.progress.sid
 is_fit_reply q s = true
 
 -- rising nodes

@@ -3,13 +3,12 @@ use Rattle.std.specs.Prelude.{ℕ, max, Bool, true, false, ◌&&◌, ◌||◌, �
 use Rattle.score_base.specs.declared.ids.TxId.{TxId}
 use Rattle.score_base.specs.declared.ids.NodeId.{NodeId}
 use Rattle.score_base.specs.declared.ids.Ident.{Ident}
-use Rattle.score_base.specs.declared.ids.Value.{Value}
 use Rattle.score_base.specs.declared.causes.Ballot.TheVariants as ballot
 use Rattle.score_base.specs.declared.records.Record.{Record}
 use Rattle.score_base.specs.declared.records.Record.TheVariants as record'
 use Rattle.script_lang.specs.Scripts.{ScriptData}
 use Rattle.script_lang.specs.Reads.{is_update}
-use Rattle.placement.specs.Places.{is_among, holders}
+use Rattle.placement.specs.Places.{holders}
 use Rattle.placement.specs.Clusters.{ClusterData}
 use Rattle.grid_model.specs.declared.acts.Act.{Act}
 use Rattle.grid_model.specs.declared.acts.Act.TheVariants as act
@@ -21,11 +20,12 @@ use Rattle.grid_model.specs.declared.messages.Envelope.{Envelope}
 use Rattle.grid_model.specs.declared.messages.Message.{Message}
 use Rattle.grid_model.specs.declared.messages.Message.TheVariants as message
 use Rattle.grid_model.specs.declared.stories.HeldRead.{HeldRead}
+use Rattle.grid_model.specs.declared.stories.Progress.{Progress}
 use Rattle.grid_model.specs.declared.stories.Story.{Story}
 use Rattle.grid_model.specs.Documents.{DocumentData}
 use Rattle.journal_words.specs.Journals.{Decision, decision, undone}
 use Rattle.grid_model.specs.Nodes.{journal, is_home, prepared_by, held_by, said_by, is_request, written, learnt, with_held, without_read}
-use Rattle.grid_model.specs.Stories.{story, first_sid, place_behind, has_voted}
+use Rattle.grid_model.specs.Stories.{story, with_request, with_value, with_vote, with_node}
 use Rattle.grid_model.specs.Views.{View, Open, Stage, Collects, Commits, stage}
 use Rattle.grid_model.specs.Advances.{parts_now}
 use Rattle.grid_model.specs.Fitness.{is_fit}
@@ -43,26 +43,18 @@ abbrev pub is_commits : Stage → Bool
 is_commits (Commits y acks) = true
 is_commits s = false
 
--- an open transaction with a change, where there is one
-abbrev pub changed_open : (Open → Open) → Option Open → Option Open
+-- an open transaction that came further, where there is one
+abbrev pub changed_open : (Progress → Progress) → Option Open → Option Open
 changed_open f None = None
-changed_open f (Some x) = Some (f x)
-
--- the first yes of each part is taken
-abbrev pub with_yes : NodeId → Ident → Open → Open
-with_yes x p o = if has_voted x o.votes then o else record o { votes = o.votes ++ record { from = x; p = p } ∷ [] }
+changed_open f (Some x) = Some (record x { progress = f x.progress })
 
 -- the desk behind a message: a fit yes counts where its transaction is collecting
 abbrev pub desk_heard : NodeId → View → NodeId → Message → TxId → Option Open
 desk_heard n v x (message.Vote u (ballot.Yes p)) t =
     if (u == t) && (is_fit n v x (message.Vote t (ballot.Yes p)) && is_collects (stage v t))
-    then changed_open (with_yes x p) (v.desk t)
+    then changed_open (with_vote x p) (v.desk t)
     else v.desk t
 desk_heard n v x said t = v.desk t
-
--- a node among these, once
-abbrev pub with_node : NodeId → List NodeId → List NodeId
-with_node x ns = if is_among x ns then ns else ns ++ x ∷ []
 
 -- the acknowledgements behind a message: a fit one counts where its transaction is decided
 abbrev pub acks_heard : NodeId → View → NodeId → Message → TxId → List NodeId
@@ -134,14 +126,6 @@ opened_by y None sid0 = None
 opened_by None (Some s) sid0 = Some (begun_at s sid0)
 opened_by (Some y) (Some s) sid0 = None
 
--- a reply is taken
-abbrev pub with_taken : ℕ → Ident → Value → Open → Open
-with_taken j sid v x = record x { turn = 0; sid = Some (first_sid x.sid sid); values = x.values ++ (j, v) ∷ [] }
-
--- a request is sent to one of r holders
-abbrev pub with_turn : ℕ → Open → Open
-with_turn r x = record x { turn = place_behind r x.turn }
-
 -- an update is open until it is decided or aborted
 abbrev pub if_update : Option Open → Option Open
 if_update None = None
@@ -150,11 +134,11 @@ if_update (Some x) = if is_update x.script.ops then Some x else None
 -- the desk behind an out: a transaction is opened, changed, or gone
 abbrev pub desk_behind : Option ScriptData → View → Out → TxId → Option Open
 desk_behind s v (out.Act (act.Began u n sid0)) t = if u == t then opened_by (decision t v.journal) s sid0 else v.desk t
-desk_behind s v (out.Act (act.Taken u j sid w)) t = if u == t then changed_open (with_taken j sid w) (v.desk t) else v.desk t
+desk_behind s v (out.Act (act.Taken u j sid w)) t = if u == t then changed_open (with_value j sid w) (v.desk t) else v.desk t
 desk_behind s v (out.Act (act.Finished u)) t = if u == t then if_update (v.desk t) else v.desk t
 desk_behind s v (out.Act (act.Aborted u n why)) t = if u == t then None else v.desk t
 desk_behind s v (out.Act (act.Decided u f)) t = if u == t then None else v.desk t
-desk_behind s v (out.Send to (message.ReadReq q)) t = if q.t == t then changed_open (with_turn (length (holders v.cluster.places q.key))) (v.desk t) else v.desk t
+desk_behind s v (out.Send to (message.ReadReq q)) t = if q.t == t then changed_open (with_request (length (holders v.cluster.places q.key))) (v.desk t) else v.desk t
 desk_behind s v o t = v.desk t
 
 -- the acknowledgements behind an out: none of a transaction that begins, is decided or is closed

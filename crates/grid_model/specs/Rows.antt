@@ -31,7 +31,7 @@ use Rattle.grid_model.specs.declared.stories.HeldRead.{HeldRead}
 use Rattle.grid_model.specs.declared.stories.Voted.{Voted}
 use Rattle.journal_words.specs.declared.versions.Version.{Version}
 use Rattle.journal_words.specs.Journals.{commit_id, floor, is_clear, version_at, ended, is_commit, pending, holder, newer, home_of}
-use Rattle.grid_model.specs.Stories.{has_voted, first_sid}
+use Rattle.grid_model.specs.Stories.{has_voted, at_begin, with_value}
 use Rattle.grid_model.specs.Views.{Participant, View, participant, Open, Stage, Apart, Reads, Collects, Commits, stage}
 use Rattle.grid_model.specs.Advances.{advance, request, prepares, parts_now, to_node}
 use Rattle.grid_model.specs.Fitness.{is_fit_at, tx_in}
@@ -81,7 +81,7 @@ read_row n p x q sid =
 
 -- a read reply at the home
 abbrev pub reply_row : ClusterData → ReadRep → Stage → List Out
-reply_row c q (Reads x j) = if j == q.op then out.Act (act.Taken q.t q.op q.sid q.value) ∷ advance c (record x { turn = 0; sid = Some (first_sid x.sid q.sid); values = x.values ++ (q.op, q.value) ∷ [] }) q.op else []
+reply_row c q (Reads x j) = if j == q.op then out.Act (act.Taken q.t q.op q.sid q.value) ∷ advance c (record x { progress = with_value q.op q.sid q.value x.progress }) q.op else []
 reply_row c q s = []
 
 -- ---- votes
@@ -139,7 +139,7 @@ ballot_row t ns votes x (ballot.No why) = out.Act (act.Aborted t x why) ∷ tell
 
 -- a vote from x at the home
 abbrev pub vote_row : ClusterData → TxId → NodeId → Ballot → Stage → List Out
-vote_row c t x b (Collects o) = if has_voted x o.votes then [] else ballot_row t (parts_now c o) o.votes x b
+vote_row c t x b (Collects o) = if has_voted x o.progress.votes then [] else ballot_row t (parts_now c o) o.progress.votes x b
 vote_row c t x b s = []
 
 -- each of these nodes is among those
@@ -216,7 +216,7 @@ answer n v x said = answer_at n (participant v) v.held (stage v (tx_in said)) x 
 
 -- a transaction that begins at n
 abbrev pub begun_at : ScriptData → Ident → Open
-begun_at s sid0 = record { script = s; sid0 = sid0; sid = None; values = []; votes = []; turn = 0 }
+begun_at s sid0 = record { script = s; progress = at_begin sid0 }
 
 -- what n gives where a transaction of its own begins
 abbrev pub begin_outs : NodeId → Participant → ScriptData → List Out
@@ -232,8 +232,8 @@ not_among ns ms = filter (λ n. not (is_among n ms)) ns
 
 -- what the home sends again; nothing where nothing is outstanding
 abbrev pub retry_row : ClusterData → TxId → Stage → List Out
-retry_row c t (Reads x j) = request c x j x.turn
-retry_row c t (Collects x) = prepares c x (not_voted (parts_now c x) x.votes)
+retry_row c t (Reads x j) = request c x j x.progress.turn
+retry_row c t (Collects x) = prepares c x (not_voted (parts_now c x) x.progress.votes)
 retry_row c t (Commits y acks) = tells t (outcome.Commit y.final) (not_among y.parts acks)
 retry_row c t Apart = []
 

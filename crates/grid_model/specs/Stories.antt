@@ -21,6 +21,7 @@ use Rattle.grid_model.specs.declared.acts.Act.TheVariants as act
 use Rattle.grid_model.specs.declared.messages.Envelope.{Envelope}
 use Rattle.grid_model.specs.declared.messages.Message.{Message}
 use Rattle.grid_model.specs.declared.messages.Message.TheVariants as message
+use Rattle.grid_model.specs.declared.stories.Progress.{Progress}
 use Rattle.grid_model.specs.declared.stories.Story.{Story}
 use Rattle.grid_model.specs.declared.stories.Voted.{Voted}
 use Rattle.grid_model.specs.Documents.{DocumentData}
@@ -49,7 +50,7 @@ open_phase None = Collecting
 
 -- a transaction of which no decision stands
 abbrev pub undecided_phase : List Op → Story → Phase
-undecided_phase ops x = if x.aborted then Aborted else (if x.finished && not (is_update ops) then Answered else open_phase (waiting ops x.values))
+undecided_phase ops x = if x.aborted then Aborted else (if x.finished && not (is_update ops) then Answered else open_phase (waiting ops x.progress.values))
 
 -- a transaction that was not lost, by the decision that stands
 abbrev pub decided_phase : List Op → Story → Bool → Option Decision → Phase
@@ -101,11 +102,11 @@ is_part ns Collecting x = is_among x ns
 is_part ns (Decided y) x = is_among x y.parts
 is_part ns p x = true
 
--- ---- the story
+-- ---- how far it came
 
--- a transaction that is begun
-abbrev pub begun : Ident → Story
-begun sid0 = record { sid0 = sid0; turn = 0; sid = None; values = []; votes = []; acks = []; finished = false; aborted = false; lost = false }
+-- nothing is taken yet
+abbrev pub at_begin : Ident → Progress
+at_begin sid0 = record { sid0 = sid0; turn = 0; sid = None; values = []; votes = [] }
 
 -- the identifier that is there, or else this one
 abbrev pub first_sid : Option Ident → Ident → Ident
@@ -117,28 +118,46 @@ abbrev pub place_behind : ℕ → ℕ → ℕ
 place_behind r i = if nat_lt (i + 1) r then i + 1 else 0
 
 -- a request more for a key of r holders
-abbrev pub with_request : ℕ → Story → Story
+abbrev pub with_request : ℕ → Progress → Progress
 with_request r x = record x { turn = place_behind r x.turn }
 
 -- a reply is taken: the first fixes the snapshot identifier
-abbrev pub with_value : ℕ → Ident → Value → Story → Story
+abbrev pub with_value : ℕ → Ident → Value → Progress → Progress
 with_value j sid v x = record x { turn = 0; sid = Some (first_sid x.sid sid); values = x.values ++ (j, v) ∷ [] }
 
 -- a vote of n is among these
 abbrev pub has_voted : NodeId → List Voted → Bool
 has_voted n vs = list_any (λ v. v.from == n) vs
 
--- the first yes of each part is taken
-abbrev pub with_vote : NodeId → Ident → Story → Story
-with_vote n p x = if has_voted n x.votes then x else record x { votes = x.votes ++ record { from = n; p = p } ∷ [] }
+-- the first yes of each part
+abbrev pub with_voted : NodeId → Ident → List Voted → List Voted
+with_voted n p vs = if has_voted n vs then vs else vs ++ record { from = n; p = p } ∷ []
+
+-- a yes is taken
+abbrev pub with_vote : NodeId → Ident → Progress → Progress
+with_vote n p x = record x { votes = with_voted n p x.votes }
+
+-- ---- the story
+
+-- a transaction that is begun
+abbrev pub begun : Ident → Story
+begun sid0 = record { progress = at_begin sid0; acks = []; finished = false; aborted = false; lost = false }
+
+-- a transaction that came further
+abbrev pub progressed : (Progress → Progress) → Story → Story
+progressed f x = record x { progress = f x.progress }
+
+-- a node among these, once
+abbrev pub with_node : NodeId → List NodeId → List NodeId
+with_node n ns = if is_among n ns then ns else ns ++ n ∷ []
 
 -- each part is noted once
 abbrev pub with_ack : NodeId → Story → Story
-with_ack n x = if is_among n x.acks then x else record x { acks = x.acks ++ n ∷ [] }
+with_ack n x = record x { acks = with_node n x.acks }
 
 -- the votes and acknowledgements are forgotten
 abbrev pub without_answers : Story → Story
-without_answers x = record x { votes = []; acks = [] }
+without_answers x = record x { progress = record x.progress { votes = [] }; acks = [] }
 
 -- the story with a change, where it was told
 abbrev pub if_told : Bool → (Story → Story) → Option Story → Option Story
@@ -161,7 +180,7 @@ is_counted_ack ns p r next x = is_decided p && (is_small_node r next && is_part 
 
 -- a message that comes from x to the home, which is this node
 abbrev pub heard : List NodeId → Phase → Node → TxId → NodeId → Message → Option Story → Option Story
-heard ns p h t x (message.Vote u (ballot.Yes proposal)) o = if_told ((u == t) && is_counted_vote ns p h.journal h.next x proposal) (with_vote x proposal) o
+heard ns p h t x (message.Vote u (ballot.Yes proposal)) o = if_told ((u == t) && is_counted_vote ns p h.journal h.next x proposal) (progressed (with_vote x proposal)) o
 heard ns p h t x (message.Ack u) o = if_told ((u == t) && is_counted_ack ns p h.journal h.next x) (with_ack x) o
 heard ns p h t x said o = o
 
@@ -181,7 +200,7 @@ heard_at d past s e o = heard_on d (node d past) s e o
 
 -- the story behind a message that is sent: a read request turns to the next holder
 abbrev pub asked : DocumentData → TxId → Message → Option Story → Option Story
-asked d t (message.ReadReq q) o = if_told (q.t == t) (with_request (length (holders d.cluster.places q.key))) o
+asked d t (message.ReadReq q) o = if_told (q.t == t) (progressed (with_request (length (holders d.cluster.places q.key)))) o
 asked d t said o = o
 
 -- the story of t behind one act more, by the messages that were sent and by the nodes
@@ -189,7 +208,7 @@ abbrev pub told_on : DocumentData → List Envelope → (NodeId → Node) → Ac
 told_on d ms nodes (act.Began u n sid0) t o = if u == t then Some (begun sid0) else o
 told_on d ms nodes (act.Sent m x y said) t o = asked d t said o
 told_on d ms nodes (act.Got m) t o = heard_on d nodes (script_of t d.scripts) (sent_at m ms) o
-told_on d ms nodes (act.Taken u j sid v) t o = if_told (u == t) (with_value j sid v) o
+told_on d ms nodes (act.Taken u j sid v) t o = if_told (u == t) (progressed (with_value j sid v)) o
 told_on d ms nodes (act.Finished u) t o = if_told (u == t) (λ x. record x { finished = true }) o
 told_on d ms nodes (act.Aborted u n c) t o = if_told (u == t) (λ x. record x { aborted = true }) o
 told_on d ms nodes (act.Lost u) t o = if_told (u == t) (λ x. record x { lost = true }) o

@@ -3,13 +3,12 @@ use Rattle.std.specs.Prelude.{ℕ, ◌&&◌, ◌==◌, List, [], Option, Some, N
 use Rattle.score_base.specs.declared.ids.TxId.{TxId}
 use Rattle.score_base.specs.declared.ids.NodeId.{NodeId}
 use Rattle.score_base.specs.declared.ids.Ident.{Ident}
-use Rattle.score_base.specs.declared.ids.Value.{Value}
 use Rattle.score_base.specs.declared.records.Record.{Record}
 use Rattle.script_lang.specs.Scripts.{ScriptData}
 use Rattle.placement.specs.Clusters.{ClusterData}
 use Rattle.grid_model.specs.declared.acts.Act.{Act}
 use Rattle.grid_model.specs.declared.stories.Story.{Story}
-use Rattle.grid_model.specs.declared.stories.Voted.{Voted}
+use Rattle.grid_model.specs.declared.stories.Progress.{Progress}
 use Rattle.grid_model.specs.declared.stories.HeldRead.{HeldRead}
 use Rattle.grid_model.specs.Documents.{DocumentData}
 use Rattle.journal_words.specs.Journals.{Decision, undone}
@@ -20,11 +19,7 @@ use Rattle.script_runs.specs.Waits.{waiting}
 -- what a home knows of a transaction that is reading or collecting
 pub record Open : Type 0 where
   pub script : ScriptData
-  pub sid0 : Ident
-  pub sid : Option Ident
-  pub values : List (ℕ × Value)
-  pub votes : List Voted
-  pub turn : ℕ
+  pub progress : Progress
 
 -- what a node knows as a participant: the cluster; the records of its journal, the newest first; its clock
 pub record Participant : Type 0 where
@@ -55,7 +50,7 @@ participant_of c h = record { cluster = c; journal = h.journal; next = h.next }
 
 -- what a home knows of an open transaction, by its story
 abbrev pub open_of : ScriptData → Story → Open
-open_of s x = record { script = s; sid0 = x.sid0; sid = x.sid; values = x.values; votes = x.votes; turn = x.turn }
+open_of s x = record { script = s; progress = x.progress }
 
 -- the same, where the phase is an open one
 abbrev pub open_by : ScriptData → Phase → Option Story → Option Open
@@ -110,7 +105,7 @@ open_stage x (Some j) = Reads x j
 -- a decision comes first, then what is open
 abbrev pub stage_by : Option Decision → Option Open → List NodeId → Stage
 stage_by (Some y) o acks = Commits y acks
-stage_by None (Some x) acks = open_stage x (waiting x.script.ops x.values)
+stage_by None (Some x) acks = open_stage x (waiting x.script.ops x.progress.values)
 stage_by None None acks = Apart
 
 -- where t stands at n, by the node, the script of t and its story

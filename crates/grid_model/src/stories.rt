@@ -14,9 +14,9 @@ impl TryCopy for Voted {
     }
 }
 
-/// What happened to a transaction since it was begun.
+/// How far a transaction came since it was begun.
 #[derive(Drop, Debug)]
-pub struct Story {
+pub struct Progress {
     /// The commit identifier of the home at the begin.
     pub sid0: Ident,
     /// Which holder of the key that is being read is asked next, in the order that the home prefers:
@@ -28,6 +28,12 @@ pub struct Story {
     pub values: Members<(u8, Value)>,
     /// The yes votes that were taken, in order.
     pub votes: Members<Voted>,
+}
+
+/// What happened to a transaction since it was begun.
+#[derive(Drop, Debug)]
+pub struct Story {
+    pub progress: Progress,
     /// The parts whose acknowledgements were taken since the home was last opened, in order.
     pub acks: NodeList,
     /// Whether the client was told.

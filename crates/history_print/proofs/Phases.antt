@@ -22,9 +22,9 @@ unfolding open_words phase_words
 open_same None sid = refl
 open_same (Some j) sid = refl
 
-undecided_same : (ops : List Op) (x : Story) → undecided_words x.aborted (x.finished && not (is_update ops)) (waiting ops x.values) (snapshot_in (Some x)) ≡ phase_words (undecided_phase ops x) (snapshot_in (Some x))
+undecided_same : (ops : List Op) (x : Story) → undecided_words x.aborted (x.finished && not (is_update ops)) (waiting ops x.progress.values) (snapshot_in (Some x)) ≡ phase_words (undecided_phase ops x) (snapshot_in (Some x))
 unfolding undecided_words phase_words
-undecided_same ops x = if_words x.aborted _ _ Aborted _ _ refl (if_words (x.finished && not (is_update ops)) _ _ Answered (open_phase (waiting ops x.values)) _ refl (open_same (waiting ops x.values) _))
+undecided_same ops x = if_words x.aborted _ _ Aborted _ _ refl (if_words (x.finished && not (is_update ops)) _ _ Answered (open_phase (waiting ops x.progress.values)) _ refl (open_same (waiting ops x.progress.values) _))
 
 pub story_same : (ops : List Op) (o : Option Story) (closed : Bool) (y : Option Decision) → story_words ops o (option_map (λ d. d.final) y) ≡ phase_words (phase_by ops o closed y) (snapshot_in o)
 unfolding story_words final_words phase_words

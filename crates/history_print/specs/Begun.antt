@@ -29,4 +29,4 @@ decided_words (Some f) rest = final_words f
 -- a transaction by its story and its final identifier
 unfoldable pub story_words : List Op → Option Story → Option Ident → List (List ℕ)
 story_words ops None f = codes "unbegun" ∷ []
-story_words ops (Some x) f = if x.lost then codes "lost" ∷ [] else decided_words f (undecided_words x.aborted (x.finished && not (is_update ops)) (waiting ops x.values) (snapshot_in (Some x)))
+story_words ops (Some x) f = if x.lost then codes "lost" ∷ [] else decided_words f (undecided_words x.aborted (x.finished && not (is_update ops)) (waiting ops x.progress.values) (snapshot_in (Some x)))

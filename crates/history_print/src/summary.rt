@@ -69,8 +69,8 @@ fn put_undecided(
 fn snapshot_of(story: &Story) -> Ident
     ensures { result ≡ snapshot_in (Some story.now) }
 {
-    match story.sid {
-        None => story.sid0,
+    match story.progress.sid {
+        None => story.progress.sid0,
         Some(sid) => sid,
     }
 }
@@ -102,7 +102,7 @@ fn put_begun(
         out,
         story.aborted,
         story.finished && !is_update(ops),
-        first_waiting(ops, story.values.as_slice()),
+        first_waiting(ops, story.progress.values.as_slice()),
         snapshot_of(story),
     )
 }

@@ -14,7 +14,7 @@ use Rattle.grid_model.specs.Documents.{DocumentData}
 use Rattle.grid_model.specs.Histories.{sent, sent_at}
 use Rattle.grid_model.specs.Keyed.{at_key, put_key}
 use Rattle.grid_model.specs.Nodes.{Node, node, script_of, parts_of, is_home}
-use Rattle.grid_model.specs.Stories.{story, begun, told, if_told, heard, heard_at, asked, phase_at, Phase, with_request, with_value, with_vote, with_ack, without_answers, is_counted_vote, is_counted_ack}
+use Rattle.grid_model.specs.Stories.{story, begun, told, if_told, heard, heard_at, asked, phase_at, Phase, with_request, with_value, with_vote, with_ack, without_answers, is_counted_vote, is_counted_ack, progressed}
 use Rattle.grid_model.proofs.Places.{at-put, put-other}
 use Rattle.grid_model.proofs.Undecided.{script-number}
 use Rattle.run_state.specs.Kept.{retold, paired, voter, hearing_at, hearing_of, hearing, asking, telling, put_telling, forgotten, retold_by}
@@ -59,7 +59,7 @@ unheard ns p h t x said o e = refl
 
 -- one of another transaction changes nothing
 heard-other : (ns : List ℕ) (p : Phase) (h : Node) (t x u : ℕ) (said : Message) (o : Option Story) → voter said ≡ Some u → (u == t) ≡ false → heard ns p h t x said o ≡ o
-heard-other ns p h t x u (message.Vote v (ballot.Yes y)) o e apart = let same : v ≡ u = cc in rw (same, apart) (sym (if-not (with_vote x y) o))
+heard-other ns p h t x u (message.Vote v (ballot.Yes y)) o e apart = let same : v ≡ u = cc in rw (same, apart) (sym (if-not (progressed (with_vote x y)) o))
 heard-other ns p h t x u (message.Vote v (ballot.No y)) o e apart = refl
 heard-other ns p h t x u (message.Ack v) o e apart = let same : v ≡ u = cc in rw (same, apart) (sym (if-not (with_ack x) o))
 heard-other ns p h t x u said o e apart = cc
@@ -71,7 +71,7 @@ if-kept false f (Some x) = refl
 
 -- what is heard takes no story away and makes none
 heard-kept : (ns : List ℕ) (p : Phase) (h : Node) (t x : ℕ) (said : Message) (o : Option Story) → is_some (heard ns p h t x said o) ≡ is_some o
-heard-kept ns p h t x (message.Vote v (ballot.Yes y)) o = if-kept ((v == t) && is_counted_vote ns p h.journal h.next x y) (with_vote x y) o
+heard-kept ns p h t x (message.Vote v (ballot.Yes y)) o = if-kept ((v == t) && is_counted_vote ns p h.journal h.next x y) (progressed (with_vote x y)) o
 heard-kept ns p h t x (message.Ack v) o = if-kept ((v == t) && is_counted_ack ns p h.journal h.next x) (with_ack x) o
 heard-kept ns p h t x said o = refl
 
@@ -137,7 +137,7 @@ hearing-told d past (Some e) t = hearing-by d past e (voter e.message) t refl
 -- ---- the other acts
 
 asking-told : (d : DocumentData) (past : List Act) (said : Message) (t : ℕ) → behind (asking d past said) t (story d past t) ≡ asked d t said (story d past t)
-asking-told d past (message.ReadReq q) t = told-if (story d past) (with_request _) q.t t (story d past q.t) refl
+asking-told d past (message.ReadReq q) t = told-if (story d past) (progressed (with_request _)) q.t t (story d past q.t) refl
 asking-told d past said t = refl
 
 some-if : (b : Bool) (f : Story → Story) (x : Story) → Some (if b then f x else x) ≡ if_told b f (Some x)
@@ -162,7 +162,7 @@ stories-more d past (act.Down n h) xs same t = at-forgotten d n xs t ∙ ap (if_
 stories-more d past (act.Began u n s) xs same t = at-put_cases u t (begun s) xs ∙ ap (λ o. if u == t then Some (begun s) else o) (same t)
 stories-more d past (act.Sent m x y said) xs same t = at-telling (asking d past said) xs t ∙ ap (behind (asking d past said) t) (same t) ∙ asking-told d past said t
 stories-more d past (act.Got m) xs same t = at-telling (hearing d past (sent_at m (sent past))) xs t ∙ ap (behind (hearing d past (sent_at m (sent past))) t) (same t) ∙ hearing-told d past (sent_at m (sent past)) t
-stories-more d past (act.Taken u j sid v) xs same t = told-one d past (with_value j sid v) u xs same t
+stories-more d past (act.Taken u j sid v) xs same t = told-one d past (progressed (with_value j sid v)) u xs same t
 stories-more d past (act.Finished u) xs same t = told-one d past (λ x. record x { finished = true }) u xs same t
 stories-more d past (act.Aborted u n c) xs same t = told-one d past (λ x. record x { aborted = true }) u xs same t
 stories-more d past (act.Lost u) xs same t = told-one d past (λ x. record x { lost = true }) u xs same t

@@ -14,7 +14,7 @@ use Rattle.grid_model.specs.Documents.{DocumentData}
 use Rattle.grid_model.specs.Histories.{after, sent, sent_at, is_gone}
 use Rattle.grid_model.specs.Keyed.{at_key, put_key}
 use Rattle.grid_model.specs.Nodes.{Node, blank, node, got, script_of, parts_of, is_home}
-use Rattle.grid_model.specs.Stories.{story, begun, with_request, with_value, without_answers, heard, phase_at}
+use Rattle.grid_model.specs.Stories.{story, begun, with_request, with_value, without_answers, heard, phase_at, progressed}
 
 -- a run so far: the acts of a document, in the order of time
 pub record RunData : Type 0 where
@@ -114,7 +114,7 @@ hearing d past (Some e) = hearing_of d past e (voter e.message)
 
 -- the story that a message changes where it is sent
 abbrev pub asking : DocumentData → List Act → Message → Option (TxId × Story)
-asking d past (message.ReadReq q) = retold q.t (with_request (length (holders d.cluster.places q.key))) (story d past q.t)
+asking d past (message.ReadReq q) = retold q.t (progressed (with_request (length (holders d.cluster.places q.key)))) (story d past q.t)
 asking d past said = None
 
 -- the story that an act changes, as it is behind the act; a Down may change many
@@ -122,7 +122,7 @@ abbrev pub telling : DocumentData → List Act → Act → Option (TxId × Story
 telling d past (act.Began t n sid0) = Some (t, begun sid0)
 telling d past (act.Sent m x y said) = asking d past said
 telling d past (act.Got m) = hearing d past (sent_at m (sent past))
-telling d past (act.Taken t j sid v) = retold t (with_value j sid v) (story d past t)
+telling d past (act.Taken t j sid v) = retold t (progressed (with_value j sid v)) (story d past t)
 telling d past (act.Finished t) = retold t (λ x. record x { finished = true }) (story d past t)
 telling d past (act.Aborted t n c) = retold t (λ x. record x { aborted = true }) (story d past t)
 telling d past (act.Lost t) = retold t (λ x. record x { lost = true }) (story d past t)

@@ -3,7 +3,7 @@ ghost use Rattle.std.specs.Prelude.{◌≡◌, ◌≤◌, ◌+◌, ◌-◌, ◌=
 ghost use Rattle.std.specs.Option.{option_copied};
 ghost use Rattle.grid_model.specs.Histories.{after, sent, sent_at};
 ghost use Rattle.grid_model.specs.Nodes.{change, changed, is_home};
-ghost use Rattle.grid_model.specs.Stories.{with_value};
+ghost use Rattle.grid_model.specs.Stories.{progressed, with_value};
 ghost use Rattle.grid_model.specs.Keyed.{at_key, IsPlace, IsAbsent};
 ghost use Rattle.run_state.specs.Kept.{posted, got_by, going, is_number, is_marked, place_of, node_in, put_telling, forgotten, forgotten_one, retold_by};
 
@@ -353,7 +353,7 @@ impl<'a> RunState<'a> {
         sid: Ident,
         value: Value,
     ) -> Result<Option<(TxId, Story)>, Memory>
-        ensures { IfOk result (λ o. o ≡ retold t (with_value j sid value) (story self.now.doc (past self.now) t)) }
+        ensures { IfOk result (λ o. o ≡ retold t (progressed (with_value j sid value)) (story self.now.doc (past self.now) t)) }
     {
         match self.story(t) {
             None => Ok(None),

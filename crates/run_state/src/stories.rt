@@ -1,28 +1,37 @@
 //! What an act tells of a transaction.
 ghost use Rattle.std.specs.Prelude.{◌≡◌, ℕ, List, Some, IfOk};
 ghost use Rattle.std.specs.List.{list_any};
-ghost use Rattle.grid_model.specs.Stories.{begun, with_request, with_value, with_vote, with_ack, without_answers, has_voted, is_collecting, undecided_phase, phase_at, is_small, is_small_node, is_counted_vote, is_counted_ack, heard};
+ghost use Rattle.grid_model.specs.Stories.{at_begin, begun, progressed, with_request, with_value, with_vote, with_ack, without_answers, has_voted, is_collecting, undecided_phase, phase_at, is_small, is_small_node, is_counted_vote, is_counted_ack, heard};
 ghost use Rattle.grid_model.specs.Nodes.{parts_of};
 
 use crate::plain_nodes::PlainNode;
 use crate::scripts::parts_of;
-use grid_model::{Document, Message, Story, Voted};
+use grid_model::{Document, Message, Progress, Story, Voted};
 use journal_words::records::{decision, floor, undone};
 use score_base::{Ballot, Ident, Members, Memory, NodeId, NodeList, TryCopy, Value};
 use script_lang::{Script, is_update};
 use script_runs::first_waiting;
 use std::alloc::Global;
 
-/// A transaction that is begun.
-pub fn begun(alloc: Global, sid0: Ident) -> Story
-    ensures { result ≡ begun sid0 }
+/// How far a transaction came that is begun.
+fn at_begin(alloc: Global, sid0: Ident) -> Progress
+    ensures { result ≡ at_begin sid0 }
 {
-    Story {
+    Progress {
         sid0,
         turn: 0,
         sid: None,
         values: Members::new(alloc),
         votes: Members::new(alloc),
+    }
+}
+
+/// A transaction that is begun.
+pub fn begun(alloc: Global, sid0: Ident) -> Story
+    ensures { result ≡ begun sid0 }
+{
+    Story {
+        progress: at_begin(alloc, sid0),
         acks: NodeList::new(alloc),
         finished: false,
         aborted: false,
@@ -30,16 +39,25 @@ pub fn begun(alloc: Global, sid0: Ident) -> Story
     }
 }
 
+/// An equal progress.
+fn copy_of_progress(progress: &Progress) -> Result<Progress, Memory>
+    ensures { IfOk result (λ x. x ≡ progress.now) }
+{
+    Ok(Progress {
+        sid0: progress.sid0,
+        turn: progress.turn,
+        sid: progress.sid,
+        values: progress.values.copy()?,
+        votes: progress.votes.copy()?,
+    })
+}
+
 /// An equal story.
 pub fn copy_of(story: &Story) -> Result<Story, Memory>
     ensures { IfOk result (λ x. x ≡ story.now) }
 {
     Ok(Story {
-        sid0: story.sid0,
-        turn: story.turn,
-        sid: story.sid,
-        values: story.values.copy()?,
-        votes: story.votes.copy()?,
+        progress: copy_of_progress(&story.progress)?,
         acks: story.acks.copy()?,
         finished: story.finished,
         aborted: story.aborted,
@@ -49,11 +67,11 @@ pub fn copy_of(story: &Story) -> Result<Story, Memory>
 
 /// The story behind a request more for a key of so many holders.
 pub fn with_request(holders: usize, story: &Story) -> Result<Story, Memory>
-    ensures { IfOk result (λ x. x ≡ with_request holders story.now) }
+    ensures { IfOk result (λ x. x ≡ progressed (with_request holders) story.now) }
 {
     let mut told = copy_of(story)?;
-    let turn = story.turn;
-    told.turn = if turn < holders && turn + 1 < holders {
+    let turn = story.progress.turn;
+    told.progress.turn = if turn < holders && turn + 1 < holders {
         turn + 1
     } else {
         0
@@ -63,14 +81,14 @@ pub fn with_request(holders: usize, story: &Story) -> Result<Story, Memory>
 
 /// The story behind a reply that is taken: the first fixes the snapshot.
 pub fn with_value(j: u8, sid: Ident, value: Value, story: &Story) -> Result<Story, Memory>
-    ensures { IfOk result (λ x. x ≡ with_value j sid value story.now) }
+    ensures { IfOk result (λ x. x ≡ progressed (with_value j sid value) story.now) }
 {
     let mut told = copy_of(story)?;
-    told.turn = 0;
-    if told.sid.is_none() {
-        told.sid = Some(sid);
+    told.progress.turn = 0;
+    if told.progress.sid.is_none() {
+        told.progress.sid = Some(sid);
     }
-    told.values.push((j, value))?;
+    told.progress.values.push((j, value))?;
     Ok(told)
 }
 
@@ -83,11 +101,11 @@ pub fn has_voted(n: NodeId, votes: &[Voted]) -> bool
 
 /// The story behind a yes of the node; the first one is taken.
 fn with_vote(from: NodeId, p: Ident, story: &Story) -> Result<Story, Memory>
-    ensures { IfOk result (λ x. x ≡ with_vote from p story.now) }
+    ensures { IfOk result (λ x. x ≡ progressed (with_vote from p) story.now) }
 {
     let mut told = copy_of(story)?;
-    if !has_voted(from, story.votes.as_slice()) {
-        told.votes.push(Voted { from, p })?;
+    if !has_voted(from, story.progress.votes.as_slice()) {
+        told.progress.votes.push(Voted { from, p })?;
     }
     Ok(told)
 }
@@ -108,7 +126,7 @@ pub fn without_answers(alloc: Global, story: Story) -> Story
     ensures { result ≡ without_answers story }
 {
     let mut told = story;
-    told.votes = Members::new(alloc);
+    told.progress.votes = Members::new(alloc);
     told.acks = NodeList::new(alloc);
     told
 }
@@ -120,7 +138,7 @@ fn is_undecided_collecting(script: &Script, story: &Story) -> bool
     if story.aborted || (story.finished && !is_update(script.ops())) {
         return false;
     }
-    first_waiting(script.ops(), story.values.as_slice()).is_none()
+    first_waiting(script.ops(), story.progress.values.as_slice()).is_none()
 }
 
 /// Whether a transaction is collecting, by its story and its home.

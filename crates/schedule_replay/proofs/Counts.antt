@@ -134,7 +134,7 @@ counts-owns t [] = counts-none 0 0
 counts-owns t (y ∷ values) = let p : Counts 0 0 (map (λ z. out.Act (act.Own t z.0 z.1)) values) = counts-owns t values in record { sent = p.sent; held = p.held; own = p.own }
 
 pub counts-advance : (c : ClusterData) (x : Open) (i : ℕ) → Counts 16 0 (advance c x i)
-counts-advance c x i = counts-append 0 0 16 0 (owns x.script.number i (own_reads 1 [] unread x.values x.script.ops)) (advance_end c x (waiting x.script.ops x.values)) (counts-owns x.script.number _) (counts-end c x (waiting x.script.ops x.values))
+counts-advance c x i = counts-append 0 0 16 0 (owns x.script.number i (own_reads 1 [] unread x.progress.values x.script.ops)) (advance_end c x (waiting x.script.ops x.progress.values)) (counts-owns x.script.number _) (counts-end c x (waiting x.script.ops x.progress.values))
 
 -- ---- reads
 
@@ -163,7 +163,7 @@ counts-taken t op sid value os p = record { sent = p.sent; held = p.held; own = 
 
 counts-reply : (c : ClusterData) (q : ReadRep) (s : Stage) → Counts 16 0 (reply_row c q s)
 counts-reply c q (Reads x j) =
-    let y : Open = record x { turn = 0; sid = Some (first_sid x.sid q.sid); values = x.values ++ (q.op, q.value) ∷ [] } in
+    let y : Open = record x { progress = with_value q.op q.sid q.value x.progress } in
     counts-if (j == q.op) 16 0 (out.Act (act.Taken q.t q.op q.sid q.value) ∷ advance c y q.op) [] (counts-taken q.t q.op q.sid q.value (advance c y q.op) (counts-advance c y q.op)) (counts-none 16 0)
 counts-reply c q Apart = counts-none 16 0
 counts-reply c q (Collects x) = counts-none 16 0
@@ -195,7 +195,7 @@ counts-ballot t ns votes x (ballot.No why) h =
     record { sent = p.sent; held = p.held; own = p.own }
 
 counts-vote : (c : ClusterData) (t x : ℕ) (b : Ballot) (s : Stage) → Counts 16 0 (vote_row c t x b s)
-counts-vote c t x b (Collects o) = counts-if (has_voted x o.votes) 16 0 [] _ (counts-none 16 0) (counts-ballot t (parts_now c o) o.votes x b (parts-short c.places (keys_of o.script.ops)))
+counts-vote c t x b (Collects o) = counts-if (has_voted x o.progress.votes) 16 0 [] _ (counts-none 16 0) (counts-ballot t (parts_now c o) o.progress.votes x b (parts-short c.places (keys_of o.script.ops)))
 counts-vote c t x b Apart = counts-none 16 0
 counts-vote c t x b (Reads o j) = counts-none 16 0
 counts-vote c t x b (Commits y acks) = counts-none 16 0
@@ -256,8 +256,8 @@ IsShort (Collects x) = 0 ≤ 16
 
 pub counts-retry : (c : ClusterData) (t : ℕ) (s : Stage) → IsShort s → Counts 16 0 (retry_row c t s)
 counts-retry c t Apart h = counts-none 16 0
-counts-retry c t (Reads x j) h = counts-more 1 0 16 0 (request c x j x.turn) (omega arith) (omega arith) (counts-request c x j x.turn)
-counts-retry c t (Collects x) h = counts-prepares c x (not_voted (parts_now c x) x.votes) (omega (arith, filter-short (λ n. not (has_voted n x.votes)) (parts_now c x), parts-short c.places (keys_of x.script.ops)))
+counts-retry c t (Reads x j) h = counts-more 1 0 16 0 (request c x j x.progress.turn) (omega arith) (omega arith) (counts-request c x j x.progress.turn)
+counts-retry c t (Collects x) h = counts-prepares c x (not_voted (parts_now c x) x.progress.votes) (omega (arith, filter-short (λ n. not (has_voted n x.progress.votes)) (parts_now c x), parts-short c.places (keys_of x.script.ops)))
 counts-retry c t (Commits y acks) h = counts-tells t (outcome.Commit y.final) (not_among y.parts acks) (omega (arith, h, filter-short (λ n. not (is_among n acks)) y.parts))
 
 pub counts-ask : (p : Participant) (t : ℕ) → Counts 1 0 (ask_outs p t)

@@ -133,7 +133,7 @@ short-decision t (record'.Closed u ∷ r) s = short-decision t r s.1
 short-stage : (o : Option Decision) (x : Option Open) (acks : List ℕ) → IsShortDecision o → IsShort (stage_by o x acks)
 short-stage (Some y) x acks p = p
 short-stage None None acks p = omega arith
-short-stage None (Some x) acks p = go (waiting x.script.ops x.values)
+short-stage None (Some x) acks p = go (waiting x.script.ops x.progress.values)
   where
     go : (j : Option ℕ) → IsShort (open_stage x j)
     go None = omega arith

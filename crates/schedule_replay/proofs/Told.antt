@@ -15,7 +15,7 @@ use Rattle.grid_model.specs.declared.events.Out.TheVariants as out
 use Rattle.grid_model.specs.declared.messages.Prepare.{Prepare}
 use Rattle.grid_model.specs.declared.messages.ReadRep.{ReadRep}
 use Rattle.grid_model.specs.declared.stories.Story.{Story}
-use Rattle.grid_model.specs.Stories.{first_sid, with_value}
+use Rattle.grid_model.specs.Stories.{first_sid, with_value, progressed}
 use Rattle.grid_model.specs.Views.{Open, open_of, Reads}
 use Rattle.script_runs.specs.Walks.{own_map}
 use Rattle.grid_model.specs.Advances.{parts_now, prepare_for, advance}
@@ -28,17 +28,17 @@ pub parts-told : {E : Type 0} (r : Result (List NodeId) E) (p q : List (List Nod
 parts-told r p q ks ls e f h = subst (λ (x : List (List NodeId)). IfOk r (λ ns. ns ≡ parts x ls)) e (subst (λ (x : List Key). IfOk r (λ ns. ns ≡ parts p x)) f h)
 
 -- a Prepare by its parts
-pub prepare-told : (c : ClusterData) (x : Open) (n t sid : ℕ) (ps : List NodeId) (reads : List Key) (writes : List (Key × Value)) → t ≡ x.script.number → sid ≡ first_sid x.sid x.sid0 → ps ≡ parts_now c x → reads ≡ filter (holds c.places n) (remote_keys [] x.script.ops) → writes ≡ map (λ k. (k, own_map x.script.ops x.values k)) (filter (holds c.places n) (written_keys [] x.script.ops)) → ◌≡◌ {A = Prepare} (record { t = t; sid = sid; parts = ps; reads = reads; writes = writes }) (prepare_for c x n)
+pub prepare-told : (c : ClusterData) (x : Open) (n t sid : ℕ) (ps : List NodeId) (reads : List Key) (writes : List (Key × Value)) → t ≡ x.script.number → sid ≡ first_sid x.progress.sid x.progress.sid0 → ps ≡ parts_now c x → reads ≡ filter (holds c.places n) (remote_keys [] x.script.ops) → writes ≡ map (λ k. (k, own_map x.script.ops x.progress.values k)) (filter (holds c.places n) (written_keys [] x.script.ops)) → ◌≡◌ {A = Prepare} (record { t = t; sid = sid; parts = ps; reads = reads; writes = writes }) (prepare_for c x n)
 prepare-told c x n t sid ps reads writes e f g h k = λ i. record { t = e i; sid = f i; parts = g i; reads = h i; writes = k i }
 
 same-number : (n : ℕ) → (n == n) ≡ true
 same-number n = grind (arith, nat_tests)
 
-taken-here : (c : ClusterData) (q : ReadRep) (x : Open) → out.Act (act.Taken q.t q.op q.sid q.value) ∷ advance c (record x { turn = 0; sid = Some (first_sid x.sid q.sid); values = x.values ++ (q.op, q.value) ∷ [] }) q.op ≡ reply_row c q (Reads x q.op)
-taken-here c q x = sym (ap (λ b. if b then out.Act (act.Taken q.t q.op q.sid q.value) ∷ advance c (record x { turn = 0; sid = Some (first_sid x.sid q.sid); values = x.values ++ (q.op, q.value) ∷ [] }) q.op else []) (same-number q.op))
+taken-here : (c : ClusterData) (q : ReadRep) (x : Open) → out.Act (act.Taken q.t q.op q.sid q.value) ∷ advance c (record x { progress = with_value q.op q.sid q.value x.progress }) q.op ≡ reply_row c q (Reads x q.op)
+taken-here c q x = sym (ap (λ b. if b then out.Act (act.Taken q.t q.op q.sid q.value) ∷ advance c (record x { progress = with_value q.op q.sid q.value x.progress }) q.op else []) (same-number q.op))
 
 -- a reply that is taken
-pub taken-told : (c : ClusterData) (q : ReadRep) (s : ScriptData) (story more : Story) (x : Open) (outs front rest : List Out) → open_of s story ≡ x → more ≡ with_value q.op q.sid q.value story → front ≡ out.Act (act.Taken q.t q.op q.sid q.value) ∷ [] → rest ≡ advance c (open_of s more) q.op → outs ≡ front ++ rest → outs ≡ reply_row c q (Reads x q.op)
+pub taken-told : (c : ClusterData) (q : ReadRep) (s : ScriptData) (story more : Story) (x : Open) (outs front rest : List Out) → open_of s story ≡ x → more ≡ progressed (with_value q.op q.sid q.value) story → front ≡ out.Act (act.Taken q.t q.op q.sid q.value) ∷ [] → rest ≡ advance c (open_of s more) q.op → outs ≡ front ++ rest → outs ≡ reply_row c q (Reads x q.op)
 taken-told c q s story more x outs front rest same m f r o =
     o
     ∙ ap (λ (y : List Out). y ++ rest) f

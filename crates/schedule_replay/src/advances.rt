@@ -80,7 +80,7 @@ fn push_request_of(
     };
     let (script, story) = (tx.script, tx.story);
     let (t, key) = (script.number, key_of(op));
-    let date = date_by(story.sid0, story.sid);
+    let date = date_by(story.progress.sid0, story.progress.sid);
     let to = holder_at(alloc, cluster, script.home, &key, place)?;
     push_to(
         outs,
@@ -172,13 +172,13 @@ fn prepare_for(
     mine: &Reads,
     n: NodeId,
 ) -> Result<Prepare, Memory>
-    requires { value_in mine.now ≡ own_map tx.now.script.ops tx.now.values }
+    requires { value_in mine.now ≡ own_map tx.now.script.ops tx.now.progress.values }
     ensures { IfOk result (λ q. q ≡ prepare_for cluster.now tx.now n) }
 {
     let (script, story) = (tx.script, tx.story);
     Ok(Prepare {
         t: script.number,
-        sid: first_sid(story.sid, story.sid0),
+        sid: first_sid(story.progress.sid, story.progress.sid0),
         parts: parts_now(alloc, cluster, tx)?,
         reads: reads_for(alloc, cluster, script, n)?,
         writes: writes_for(alloc, cluster, script, mine, n)?,
@@ -194,7 +194,7 @@ fn push_prepares(
     mine: &Reads,
     nodes: &[NodeId],
 ) -> Result<(), Memory>
-    requires { value_in mine.now ≡ own_map tx.now.script.ops tx.now.values }
+    requires { value_in mine.now ≡ own_map tx.now.script.ops tx.now.progress.values }
     ensures { OnOk result (outs.new.items ≡ outs.old.items ++ prepares cluster.now tx.now nodes.now) }
 {
     for node in nodes {
@@ -216,7 +216,7 @@ pub fn push_prepares_again(
     ensures { OnOk result (outs.new.items ≡ outs.old.items ++ prepares cluster.now tx.now nodes.now) }
 {
     let (script, story) = (tx.script, tx.story);
-    let trail = walk(alloc, script, story.values.as_slice())?;
+    let trail = walk(alloc, script, story.progress.values.as_slice())?;
     push_prepares(alloc, outs, cluster, tx, &trail.mine, nodes)
 }
 
@@ -249,7 +249,7 @@ fn push_collecting(
     tx: &Open,
     mine: &Reads,
 ) -> Result<(), Memory>
-    requires { value_in mine.now ≡ own_map tx.now.script.ops tx.now.values }
+    requires { value_in mine.now ≡ own_map tx.now.script.ops tx.now.progress.values }
     ensures { OnOk result (outs.new.items ≡ outs.old.items ++ advance_end cluster.now tx.now None) }
 {
     let script = tx.script;
@@ -265,7 +265,7 @@ pub fn advance(alloc: Global, cluster: &Cluster, tx: &Open, i: u8) -> Result<Vec
     ensures { IfOk result (λ outs. outs.items ≡ advance cluster.now tx.now i) }
 {
     let (script, story) = (tx.script, tx.story);
-    let trail = walk(alloc, script, story.values.as_slice())?;
+    let trail = walk(alloc, script, story.progress.values.as_slice())?;
     let mut outs = Vec::new(alloc);
     push_owns(&mut outs, script.number, i, trail.own.as_slice())?;
     match trail.waiting {

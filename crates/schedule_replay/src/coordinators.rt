@@ -111,9 +111,9 @@ fn yes_row(
     t: TxId,
     vote: Voted,
 ) -> Result<Vec<Out>, Memory>
-    ensures { IfOk result (λ outs. outs.items ≡ full_row t (parts_now cluster.now tx.now) (tx.now.votes ++ vote ∷ [])) }
+    ensures { IfOk result (λ outs. outs.items ≡ full_row t (parts_now cluster.now tx.now) (tx.now.progress.votes ++ vote ∷ [])) }
 {
-    let mut votes = tx.story.votes.copy()?;
+    let mut votes = tx.story.progress.votes.copy()?;
     votes.push(vote)?;
     let parts = parts_now(alloc, cluster, tx)?;
     if !have_voted(parts.as_slice(), votes.as_slice()) {
@@ -131,7 +131,7 @@ fn no_row(
     from: NodeId,
     why: &Cause,
 ) -> Result<Vec<Out>, Memory>
-    ensures { IfOk result (λ outs. outs.items ≡ ballot_row t (parts_now cluster.now tx.now) tx.now.votes from (Ballot.No why.now)) }
+    ensures { IfOk result (λ outs. outs.items ≡ ballot_row t (parts_now cluster.now tx.now) tx.now.progress.votes from (Ballot.No why.now)) }
 {
     let parts = parts_now(alloc, cluster, tx)?;
     let told = others(alloc, from, parts.as_slice())?;
@@ -155,7 +155,7 @@ pub fn vote_row(
     let Stage::Collects(tx) = stage else {
         return Ok(Vec::new(alloc));
     };
-    if has_voted(from, tx.story.votes.as_slice()) {
+    if has_voted(from, tx.story.progress.votes.as_slice()) {
         return Ok(Vec::new(alloc));
     }
     match ballot {

@@ -46,7 +46,7 @@ fn is_fit_reply(q: &ReadRep, stage: &Stage) -> bool
     ensures { result ≡ is_fit_reply q.now (shown stage.now) }
 {
     match stage {
-        Stage::Reads(tx, j) => *j != q.op || is_same_ident(q.sid, tx.story.sid),
+        Stage::Reads(tx, j) => *j != q.op || is_same_ident(q.sid, tx.story.progress.sid),
         _ => true,
     }
 }

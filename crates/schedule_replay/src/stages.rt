@@ -107,9 +107,9 @@ fn acks_at<'a>(
 
 /// Whether an open transaction is reading, and which operation, or collecting.
 fn open_stage(tx: Open<'_>) -> Stage<'_>
-    ensures { shown result ≡ open_stage tx.entry (waiting tx.entry.script.ops tx.entry.values) }
+    ensures { shown result ≡ open_stage tx.entry (waiting tx.entry.script.ops tx.entry.progress.values) }
 {
-    match first_waiting(tx.script.ops(), tx.story.values.as_slice()) {
+    match first_waiting(tx.script.ops(), tx.story.progress.values.as_slice()) {
         None => Stage::Collects(tx),
         Some(j) => Stage::Reads(tx, j as u8),
     }

@@ -12,7 +12,7 @@ returns c =
     let places = c.args.cluster.now.places in
     prepare-told c.args.cluster.now x c.args.n _ _ _ _ _
     (ap (λ s. s.number) c.script.view_is ∙ ap (λ y. y.script.number) c.tx.view_is)
-    (c.first_sid.ensures ∙ ap (λ y. first_sid y.sid y.sid0) c.tx.view_is)
+    (c.first_sid.ensures ∙ ap (λ y. first_sid y.progress.sid y.progress.sid0) c.tx.view_is)
     c.in_ok-parts_now.ensures
     (c.in_ok-reads_for.ensures ∙ ap (λ y. filter (holds places c.args.n) (remote_keys [] y.script.ops)) c.tx.view_is)
-    (c.in_ok-writes_for.ensures (own_map x.script.ops x.values) c.requires ∙ ap (λ y. map (λ k. (k, own_map x.script.ops x.values k)) (filter (holds places c.args.n) (written_keys [] y.script.ops))) c.tx.view_is)
+    (c.in_ok-writes_for.ensures (own_map x.script.ops x.progress.values) c.requires ∙ ap (λ y. map (λ k. (k, own_map x.script.ops x.progress.values k)) (filter (holds places c.args.n) (written_keys [] y.script.ops))) c.tx.view_is)
