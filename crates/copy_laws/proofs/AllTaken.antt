@@ -24,6 +24,7 @@ use Rattle.journal_words.proofs.Orders.{AreFalling, has_member, member-append}
 use Rattle.journal_words.proofs.LastWrites.{all-up_to}
 use Rattle.script_runs.proofs.RemoteReads.{IsRemote, order-remote}
 use Rattle.script_runs.proofs.SerialWalks.{AreOf, AreOfKeys, keys-of}
+use Rattle.script_runs.proofs.Walks.{op-place}
 use Rattle.grid_model.proofs.SerialCopies.{AllTake, Takes, falling-rest, last_map, last-skips, script_write, write_by}
 use Rattle.grid_laws.proofs.DecisionsRest.{DecisionSays, decided-say, decision-stands, decisions-rest}
 use Rattle.grid_laws.proofs.NodesFitActs.{nodes-fit}
@@ -85,7 +86,7 @@ takes-of d past f t ys xs s r at dec is x told j k v named e =
     let snap : snapshot d past t ≡ sid = ap snapshot_in told ∙ ap (λ o. first_sid o x.progress.sid0) w.1 in
     let in-order = story-order d past t s x r.due is told in
     let remote : IsRemote 1 [] s.ops j = order-remote s.ops x.progress.values in-order.0 j v in-order.1 e in
-    let key : remote.key ≡ k = some-same remote.key k (sym (ap op_key remote.read) ∙ named) in
+    let key : remote.key ≡ k = some-same remote.key k (sym (ap op_key (op-place s.ops j remote.least ∙ remote.read)) ∙ named) in
     let same : y.key ≡ k = some-same y.key k (sym y.named ∙ ap (λ o. key_at o j) is ∙ named) in
     let fresh : snapshot d past t < f = (decisions-rest d past r.due false dec.0 t f dec.2).1.fresh in
     let low : sid < f = omega arith in
