@@ -1,7 +1,8 @@
 -- Advance asks for what its transaction waits: the read, or the votes of all parts.
-use Rattle.cause_laws.proofs.CalmActs.{advance-calm, advance-kept, calm-later}
+use Rattle.cause_laws.proofs.UntakingTurns.{advance-untaking, untaking-later}
+use Rattle.grid_laws.proofs.AnsweredRows.{advance-kept}
 use Rattle.cause_laws.proofs.KeyHolders.{preferred-some}
-use Rattle.grid_laws.proofs.Answered.{all_calm}
+use Rattle.grid_laws.proofs.Answered.{is_untaking}
 use Rattle.grid_laws.proofs.Frames.{same-number}
 use Rattle.grid_laws.proofs.Snapshots.{OfStory}
 use Rattle.script_runs.proofs.Walks.{waiting-read}
@@ -35,7 +36,7 @@ use Rattle.script_lang.specs.declared.scripts.Op.{Op}
 use Rattle.std.proofs.Common.{Bool, List, None, Option, Some, [], false, inl, inr, refl, subst, sym, true, ℕ, ◌+◌, ◌∙◌, ◌∷◌, ◌≡◌}
 use Rattle.std.proofs.lemmas.Bool.{and_from, or_cases, or_left, or_right}
 use Rattle.std.proofs.lemmas.List.Folds.{list_any-append}
-use Rattle.std.specs.List.{list_any}
+use Rattle.std.specs.List.{list_all, list_any}
 use Rattle.std.specs.Prelude.{if◌then◌else◌, ◌&&◌, ◌==◌}
 
 -- ---- messages that were sent
@@ -85,8 +86,8 @@ asked-later d past acts s None h = tt
 asked-later d past acts s (Some x) h = asked-by d past acts s (waiting s.ops x.progress.values) h
 
 -- acts that leave the values leave what was asked
-pub calm-asked : (d : DocumentData) (past acts : List Act) (s : ScriptData) → all_calm acts ≡ true → IsAsked d past s (story d past s.number) → IsAsked d (after past acts) s (story d (after past acts) s.number)
-calm-asked d past acts s calm h = calm-later (Unit {0}) (λ i values. AskedBy d (after past acts) s (waiting s.ops values)) d past acts s.number calm (asked-later d past acts s (story d past s.number) h)
+pub untaking-asked : (d : DocumentData) (past acts : List Act) (s : ScriptData) → list_all is_untaking acts ≡ true → IsAsked d past s (story d past s.number) → IsAsked d (after past acts) s (story d (after past acts) s.number)
+untaking-asked d past acts s calm h = untaking-later (Unit {0}) (λ i values. AskedBy d (after past acts) s (waiting s.ops values)) d past acts s.number calm (asked-later d past acts s (story d past s.number) h)
 
 -- ---- Advance asks
 
@@ -131,7 +132,7 @@ pub self-asked : (d : DocumentData) (now : List Act) (m : ℕ) (n : NodeId) (b :
 self-asked d now m n b s x i one told =
     let acts : List Act = numbered m n (kept b n (advance d.cluster (open_of s x) i)) in
     let P : Option Story → Type 0 = λ o. OfStory ⊥ (λ i values. values ≡ x.progress.values) o in
-    let same : OfStory ⊥ (λ i values. values ≡ x.progress.values) (story d (after now acts) s.number) = calm-later ⊥ (λ i values. values ≡ x.progress.values) d now acts s.number (advance-calm d.cluster (open_of s x) i b m n) (subst P (sym told) refl) in
+    let same : OfStory ⊥ (λ i values. values ≡ x.progress.values) (story d (after now acts) s.number) = untaking-later ⊥ (λ i values. values ≡ x.progress.values) d now acts s.number (advance-untaking d.cluster (open_of s x) i b m n) (subst P (sym told) refl) in
     from (story d (after now acts) s.number) same (advance-asks d now m n b s x i (waiting s.ops x.progress.values) one refl)
   where
     from : (o : Option Story) → OfStory ⊥ (λ i values. values ≡ x.progress.values) o → AskedBy d (after now (numbered m n (kept b n (advance d.cluster (open_of s x) i)))) s (waiting s.ops x.progress.values) → IsAsked d (after now (numbered m n (kept b n (advance d.cluster (open_of s x) i)))) s o

@@ -1,10 +1,10 @@
 -- Between events each open transaction asked for what it waits: the read, or the votes of all parts.
-use Rattle.cause_laws.proofs.AdvanceAsks.{AllAsked, IsAsked, asked-later, calm-asked, self-asked}
-use Rattle.cause_laws.proofs.CalmActs.{IsTurn, advance-calm, answered_by, begun_by, calm_turn, event-turn}
+use Rattle.cause_laws.proofs.AdvanceAsks.{AllAsked, IsAsked, asked-later, untaking-asked, self-asked}
+use Rattle.cause_laws.proofs.UntakingTurns.{IsTurn, advance-untaking, answered_by, begun_by, untaking_turn, event-turn}
 use Rattle.cause_laws.proofs.Events.{Event, run-holds}
-use Rattle.grid_laws.proofs.CalmOuts.{calm-starts}
+use Rattle.grid_laws.proofs.UntakingActs.{untaking-starts}
 use Rattle.grid_laws.proofs.AnsweredRuns.{numbered-taken}
-use Rattle.grid_laws.proofs.Answered.{all_calm}
+use Rattle.grid_laws.proofs.Answered.{is_untaking}
 use Rattle.grid_laws.proofs.DueAnswers.{stage-quiet, story-taken, with_reply}
 use Rattle.grid_laws.proofs.DueHomes.{story-began}
 use Rattle.grid_laws.proofs.Stages.{Opens, opens-reads}
@@ -35,7 +35,7 @@ use Rattle.script_lang.specs.Scripts.{ScriptData}
 use Rattle.std.proofs.Common.{Bool, List, None, Option, Some, [], arith, false, inl, inr, refl, subst, sym, true, ℕ, ◌∙◌, ◌∷◌, ◌≡◌, ◌≢◌}
 use Rattle.std.proofs.lemmas.Bool.Decides.{nat_tests}
 use Rattle.std.proofs.lemmas.Bool.{cases_eq}
-use Rattle.std.specs.List.{range_with_len}
+use Rattle.std.specs.List.{list_all, range_with_len}
 use Rattle.std.specs.Prelude.{if◌then◌else◌, ◌==◌}
 
 -- ---- the others
@@ -50,14 +50,14 @@ other-if d past s true f (Some x) e h = cc
 other-if d past s false f (Some x) e h = h
 
 -- what an asker leaves
-all-but : (d : DocumentData) (past now acts : List Act) (u : ScriptData) → script_of u.number d.scripts ≡ Some u → ((s : ScriptData) → u.number ≢ s.number → script_of s.number d.scripts ≡ Some s → IsAsked d now s (story d now s.number)) → all_calm acts ≡ true → IsAsked d (after now acts) u (story d (after now acts) u.number) → AllAsked d (after now acts)
+all-but : (d : DocumentData) (past now acts : List Act) (u : ScriptData) → script_of u.number d.scripts ≡ Some u → ((s : ScriptData) → u.number ≢ s.number → script_of s.number d.scripts ≡ Some s → IsAsked d now s (story d now s.number)) → list_all is_untaking acts ≡ true → IsAsked d (after now acts) u (story d (after now acts) u.number) → AllAsked d (after now acts)
 all-but d past now acts u is others calm mine s script = elim (cases_eq u.number s.number) [
   | inl same ↦
       let P : TxId → Type 0 = λ t. script_of t d.scripts ≡ Some u in
       let e : u ≡ s = (let f : Some u ≡ Some s = sym (subst P same is) ∙ script in cc) in
       let Q : ScriptData → Type 0 = λ z. IsAsked d (after now acts) z (story d (after now acts) z.number) in
       subst Q e mine
-  | inr other ↦ calm-asked d now acts s calm (others s other script)
+  | inr other ↦ untaking-asked d now acts s calm (others s other script)
 ]
 
 -- ---- each event
@@ -71,7 +71,7 @@ asked-begin d past acts u b one is k all =
     let e : acts ≡ act.Began u.number u.home sid0 ∷ rest = k ∙ began b in
     subst P (sym e) (all-but d past now rest u is
     (λ s other script. other-story d now s (Some (begun sid0)) (story d past s.number) (u.number == s.number) (grind (arith, nat_tests, other)) (asked-later d past (act.Began u.number u.home sid0 ∷ []) s (story d past s.number) (all s script)))
-    (advance-calm d.cluster (open_of u (begun sid0)) 0 b (next_number past) u.home)
+    (advance-untaking d.cluster (open_of u (begun sid0)) 0 b (next_number past) u.home)
     (self-asked d now (next_number past) u.home b u (begun sid0) 0 one (story-began d past u.number u.home sid0)))
   where
     began : (b : Bool) → numbered (next_number past) u.home (kept b u.home (begin_outs u.home (participant (view d past u.home)) u)) ≡ act.Began u.number u.home (commit_id (journal d past u.home)) ∷ numbered (next_number past) u.home (kept b u.home (advance d.cluster (open_of u (begun (commit_id (journal d past u.home)))) 0))
@@ -98,7 +98,7 @@ asked-taken d past m n b q o w one h all =
     let Q : TxId → Type 0 = λ t. story d now t ≡ Some y in
     let S : Open → Type 0 = λ z. AllAsked d (after now (numbered m n (kept b n (advance d.cluster (with_reply q z) q.op)))) in
     let T : List Act → Type 0 = λ acts. AllAsked d (after past acts) in
-    let more : AllAsked d (after now rest) = all-but d past now rest u (subst P (sym number) h.at.script) (λ s other script. other-if d now s (q.t == s.number) (progressed (with_value q.op q.sid q.value)) (story d past s.number) (let ne : q.t ≢ s.number = (λ e. other (number ∙ e)) in grind (arith, nat_tests, ne)) (asked-later d past (act.Taken q.t q.op q.sid q.value ∷ []) s (story d past s.number) (all s script))) (advance-calm d.cluster (open_of u y) q.op b m n) (self-asked d now m n b u y q.op one (subst Q (sym number) (story-taken d past q h.story h.at.story))) in
+    let more : AllAsked d (after now rest) = all-but d past now rest u (subst P (sym number) h.at.script) (λ s other script. other-if d now s (q.t == s.number) (progressed (with_value q.op q.sid q.value)) (story d past s.number) (let ne : q.t ≢ s.number = (λ e. other (number ∙ e)) in grind (arith, nat_tests, ne)) (asked-later d past (act.Taken q.t q.op q.sid q.value ∷ []) s (story d past s.number) (all s script))) (advance-untaking d.cluster (open_of u y) q.op b m n) (self-asked d now m n b u y q.op one (subst Q (sym number) (story-taken d past q h.story h.at.story))) in
     subst T (sym (numbered-taken m n b q.t q.op q.sid q.value (advance d.cluster (with_reply q o) q.op))) (subst S (sym h.is) more)
 
 asked-reply : (d : DocumentData) (past : List Act) (m : ℕ) (n : NodeId) (b : Bool) (q : ReadRep) (g : Stage) → IsOne d → stage (view d past n) q.t ≡ g → AllAsked d past → AllAsked d (after past (numbered m n (kept b n (reply_row d.cluster q g))))
@@ -111,7 +111,7 @@ asked-answered : (d : DocumentData) (past acts : List Act) (k : ℕ) (n x : Node
 asked-answered d past acts k n x q b one is e all =
     let now : List Act = act.Got k ∷ past in
     let same : stage (view d now n) q.t ≡ stage (view d past n) q.t = stage-quiet d past k x n (message.ReadRep q) q.t is refl in
-    let here : AllAsked d now = (λ s script. calm-asked d past (act.Got k ∷ []) s refl (all s script)) in
+    let here : AllAsked d now = (λ s script. untaking-asked d past (act.Got k ∷ []) s refl (all s script)) in
     let P : List Act → Type 0 = λ z. AllAsked d (after past z) in
     subst P (sym e) (asked-if d now (next_number past) n b (is_fit_at n (participant (view d past n)) (stage (view d past n) q.t) x (message.ReadRep q)) (reply_row d.cluster q (stage (view d past n) q.t)) here (λ fit. asked-reply d now (next_number past) n b q (stage (view d past n) q.t) one same here))
 
@@ -119,7 +119,7 @@ asked-event : (d : DocumentData) (past acts : List Act) → IsOne d → Event d 
 asked-event d past acts one event all = go (event-turn d past acts event.is)
   where
     go : IsTurn d past acts → AllAsked d (after past acts)
-    go (calm_turn h) = λ s script. calm-asked d past acts s h (all s script)
+    go (untaking_turn h) = λ s script. untaking-asked d past acts s h (all s script)
     go (begun_by u b is up k) = asked-begin d past acts u b one is k all
     go (answered_by m n x q b is k) = asked-answered d past acts m n x q b one is k all
 
@@ -127,6 +127,6 @@ asked-event d past acts one event all = go (event-turn d past acts event.is)
 pub all-asked : (d : DocumentData) (h : List Act) → IsOne d → IsRun d d.items h → AllAsked d (after [] h)
 all-asked d h one run =
     run-holds d (AllAsked d)
-    (λ ups s script. calm-asked d [] (start_row d.cluster.nodes ups) s (calm-starts ups (range_with_len 1 d.cluster.nodes)) tt)
+    (λ ups s script. untaking-asked d [] (start_row d.cluster.nodes ups) s (untaking-starts ups (range_with_len 1 d.cluster.nodes)) tt)
     (λ past acts event all. asked-event d past acts one event all)
     h one run

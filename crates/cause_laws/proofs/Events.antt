@@ -1,10 +1,10 @@
 -- The events of a run, one by one: what is left true by each event holds at the end.
-use Rattle.grid_laws.proofs.CalmOuts.{calm-starts}
-use Rattle.grid_laws.proofs.Answered.{AllTold, calm-all}
+use Rattle.grid_laws.proofs.UntakingActs.{untaking-starts}
+use Rattle.grid_laws.proofs.Answered.{AllTold, untaking-all}
 use Rattle.grid_laws.proofs.AnsweredRuns.{told-row}
 use Rattle.grid_laws.proofs.Causes.{AllDue}
 use Rattle.grid_laws.proofs.DeliveredFit.{delivered-fit}
-use Rattle.grid_laws.proofs.DueActs.{after-append}
+use Rattle.grid_model.proofs.EventShapes.{after-append}
 use Rattle.grid_laws.proofs.RunsDue.{due-run}
 use Rattle.grid_model.proofs.EventShapes.{Shape, acts_by, row-shaped}
 use Rattle.grid_model.specs.Acts.{EachBehind}
@@ -79,7 +79,7 @@ rows-hold d B step past (e ∷ es) h due told here fit rows =
 pub run-holds : (d : DocumentData) (B : List Act → Type 0) → ((ups : NodeId → Bool) → B (after [] (start_row d.cluster.nodes ups))) → ((past acts : List Act) → Event d past acts → B past → B (after past acts)) → (h : List Act) → IsOne d → IsRun d d.items h → B (after [] h)
 run-holds d B start step h one run =
     let first : List Act = start_row d.cluster.nodes run.opens in
-    let told : AllTold d (after [] first) = calm-all d [] first (calm-starts run.opens (range_with_len 1 d.cluster.nodes)) (λ t s e. refl) in
+    let told : AllTold d (after [] first) = untaking-all d [] first (untaking-starts run.opens (range_with_len 1 d.cluster.nodes)) (λ t s e. refl) in
     let P : List Act → Type 0 = λ p. AllFit d p in
     let F : List Act → Type 0 = λ x. AllFit d (after [] x) in
     let D : List Act → Type 0 = λ p. AllDue d p in

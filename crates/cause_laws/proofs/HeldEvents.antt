@@ -6,8 +6,8 @@ use Rattle.cause_laws.proofs.HeldAnswers.{RowKept, nothing, outcome-row, request
 use Rattle.cause_laws.proofs.HeldNodes.{HoldsWaiting, IsKeptRead, has_read, is_serving, is_waiting_read, unheld-kept, waiting-later}
 use Rattle.cause_laws.proofs.LocalActs.{local-acts, local-answer, local-later}
 use Rattle.cause_laws.proofs.OpenStages.{fit-first}
-use Rattle.cause_laws.proofs.OpeningLosses.{losses-pass}
-use Rattle.cause_laws.proofs.UnheldOuts.{is_touching, is_unheld, unheld-acts, unheld-advance, unheld-again, unheld-answer, unheld-idle}
+use Rattle.cause_laws.proofs.UnheldOuts.{is_unheld, unheld-acts, unheld-advance, unheld-answer, unheld-idle}
+use Rattle.grid_laws.proofs.RowOuts.{is_touching, pass-again, pass-losses}
 use Rattle.cause_laws.proofs.VotesSent.{fit-row}
 use Rattle.grid_laws.proofs.Frames.{held-stays}
 use Rattle.grid_model.specs.Documents.{DocumentData, number_order, script_numbers}
@@ -91,7 +91,7 @@ failed-event d past m down h =
 opened-event : (d : DocumentData) (past : List Act) (m : NodeId) (f : Flag) → (node d past m).up ≡ false → ((n : NodeId) → HoldsWaiting (node d past n)) → EventKept d past (opened_row d past m f)
 opened-event d past m f down h =
     let now : List Act = act.Up m f ∷ past in
-    let u = losses-pass is_unheld d now m (number_order (script_numbers d.scripts)) (λ t. refl) in
+    let u = pass-losses is_unheld d now m (number_order (script_numbers d.scripts)) (λ t. refl) in
     record {
       holds = λ n. waiting-later d now (losses d now m) n u (starts-waiting (m == n) (is_kept f) (node d past n) (at-down d past m n down) (h n));
       kept = λ n t j r. let P : List HeldRead → Type 0 = λ hs. has_read t j hs ≡ true in unheld-kept d now (losses d now m) n t j u (subst P (sym (held-stays d (got past) (act.Up m f) n (node d past n) refl)) r);
@@ -147,7 +147,7 @@ shape-kept d past h i c (crashes n up) fit = unheld-event d past (act.Down n Non
 shape-kept d past h i c (restarts n up) fit = restart-event d past n (flag_of (node d past n).doubt c.finds) c.opens up h
 shape-kept d past h i c (begins s is new up) fit = unheld-event d past (acts_of past c s.home (begin_outs s.home (participant (view d past s.home)) s)) (unheld-acts (next_number past) s.home c.keeps (begin_outs s.home (participant (view d past s.home)) s) (unheld-advance d.cluster (begun_at s (commit_id (journal d past s.home))) 0)) h
 shape-kept d past h i c (delivers m e is up) fit = got-event d past m e c.keeps is (fit-first d past m e (acts_of past c e.to (answer e.to (view d past e.to) e.from e.message)) is fit) up h
-shape-kept d past h i c (again n os up is) fit = unheld-event d past (acts_of past c n os) (unheld-acts (next_number past) n c.keeps os (unheld-again d past n os is)) h
+shape-kept d past h i c (again n os up is) fit = unheld-event d past (acts_of past c n os) (unheld-acts (next_number past) n c.keeps os (pass-again is_unheld d past n os is)) h
 
 pub event-kept : (d : DocumentData) (past acts : List Act) → Event d past acts → ((n : NodeId) → HoldsWaiting (node d past n)) → EventKept d past acts
 event-kept d past acts event h =

@@ -1,7 +1,6 @@
 pub mod Ends
 pub mod Events
 pub mod Starts
-pub mod OpeningLosses
 pub mod OutsToEnds
 pub mod HomesTell
 pub mod Outcomes
@@ -12,7 +11,7 @@ pub mod HeldClaims
 pub mod RepliesAwaited
 pub mod OpenStages
 pub mod NoReplies
-pub mod CalmActs
+pub mod UntakingTurns
 pub mod KeyHolders
 pub mod AdvanceAsks
 pub mod Askings

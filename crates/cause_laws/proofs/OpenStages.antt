@@ -1,6 +1,6 @@
 -- Where a transaction that began and is not settled stands for its home; and which acts get no message.
 use Rattle.cause_laws.proofs.Events.{Event, fit-before}
-use Rattle.cause_laws.proofs.OpeningLosses.{losses-pass}
+use Rattle.grid_laws.proofs.RowOuts.{pass-losses}
 use Rattle.cause_laws.proofs.Outcomes.{IsKind, event-kind, failed, got_first, opened, plain}
 use Rattle.cause_laws.proofs.OutsToEnds.{is_middle}
 use Rattle.cause_laws.proofs.Settled.{is_settled, is_shut, unsettled-open}
@@ -101,7 +101,7 @@ event-getting d past acts one event = go (event-kind d past acts one event.befor
     go (got_first m e b rest is up r k h) =
         let P : List Act → Type 0 = λ x. AllFit d (after past x) in
         one_got m e b rest is up r k (middle-ungot rest h) (fit-first d past m e rest is (subst P k event.fit))
-    go (opened n f up k) = none_got (rw k (losses-pass is_ungot d (act.Up n f ∷ past) n (number_order (script_numbers d.scripts)) (λ t. refl)))
+    go (opened n f up k) = none_got (rw k (pass-losses is_ungot d (act.Up n f ∷ past) n (number_order (script_numbers d.scripts)) (λ t. refl)))
     go (failed n up k) = none_got (rw k refl)
 
 -- ---- messages that were got

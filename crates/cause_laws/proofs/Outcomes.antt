@@ -5,7 +5,7 @@ use Rattle.cause_laws.proofs.Events.{IsEvent, of-event, run-holds}
 use Rattle.grid_model.proofs.EventShapes.{Shape, acts_by, again, arms, begins, crashes, delivers, idle, idle-pass, restarts}
 use Rattle.grid_model.specs.declared.items.Item.{Item}
 use Rattle.cause_laws.proofs.HomesTell.{well-again, well-answer}
-use Rattle.cause_laws.proofs.OpeningLosses.{losses-pass}
+use Rattle.grid_laws.proofs.RowOuts.{pass-losses}
 use Rattle.cause_laws.proofs.OutsToEnds.{AreWell, is_middle, is_well_act, middle-numbered, well-advance, well-after, well-kept, well-numbered}
 use Rattle.grid_laws.proofs.Causes.{AllDue}
 use Rattle.grid_model.specs.Documents.{DocumentData, IsOne, number_order, script_numbers}
@@ -31,7 +31,7 @@ well-outs d m n b os h = well-numbered d m n (kept b n os) (well-kept d n b os h
 
 well-restart : (d : DocumentData) (past : List Act) (n : NodeId) (f : Flag) (opens : Bool)
     → list_all (is_well_act d) (if opens then opened_row d past n f else act.StillDown n ∷ []) ≡ true
-well-restart d past n f true = losses-pass (is_well_act d) d (act.Up n f ∷ past) n (number_order (script_numbers d.scripts)) (λ t. refl)
+well-restart d past n f true = pass-losses (is_well_act d) d (act.Up n f ∷ past) n (number_order (script_numbers d.scripts)) (λ t. refl)
 well-restart d past n f false = refl
 
 well-shape : (d : DocumentData) (past : List Act) → IsOne d → AllDue d past → (i : Item) (c : Choice) (s : Shape d past i)

@@ -3,7 +3,7 @@ use Rattle.cause_laws.proofs.Events.{Event, due-before, run-holds}
 use Rattle.cause_laws.proofs.GotVotes.{env-leaves, vote-of}
 use Rattle.cause_laws.proofs.LossesSettle.{HasBegun, begun-more, opened-settles}
 use Rattle.cause_laws.proofs.OpenStages.{fit-first, got-ungot, is_ungot}
-use Rattle.cause_laws.proofs.OpeningLosses.{losses-pass}
+use Rattle.grid_laws.proofs.RowOuts.{pass-losses}
 use Rattle.cause_laws.proofs.Outcomes.{IsKind, event-kind, failed, got_first, opened, plain}
 use Rattle.cause_laws.proofs.OutsToEnds.{is_middle}
 use Rattle.cause_laws.proofs.Settled.{settled-more}
@@ -70,7 +70,7 @@ VotesTaken d past = (s : ScriptData) (n : NodeId) → script_of s.number d.scrip
 opened-counted : (d : DocumentData) (past : List Act) (k : NodeId) (f : Flag) (s : ScriptData) (n : NodeId) → script_of s.number d.scripts ≡ Some s → AllDue d (after past (opened_row d past k f)) → HasBegun d past s.number → Counted d past s n → Counted d (after past (opened_row d past k f)) s n
 opened-counted d past k f s n is due begun c = elim (cases_eq s.home k) [
   | inl here ↦ is_done (opened-settles d past k f s due is here begun)
-  | inr other ↦ counted-later d (act.Up k f ∷ past) (losses d (act.Up k f ∷ past) k) s n is due (losing-parts (losses d (act.Up k f ∷ past) k) (losses-pass is_losing d (act.Up k f ∷ past) k (number_order (script_numbers d.scripts)) (λ t. refl))).0 (now other c)
+  | inr other ↦ counted-later d (act.Up k f ∷ past) (losses d (act.Up k f ∷ past) k) s n is due (losing-parts (losses d (act.Up k f ∷ past) k) (pass-losses is_losing d (act.Up k f ∷ past) k (number_order (script_numbers d.scripts)) (λ t. refl))).0 (now other c)
 ]
   where
     now : s.home ≢ k → Counted d past s n → Counted d (act.Up k f ∷ past) s n
@@ -100,7 +100,7 @@ taken-event d past acts one event all s n is h = go (event-kind d past acts one 
     go (plain m) = unopened acts event.due (middle-unopened acts m) (sym (got-ungot p past acts (middle-ungot acts m)) ∙ h)
     go (failed k up e) = subst Goal (sym e) (unopened (act.StillDown k ∷ []) (subst Due e event.due) refl (subst Has e h))
     go (opened k f up e) =
-        let losing = losing-parts (losses d (act.Up k f ∷ past) k) (losses-pass is_losing d (act.Up k f ∷ past) k (number_order (script_numbers d.scripts)) (λ t. refl)) in
+        let losing = losing-parts (losses d (act.Up k f ∷ past) k) (pass-losses is_losing d (act.Up k f ∷ past) k (number_order (script_numbers d.scripts)) (λ t. refl)) in
         let due : Due (opened_row d past k f) = subst Due e event.due in
         let w = all s n is (sym (got-ungot p past (opened_row d past k f) losing.1) ∙ subst Has e h) in
         subst Goal (sym e) (opened-counted d past k f s n is due w.1 w.0, begun-later d past (opened_row d past k f) s.number due w.1)

@@ -24,8 +24,8 @@ use Rattle.grid_model.specs.Schedules.{numbered, kept}
 use Rattle.grid_model.specs.Copies.{shown}
 use Rattle.script_runs.proofs.AllReads.{reads_by}
 use Rattle.grid_laws.proofs.Frames.{same-number}
-use Rattle.grid_laws.proofs.SilentOuts.{silent-acts, silent-end}
-use Rattle.copy_laws.proofs.ShownSteps.{Says, ShownBy, AllShown, OthersShown, other-own, silent-all}
+use Rattle.grid_laws.proofs.RowOuts.{pass-acts, pass-end}
+use Rattle.copy_laws.proofs.ShownSteps.{Says, ShownBy, AllShown, OthersShown, other-own, is_unshowing, unshowing-all}
 
 all-from : (d : DocumentData) (past : List Act) (u : TxId) (s : ScriptData) → script_of u d.scripts ≡ Some s → ShownBy d past u s → OthersShown d past u → AllShown d past
 all-from d past u s e mine others t w f = elim (cases_eq u t) [
@@ -59,4 +59,4 @@ shown-owns d now m n b s x (y ∷ ys) rest is at so others go =
 pub shown-advance : (d : DocumentData) (now : List Act) (m : ℕ) (n : NodeId) (b : Bool) (s : ScriptData) (x : Story) (i : ℕ) → script_of s.number d.scripts ≡ Some s → story d now s.number ≡ Some x → shown now s.number ++ filter (λ y. nat_lt i y.0) (own_reads 1 [] unread x.progress.values s.ops) ≡ reads_by x.progress.values s.ops → OthersShown d now s.number → AllShown d (after now (numbered m n (kept b n (advance d.cluster (open_of s x) i))))
 shown-advance d now m n b s x i is at so others =
     shown-owns d now m n b s x (filter (λ y. nat_lt i y.0) (own_reads 1 [] unread x.progress.values s.ops)) (advance_end d.cluster (open_of s x) (waiting s.ops x.progress.values)) is at so others
-    (λ past all. silent-all d past (numbered m n (kept b n (advance_end d.cluster (open_of s x) (waiting s.ops x.progress.values)))) (silent-acts m n b (advance_end d.cluster (open_of s x) (waiting s.ops x.progress.values)) (silent-end d.cluster (open_of s x) (waiting s.ops x.progress.values))) all)
+    (λ past all. unshowing-all d past (numbered m n (kept b n (advance_end d.cluster (open_of s x) (waiting s.ops x.progress.values)))) (pass-acts is_unshowing n (λ k y said. refl) (λ h. refl) m b (advance_end d.cluster (open_of s x) (waiting s.ops x.progress.values)) (pass-end is_unshowing (λ t. refl) d.cluster (open_of s x) (waiting s.ops x.progress.values))) all)

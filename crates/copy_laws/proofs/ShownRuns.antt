@@ -3,7 +3,7 @@ use Rattle.std.proofs.Common.{◌≡◌, ℕ, Bool, true, false, List, [], ◌�
 use Rattle.std.proofs.lemmas.Bool.Decides.{nat_tests}
 use Rattle.std.proofs.lemmas.List.{append_assoc}
 use Rattle.std.specs.Prelude.{◌==◌, filter, nat_lt, if◌then◌else◌}
-use Rattle.std.specs.List.{flat_map, range_with_len}
+use Rattle.std.specs.List.{flat_map, list_all, range_with_len}
 use Rattle.score_base.specs.declared.ids.TxId.{TxId}
 use Rattle.score_base.specs.declared.ids.NodeId.{NodeId}
 use Rattle.score_base.specs.declared.ids.Ident.{Ident}
@@ -34,18 +34,23 @@ use Rattle.grid_model.specs.Schedules.{Choice, acts_of, events_in, flag_of, kept
 use Rattle.grid_model.specs.Runs.{Rows, IsRun}
 use Rattle.grid_model.specs.Copies.{shown}
 use Rattle.grid_model.proofs.Undecided.{script-number}
-use Rattle.grid_model.proofs.EventShapes.{Shape, idle, arms, crashes, restarts, begins, delivers, again, acts_by, by-shape}
+use Rattle.grid_model.proofs.EventShapes.{Shape, idle, arms, crashes, restarts, begins, delivers, again, acts_by, by-shape, idle-pass}
 use Rattle.script_runs.proofs.AllReads.{reads_by, first-reads, reads-next}
 use Rattle.grid_laws.proofs.Causes.{AllDue}
 use Rattle.grid_laws.proofs.Frames.{same-number}
 use Rattle.grid_laws.proofs.Stages.{Opens, opens-reads}
 use Rattle.grid_laws.proofs.DueHomes.{story-began}
-use Rattle.grid_laws.proofs.DueActs.{after-append}
+use Rattle.grid_model.proofs.EventShapes.{after-append}
 use Rattle.grid_laws.proofs.DueAnswers.{story-taken, with_reply, stage-quiet}
 use Rattle.grid_laws.proofs.RunsDue.{due-run}
-use Rattle.grid_laws.proofs.SilentOuts.{is_reply, all_silent, silent-starts, silent-acts, silent-answer, silent-again, silent-idle, silent-losses}
-use Rattle.copy_laws.proofs.ShownSteps.{AllShown, OthersShown, Says, ShownBy, other-began, other-took, silent-all, silent-by, story-order, story_reads}
+use Rattle.grid_laws.proofs.RowOuts.{Pass, is_reply, pass-acts, pass-again, pass-answer, pass-losses, pass-starts}
+use Rattle.copy_laws.proofs.ShownSteps.{AllShown, OthersShown, Says, ShownBy, other-began, other-took, is_unshowing, row-unshowing, unshowing-all, unshowing-by, story-order, story_reads}
 use Rattle.copy_laws.proofs.ShownRows.{shown-advance}
+
+-- ---- acts that begin, take and show nothing
+
+unshowing-acts : (m : ℕ) (n : NodeId) (b : Bool) (os : List Out) → Pass is_unshowing os → list_all is_unshowing (numbered m n (kept b n os)) ≡ true
+unshowing-acts m n b os h = pass-acts is_unshowing n (λ k y said. refl) (λ x. refl) m b os h
 
 -- ---- a reply
 
@@ -113,7 +118,7 @@ shown-answer d past k m n x b (message.ReadRep q) c quiet is due all =
     let fit : Bool = is_fit_at n (participant (view d past n)) (stage (view d past n) q.t) x (message.ReadRep q) in
     shown-if d now m n b fit fit (reply_row d.cluster q (stage (view d past n) q.t)) refl all (λ e. shown-reply d now m n b q (stage (view d past n) q.t) same due all)
 shown-answer d past k m n x b said true quiet is due all = cc
-shown-answer d past k m n x b said false quiet is due all = silent-all d (act.Got k ∷ past) (numbered m n (kept b n (answer n (view d past n) x said))) (silent-acts m n b (answer n (view d past n) x said) (silent-answer n (view d past n) x said quiet)) all
+shown-answer d past k m n x b said false quiet is due all = unshowing-all d (act.Got k ∷ past) (numbered m n (kept b n (answer n (view d past n) x said))) (unshowing-acts m n b (answer n (view d past n) x said) (pass-answer is_unshowing n (view d past n) x said (row-unshowing n said quiet))) all
 
 -- ---- a begin
 
@@ -135,22 +140,22 @@ shown-begin d past m b s is new all =
 
 -- ---- the shapes of an event
 
-silent-restart : (d : DocumentData) (past : List Act) (n : NodeId) (f : Flag) (opens : Bool)
-    → all_silent (if opens then opened_row d past n f else act.StillDown n ∷ []) ≡ true
-silent-restart d past n f true = silent-losses d (act.Up n f ∷ past) n (number_order (script_numbers d.scripts))
-silent-restart d past n f false = refl
+unshowing-restart : (d : DocumentData) (past : List Act) (n : NodeId) (f : Flag) (opens : Bool)
+    → list_all is_unshowing (if opens then opened_row d past n f else act.StillDown n ∷ []) ≡ true
+unshowing-restart d past n f true = pass-losses is_unshowing d (act.Up n f ∷ past) n (number_order (script_numbers d.scripts)) (λ t. refl)
+unshowing-restart d past n f false = refl
 
 shown-shape : (d : DocumentData) (past : List Act) (i : Item) (c : Choice) → AllDue d past → AllShown d past
     → (s : Shape d past i) → AllShown d (after past (acts_by d past i c s))
-shown-shape d past i c due all (idle acts is) = silent-all d past acts (silent-idle acts is) all
-shown-shape d past i c due all (arms n k how is) = silent-all d past (act.Armed n k how ∷ []) refl all
-shown-shape d past i c due all (crashes n up) = silent-all d past (act.Down n None ∷ []) refl all
+shown-shape d past i c due all (idle acts is) = unshowing-all d past acts (idle-pass is_unshowing (λ code. refl) (λ m. refl) (λ m. refl) acts is) all
+shown-shape d past i c due all (arms n k how is) = unshowing-all d past (act.Armed n k how ∷ []) refl all
+shown-shape d past i c due all (crashes n up) = unshowing-all d past (act.Down n None ∷ []) refl all
 shown-shape d past i c due all (restarts n up) =
     let f : Flag = flag_of (node d past n).doubt c.finds in
-    silent-all d past (if c.opens then opened_row d past n f else act.StillDown n ∷ []) (silent-restart d past n f c.opens) all
+    unshowing-all d past (if c.opens then opened_row d past n f else act.StillDown n ∷ []) (unshowing-restart d past n f c.opens) all
 shown-shape d past i c due all (begins s is new up) = shown-begin d past (next_number past) c.keeps s is new all
-shown-shape d past i c due all (delivers m e is up) = shown-answer d past m (next_number past) e.to e.from c.keeps e.message (is_reply e.message) refl is ((e, is, up), due) (λ t s f. silent-by d past (act.Got m) t s refl (all t s f))
-shown-shape d past i c due all (again n os up is) = silent-all d past (acts_of past c n os) (silent-acts (next_number past) n c.keeps os (silent-again d past n os is)) all
+shown-shape d past i c due all (delivers m e is up) = shown-answer d past m (next_number past) e.to e.from c.keeps e.message (is_reply e.message) refl is ((e, is, up), due) (λ t s f. unshowing-by d past (act.Got m) t s refl (all t s f))
+shown-shape d past i c due all (again n os up is) = unshowing-all d past (acts_of past c n os) (unshowing-acts (next_number past) n c.keeps os (pass-again is_unshowing d past n os is)) all
 
 -- an event leaves each transaction shown its reads
 shown-row : (d : DocumentData) (past : List Act) (e : Item) (c : Choice) → AllDue d past → AllShown d past
@@ -180,7 +185,7 @@ all-shown d items h run =
     let first : List Act = start_row d.cluster.nodes run.opens in
     let whole : after [] h ≡ after (after [] first) run.rest = ap (after []) run.start ∙ after-append [] first run.rest in
     let D : List Act → Type 0 = λ p. AllDue d p in
-    let now : AllShown d (after [] first) = silent-all d [] first (silent-starts run.opens (range_with_len 1 d.cluster.nodes)) (λ t s e. refl) in
+    let now : AllShown d (after [] first) = unshowing-all d [] first (pass-starts is_unshowing run.opens (range_with_len 1 d.cluster.nodes) (λ n. refl) (λ n. refl)) (λ t s e. refl) in
     let more : AllShown d (after (after [] first) run.rest) = shown-rows d (after [] first) (flat_map events_in items) run.rest (subst D whole (due-run d items h run)) now run.rows in
     let P : List Act → Type 0 = λ p. AllShown d p in
     subst P (sym whole) more

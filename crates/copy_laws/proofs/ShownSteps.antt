@@ -2,6 +2,7 @@
 use Rattle.std.proofs.Common.{◌≡◌, ◌≢◌, ℕ, Bool, true, false, List, [], ◌∷◌, ◌++◌, Option, Some, None, refl, sym, ap, subst, ◌∙◌, arith}
 use Rattle.std.proofs.lemmas.Bool.Decides.{nat_tests}
 use Rattle.std.specs.Prelude.{◌==◌, if◌then◌else◌}
+use Rattle.std.specs.List.{list_all}
 use Rattle.score_base.specs.declared.ids.TxId.{TxId}
 use Rattle.score_base.specs.declared.ids.NodeId.{NodeId}
 use Rattle.score_base.specs.declared.ids.Ident.{Ident}
@@ -25,7 +26,7 @@ use Rattle.script_runs.proofs.RemoteReads.{InOrder, remote_numbers, order-first,
 use Rattle.script_runs.proofs.AllReads.{reads_by}
 use Rattle.grid_laws.proofs.Causes.{AllDue}
 use Rattle.grid_laws.proofs.Snapshots.{OfStory, of-more}
-use Rattle.grid_laws.proofs.SilentOuts.{is_silent, all_silent}
+use Rattle.grid_laws.proofs.RowOuts.{is_of_row, is_reply}
 
 -- the reads of a script, own and remote, by the values that a story took
 abbrev pub story_reads : ScriptData → Option Story → List (ℕ × Value)
@@ -61,22 +62,36 @@ asked-says : (s : ScriptData) (ys : List (ℕ × Value)) (d : DocumentData) (t :
 asked-says s ys d t (message.ReadReq q) o k = if-told-says s ys (q.t == t) _ o (λ x i. i) k
 asked-says s ys d t said o k = k
 
-silent-says : (s : ScriptData) (ys : List (ℕ × Value)) (d : DocumentData) (past : List Act) (a : Act) (t : TxId) → is_silent a ≡ true → Says s ys (story d past t) → Says s ys (story d (a ∷ past) t)
-silent-says s ys d past (act.Sent m x y said) t quiet h = asked-says s ys d t said (story d past t) h
-silent-says s ys d past (act.Got m) t quiet h = got-says s ys d past (script_of t d.scripts) (sent_at m (sent past)) (story d past t) h
-silent-says s ys d past (act.Finished u) t quiet h = if-told-says s ys (u == t) _ (story d past t) (λ x i. i) h
-silent-says s ys d past (act.Aborted u n why) t quiet h = if-told-says s ys (u == t) _ (story d past t) (λ x i. i) h
-silent-says s ys d past (act.Lost u) t quiet h = if-told-says s ys (u == t) _ (story d past t) (λ x i. i) h
-silent-says s ys d past (act.Down n o) t quiet h = if-told-says s ys (is_home d t n) _ (story d past t) (λ x i. i) h
-silent-says s ys d past (act.Began u n sid0) t quiet h = cc
-silent-says s ys d past (act.Taken u op sid v) t quiet h = cc
-silent-says s ys d past (act.Own u op v) t quiet h = cc
-silent-says s ys d past a t quiet h = h
+-- an act that begins nothing, takes no reply and shows no own read
+abbrev pub is_unshowing : Act → Bool
+is_unshowing (act.Began t n sid0) = false
+is_unshowing (act.Taken t op sid v) = false
+is_unshowing (act.Own t op v) = false
+is_unshowing a = true
 
-silent-shown : (past : List Act) (a : Act) (t : TxId) → is_silent a ≡ true → shown (a ∷ past) t ≡ shown past t
-silent-shown past (act.Taken u op sid v) t quiet = cc
-silent-shown past (act.Own u op v) t quiet = cc
-silent-shown past a t quiet = refl
+-- those of each row but two
+pub row-unshowing : (n : NodeId) (said : Message) → is_reply said ≡ false → (a : Act) → is_of_row n said a ≡ true → is_unshowing a ≡ true
+row-unshowing n said none (act.Began t m sid0) h = h
+row-unshowing n said none (act.Taken t op sid v) h = cc
+row-unshowing n said none (act.Own t op v) h = cc
+row-unshowing n said none a h = refl
+
+unshowing-says : (s : ScriptData) (ys : List (ℕ × Value)) (d : DocumentData) (past : List Act) (a : Act) (t : TxId) → is_unshowing a ≡ true → Says s ys (story d past t) → Says s ys (story d (a ∷ past) t)
+unshowing-says s ys d past (act.Sent m x y said) t quiet h = asked-says s ys d t said (story d past t) h
+unshowing-says s ys d past (act.Got m) t quiet h = got-says s ys d past (script_of t d.scripts) (sent_at m (sent past)) (story d past t) h
+unshowing-says s ys d past (act.Finished u) t quiet h = if-told-says s ys (u == t) _ (story d past t) (λ x i. i) h
+unshowing-says s ys d past (act.Aborted u n why) t quiet h = if-told-says s ys (u == t) _ (story d past t) (λ x i. i) h
+unshowing-says s ys d past (act.Lost u) t quiet h = if-told-says s ys (u == t) _ (story d past t) (λ x i. i) h
+unshowing-says s ys d past (act.Down n o) t quiet h = if-told-says s ys (is_home d t n) _ (story d past t) (λ x i. i) h
+unshowing-says s ys d past (act.Began u n sid0) t quiet h = cc
+unshowing-says s ys d past (act.Taken u op sid v) t quiet h = cc
+unshowing-says s ys d past (act.Own u op v) t quiet h = cc
+unshowing-says s ys d past a t quiet h = h
+
+unshowing-shown : (past : List Act) (a : Act) (t : TxId) → is_unshowing a ≡ true → shown (a ∷ past) t ≡ shown past t
+unshowing-shown past (act.Taken u op sid v) t quiet = cc
+unshowing-shown past (act.Own u op v) t quiet = cc
+unshowing-shown past a t quiet = refl
 
 -- ---- transactions
 
@@ -84,9 +99,9 @@ silent-shown past a t quiet = refl
 abbrev pub ShownBy : DocumentData → List Act → TxId → ScriptData → Type 0
 ShownBy d past t s = Says s (shown past t) (story d past t)
 
--- a silent act leaves what was shown
-pub silent-by : (d : DocumentData) (past : List Act) (a : Act) (t : TxId) (s : ScriptData) → is_silent a ≡ true → ShownBy d past t s → ShownBy d (a ∷ past) t s
-silent-by d past a t s quiet h = silent-shown past a t quiet ∙ silent-says s (shown past t) d past a t quiet h
+-- such an act leaves what was shown
+pub unshowing-by : (d : DocumentData) (past : List Act) (a : Act) (t : TxId) (s : ScriptData) → is_unshowing a ≡ true → ShownBy d past t s → ShownBy d (a ∷ past) t s
+unshowing-by d past a t s quiet h = unshowing-shown past a t quiet ∙ unshowing-says s (shown past t) d past a t quiet h
 
 -- an act of another transaction
 pub other-began : (d : DocumentData) (past : List Act) (u t : TxId) (n : NodeId) (sid0 : Ident) (s : ScriptData) → u ≢ t → ShownBy d past t s → ShownBy d (act.Began u n sid0 ∷ past) t s
@@ -118,10 +133,10 @@ AllShown d past = (t : TxId) (s : ScriptData) → script_of t d.scripts ≡ Some
 abbrev pub OthersShown : DocumentData → List Act → TxId → Type 0
 OthersShown d past u = (t : TxId) (s : ScriptData) → u ≢ t → script_of t d.scripts ≡ Some s → ShownBy d past t s
 
--- so do silent acts
-pub silent-all : (d : DocumentData) (past acts : List Act) → all_silent acts ≡ true → AllShown d past → AllShown d (after past acts)
-silent-all d past [] quiet all = all
-silent-all d past (a ∷ acts) quiet all = silent-all d (a ∷ past) acts (grind (arith, quiet)) (λ t s e. silent-by d past a t s (grind (arith, quiet)) (all t s e))
+-- so do such acts
+pub unshowing-all : (d : DocumentData) (past acts : List Act) → list_all is_unshowing acts ≡ true → AllShown d past → AllShown d (after past acts)
+unshowing-all d past [] quiet all = all
+unshowing-all d past (a ∷ acts) quiet all = unshowing-all d (a ∷ past) acts (grind (arith, quiet)) (λ t s e. unshowing-by d past a t s (grind (arith, quiet)) (all t s e))
 
 -- ---- the values of each transaction are taken in the order of its script
 

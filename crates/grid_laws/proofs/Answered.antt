@@ -2,7 +2,8 @@
 use Rattle.std.proofs.Common.{◌≡◌, ◌≢◌, ℕ, inl, inr, Bool, true, false, List, [], ◌∷◌, Option, Some, None, refl, subst, arith}
 use Rattle.std.proofs.lemmas.Bool.Decides.{nat_tests}
 use Rattle.std.proofs.lemmas.Bool.{cases_eq}
-use Rattle.std.specs.Prelude.{is_some, ◌==◌, ◌&&◌, ◌||◌, if◌then◌else◌}
+use Rattle.std.specs.Prelude.{is_some, ◌==◌, ◌||◌, if◌then◌else◌}
+use Rattle.std.specs.List.{list_all}
 use Rattle.score_base.specs.declared.ids.TxId.{TxId}
 use Rattle.score_base.specs.declared.ids.NodeId.{NodeId}
 use Rattle.score_base.specs.declared.ids.Ident.{Ident}
@@ -58,21 +59,21 @@ asked-told s d t (message.ReadReq q) o h = if-told-told s (q.t == t) _ o (λ x i
 asked-told s d t said o h = h
 
 -- an act that begins nothing and takes no reply
-abbrev pub is_calm : Act → Bool
-is_calm (act.Began t n sid0) = false
-is_calm (act.Taken t op sid v) = false
-is_calm a = true
+abbrev pub is_untaking : Act → Bool
+is_untaking (act.Began t n sid0) = false
+is_untaking (act.Taken t op sid v) = false
+is_untaking a = true
 
-pub calm-told : (s : ScriptData) (d : DocumentData) (past : List Act) (a : Act) (t : TxId) → is_calm a ≡ true → is_told s (story d past t) ≡ true → is_told s (story d (a ∷ past) t) ≡ true
-calm-told s d past (act.Sent m x y said) t calm h = asked-told s d t said (story d past t) h
-calm-told s d past (act.Got m) t calm h = got-told s d past (script_of t d.scripts) (sent_at m (sent past)) (story d past t) h
-calm-told s d past (act.Finished u) t calm h = if-told-told s (u == t) _ (story d past t) (λ x i. or-true (is_some (waiting s.ops x.progress.values)) (is_update s.ops)) h
-calm-told s d past (act.Aborted u n why) t calm h = if-told-told s (u == t) _ (story d past t) (λ x i. i) h
-calm-told s d past (act.Lost u) t calm h = if-told-told s (u == t) _ (story d past t) (λ x i. i) h
-calm-told s d past (act.Down n o) t calm h = if-told-told s (is_home d t n) _ (story d past t) (λ x i. i) h
-calm-told s d past (act.Began u n sid0) t calm h = cc
-calm-told s d past (act.Taken u op sid v) t calm h = cc
-calm-told s d past a t calm h = h
+pub untaking-told : (s : ScriptData) (d : DocumentData) (past : List Act) (a : Act) (t : TxId) → is_untaking a ≡ true → is_told s (story d past t) ≡ true → is_told s (story d (a ∷ past) t) ≡ true
+untaking-told s d past (act.Sent m x y said) t free h = asked-told s d t said (story d past t) h
+untaking-told s d past (act.Got m) t free h = got-told s d past (script_of t d.scripts) (sent_at m (sent past)) (story d past t) h
+untaking-told s d past (act.Finished u) t free h = if-told-told s (u == t) _ (story d past t) (λ x i. or-true (is_some (waiting s.ops x.progress.values)) (is_update s.ops)) h
+untaking-told s d past (act.Aborted u n why) t free h = if-told-told s (u == t) _ (story d past t) (λ x i. i) h
+untaking-told s d past (act.Lost u) t free h = if-told-told s (u == t) _ (story d past t) (λ x i. i) h
+untaking-told s d past (act.Down n o) t free h = if-told-told s (is_home d t n) _ (story d past t) (λ x i. i) h
+untaking-told s d past (act.Began u n sid0) t free h = cc
+untaking-told s d past (act.Taken u op sid v) t free h = cc
+untaking-told s d past a t free h = h
 
 -- an act of another transaction
 pub other-told : (s : ScriptData) (d : DocumentData) (past : List Act) (a : Act) (u t : TxId) (n : NodeId) (sid0 : Ident) → u ≢ t → is_told s (story d past t) ≡ true → is_told s (story d (act.Began u n sid0 ∷ past) t) ≡ true
@@ -96,16 +97,12 @@ AllTold d past = (t : TxId) (s : ScriptData) → script_of t d.scripts ≡ Some 
 abbrev pub OthersTold : DocumentData → List Act → TxId → Type 0
 OthersTold d past u = (t : TxId) (s : ScriptData) → u ≢ t → script_of t d.scripts ≡ Some s → is_told s (story d past t) ≡ true
 
-abbrev pub all_calm : List Act → Bool
-all_calm [] = true
-all_calm (a ∷ acts) = is_calm a && all_calm acts
+pub untaking-all : (d : DocumentData) (past acts : List Act) → list_all is_untaking acts ≡ true → AllTold d past → AllTold d (after past acts)
+untaking-all d past [] free all = all
+untaking-all d past (a ∷ acts) free all = untaking-all d (a ∷ past) acts (grind (arith, free)) (λ t s e. untaking-told s d past a t (grind (arith, free)) (all t s e))
 
-pub calm-all : (d : DocumentData) (past acts : List Act) → all_calm acts ≡ true → AllTold d past → AllTold d (after past acts)
-calm-all d past [] calm all = all
-calm-all d past (a ∷ acts) calm all = calm-all d (a ∷ past) acts (grind (arith, calm)) (λ t s e. calm-told s d past a t (grind (arith, calm)) (all t s e))
-
-pub calm-others : (d : DocumentData) (past : List Act) (a : Act) (u : TxId) → is_calm a ≡ true → OthersTold d past u → OthersTold d (a ∷ past) u
-calm-others d past a u calm others t s other e = calm-told s d past a t calm (others t s other e)
+pub untaking-others : (d : DocumentData) (past : List Act) (a : Act) (u : TxId) → is_untaking a ≡ true → OthersTold d past u → OthersTold d (a ∷ past) u
+untaking-others d past a u free others t s other e = untaking-told s d past a t free (others t s other e)
 
 pub all-from : (d : DocumentData) (past : List Act) (u : TxId) (s : ScriptData) → script_of u d.scripts ≡ Some s → is_told s (story d past u) ≡ true → OthersTold d past u → AllTold d past
 all-from d past u s e told others t w f = elim (cases_eq u t) [

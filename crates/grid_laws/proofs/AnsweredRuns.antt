@@ -29,9 +29,10 @@ use Rattle.grid_model.proofs.EventShapes.{Shape, idle, arms, crashes, restarts, 
 use Rattle.grid_laws.proofs.Stages.{Opens, opens-reads}
 use Rattle.grid_laws.proofs.DueHomes.{story-began, ReadersAnswered}
 use Rattle.grid_laws.proofs.DueAnswers.{story-taken, with_reply, stage-quiet}
-use Rattle.grid_laws.proofs.Answered.{is_told, calm-all, calm-told, other-told, other-taken, AllTold, OthersTold}
+use Rattle.grid_laws.proofs.Answered.{is_told, is_untaking, untaking-all, untaking-told, other-told, other-taken, AllTold, OthersTold}
 use Rattle.grid_laws.proofs.AnsweredRows.{told-advance}
-use Rattle.grid_laws.proofs.CalmOuts.{is_reply, calm-acts, calm-again, calm-answer, calm-idle, calm-losses}
+use Rattle.grid_laws.proofs.RowOuts.{is_reply, pass-again}
+use Rattle.grid_laws.proofs.UntakingActs.{untaking-acts, untaking-answer, untaking-idle, untaking-losses}
 
 -- ---- a reply
 
@@ -76,7 +77,7 @@ told-answer d past k m n x b (message.ReadRep q) c quiet is all =
     let same : stage (view d now n) q.t ≡ stage (view d past n) q.t = stage-quiet d past k x n (message.ReadRep q) q.t is refl in
     told-if d now m n b (is_fit_at n (participant (view d past n)) (stage (view d past n) q.t) x (message.ReadRep q)) (reply_row d.cluster q (stage (view d past n) q.t)) all (told-reply d now m n b q (stage (view d past n) q.t) same all)
 told-answer d past k m n x b said true quiet is all = cc
-told-answer d past k m n x b said false quiet is all = calm-all d (act.Got k ∷ past) (numbered m n (kept b n (answer n (view d past n) x said))) (calm-acts m n b (answer n (view d past n) x said) (calm-answer n (view d past n) x said quiet)) all
+told-answer d past k m n x b said false quiet is all = untaking-all d (act.Got k ∷ past) (numbered m n (kept b n (answer n (view d past n) x said))) (untaking-acts m n b (answer n (view d past n) x said) (untaking-answer n (view d past n) x said quiet)) all
 
 -- ---- a begin
 
@@ -96,18 +97,18 @@ told-begin d past m b s is all =
 
 told-restart : (d : DocumentData) (past : List Act) (n : NodeId) (f : Flag) (opens : Bool) → AllTold d past
     → AllTold d (after past (if opens then opened_row d past n f else act.StillDown n ∷ []))
-told-restart d past n f true all = calm-all d past (opened_row d past n f) (calm-losses d (act.Up n f ∷ past) n (number_order (script_numbers d.scripts))) all
+told-restart d past n f true all = untaking-all d past (opened_row d past n f) (untaking-losses d (act.Up n f ∷ past) n (number_order (script_numbers d.scripts))) all
 told-restart d past n f false all = all
 
 told-shape : (d : DocumentData) (past : List Act) (i : Item) (c : Choice) → AllTold d past → (s : Shape d past i)
     → AllTold d (after past (acts_by d past i c s))
-told-shape d past i c all (idle acts is) = calm-all d past acts (calm-idle acts is) all
+told-shape d past i c all (idle acts is) = untaking-all d past acts (untaking-idle acts is) all
 told-shape d past i c all (arms n k how is) = all
-told-shape d past i c all (crashes n up) = λ t s e. calm-told s d past (act.Down n None) t refl (all t s e)
+told-shape d past i c all (crashes n up) = λ t s e. untaking-told s d past (act.Down n None) t refl (all t s e)
 told-shape d past i c all (restarts n up) = told-restart d past n (flag_of (node d past n).doubt c.finds) c.opens all
 told-shape d past i c all (begins s is new up) = told-begin d past (next_number past) c.keeps s is all
-told-shape d past i c all (delivers m e is up) = told-answer d past m (next_number past) e.to e.from c.keeps e.message (is_reply e.message) refl is (λ t s f. calm-told s d past (act.Got m) t refl (all t s f))
-told-shape d past i c all (again n os up is) = calm-all d past (acts_of past c n os) (calm-acts (next_number past) n c.keeps os (calm-again d past n os is)) all
+told-shape d past i c all (delivers m e is up) = told-answer d past m (next_number past) e.to e.from c.keeps e.message (is_reply e.message) refl is (λ t s f. untaking-told s d past (act.Got m) t refl (all t s f))
+told-shape d past i c all (again n os up is) = untaking-all d past (acts_of past c n os) (untaking-acts (next_number past) n c.keeps os (pass-again is_untaking d past n os is)) all
 
 -- an event leaves all told
 pub told-row : (d : DocumentData) (past : List Act) (e : Item) (c : Choice) → AllTold d past → AllTold d (after past (row d past e c))

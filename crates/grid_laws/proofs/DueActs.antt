@@ -56,10 +56,6 @@ acts-due d past n m false os due = broken-due d past n m os due
 
 -- ---- lists of acts
 
-pub after-append : (past xs ys : List Act) → after past (xs ++ ys) ≡ after (after past xs) ys
-after-append past [] ys = refl
-after-append past (x ∷ xs) ys = after-append (x ∷ past) xs ys
-
 -- acts that are due behind a past each act of which was due
 pub all-after : (d : DocumentData) (past acts : List Act) → AllDue d past → AreDue d past acts → AllDue d (after past acts)
 all-after d past [] all due = all

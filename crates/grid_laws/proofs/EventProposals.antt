@@ -22,8 +22,7 @@ use Rattle.grid_model.specs.Stories.{story}
 use Rattle.grid_model.specs.Runs.{Rows, IsRun}
 use Rattle.grid_model.proofs.EventShapes.{Shape, idle, arms, crashes, restarts, begins, delivers, again, acts_by, by-shape}
 use Rattle.grid_laws.proofs.ActsLow.{weight, proposals}
-use Rattle.grid_laws.proofs.MildOuts.{mild-idle, mild-losses, mild-starts}
-use Rattle.grid_laws.proofs.OutProposals.{outs_weight, weight-acts, none-all, none-again, none-begin, from-none, one-answer}
+use Rattle.grid_laws.proofs.OutProposals.{outs_weight, weight-acts, none-again, none-idle, none-losses, none-starts, none-begin, from-none, one-answer}
 
 -- ---- an event proposes at most once
 
@@ -37,7 +36,7 @@ proposals-append (x ∷ xs) ys = omega (arith, proposals-append xs ys)
 one-opened_row : (d : DocumentData) (past : List Act) (n : NodeId) (f : Flag) → proposals (opened_row d past n f) ≤ 1
 one-opened_row d past n f =
     let ts : List TxId = number_order (script_numbers d.scripts) in
-    omega (arith, none-all (flat_map (λ t. lost_at d (act.Up n f ∷ past) n (script_of t d.scripts)) ts) (mild-losses d (act.Up n f ∷ past) n ts))
+    omega (arith, none-losses d (act.Up n f ∷ past) n ts)
 
 one-restart : (d : DocumentData) (past : List Act) (n : NodeId) (f : Flag) (opens : Bool)
     → proposals (if opens then opened_row d past n f else act.StillDown n ∷ []) ≤ 1
@@ -48,7 +47,7 @@ one-behind : (a : Act) (xs : List Act) → weight a ≡ 0 → proposals xs ≤ 1
 one-behind a xs h k = omega (arith, h, k)
 
 one-shape : (d : DocumentData) (past : List Act) (i : Item) (c : Choice) (s : Shape d past i) → proposals (acts_by d past i c s) ≤ 1
-one-shape d past i c (idle acts is) = omega (arith, none-all acts (mild-idle acts is))
+one-shape d past i c (idle acts is) = omega (arith, none-idle acts is)
 one-shape d past i c (arms n k how is) = omega arith
 one-shape d past i c (crashes n up) = omega arith
 one-shape d past i c (restarts n up) = one-restart d past n (flag_of (node d past n).doubt c.finds) c.opens
@@ -78,7 +77,8 @@ proposals-after : (past h : List Act) → proposals (after past h) ≡ proposals
 proposals-after past [] = omega arith
 proposals-after past (a ∷ h) = omega (arith, proposals-after (a ∷ past) h)
 
-length-events_in : (i : Item) → length (events_in i) ≡ events_of i
+-- how many events an item is
+pub length-events_in : (i : Item) → length (events_in i) ≡ events_of i
 length-events_in (item.Next c) = length-replicate c (item.Next 1)
 length-events_in (item.Begin t) = refl
 length-events_in (item.Deliver m) = refl
@@ -100,4 +100,4 @@ few-proposals d items h run =
     let first : List Act = start_row d.cluster.nodes run.opens in
     let rest : proposals run.rest ≤ length (flat_map events_in items) = one-each d (after [] first) (flat_map events_in items) run.rest run.rows in
     let whole : proposals h ≡ proposals first + proposals run.rest = rw run.start (proposals-append first run.rest) in
-    omega (arith, rest, whole, none-all first (mild-starts run.opens (range_with_len 1 d.cluster.nodes)), length-events items, proposals-after [] h)
+    omega (arith, rest, whole, none-starts run.opens (range_with_len 1 d.cluster.nodes), length-events items, proposals-after [] h)

@@ -21,7 +21,7 @@ use Rattle.grid_model.specs.Stories.{Phase, story, told, asked, heard, heard_at,
 use Rattle.script_runs.specs.Waits.{waiting}
 use Rattle.grid_model.specs.Copies.{snapshot, snapshot_in}
 use Rattle.grid_laws.proofs.Causes.{AtHome, AllDue, TakenDue, BeganDue}
-use Rattle.grid_laws.proofs.Answered.{is_calm}
+use Rattle.grid_laws.proofs.Answered.{is_untaking}
 
 -- a story with the begin, the snapshot and the values of x
 abbrev pub Keeps : Story → Option Story → Type 0
@@ -51,16 +51,16 @@ asked-keeps : (x : Story) (d : DocumentData) (t : TxId) (said : Message) (o : Op
 asked-keeps x d t (message.ReadReq q) o k = if-told-keeps x (q.t == t) _ o (λ y i. i) k
 asked-keeps x d t said o k = k
 
-calm-keeps : (x : Story) (d : DocumentData) (past : List Act) (a : Act) (t : TxId) → is_calm a ≡ true → Keeps x (story d past t) → Keeps x (story d (a ∷ past) t)
-calm-keeps x d past (act.Sent m n y said) t calm k = asked-keeps x d t said (story d past t) k
-calm-keeps x d past (act.Got m) t calm k = got-keeps x d past (script_of t d.scripts) (sent_at m (sent past)) (story d past t) k
-calm-keeps x d past (act.Finished u) t calm k = if-told-keeps x (u == t) _ (story d past t) (λ y i. i) k
-calm-keeps x d past (act.Aborted u n why) t calm k = if-told-keeps x (u == t) _ (story d past t) (λ y i. i) k
-calm-keeps x d past (act.Lost u) t calm k = if-told-keeps x (u == t) _ (story d past t) (λ y i. i) k
-calm-keeps x d past (act.Down n h) t calm k = if-told-keeps x (is_home d t n) _ (story d past t) (λ y i. i) k
-calm-keeps x d past (act.Began u n sid0) t calm k = cc
-calm-keeps x d past (act.Taken u op sid v) t calm k = cc
-calm-keeps x d past a t calm k = k
+untaking-keeps : (x : Story) (d : DocumentData) (past : List Act) (a : Act) (t : TxId) → is_untaking a ≡ true → Keeps x (story d past t) → Keeps x (story d (a ∷ past) t)
+untaking-keeps x d past (act.Sent m n y said) t calm k = asked-keeps x d t said (story d past t) k
+untaking-keeps x d past (act.Got m) t calm k = got-keeps x d past (script_of t d.scripts) (sent_at m (sent past)) (story d past t) k
+untaking-keeps x d past (act.Finished u) t calm k = if-told-keeps x (u == t) _ (story d past t) (λ y i. i) k
+untaking-keeps x d past (act.Aborted u n why) t calm k = if-told-keeps x (u == t) _ (story d past t) (λ y i. i) k
+untaking-keeps x d past (act.Lost u) t calm k = if-told-keeps x (u == t) _ (story d past t) (λ y i. i) k
+untaking-keeps x d past (act.Down n h) t calm k = if-told-keeps x (is_home d t n) _ (story d past t) (λ y i. i) k
+untaking-keeps x d past (act.Began u n sid0) t calm k = cc
+untaking-keeps x d past (act.Taken u op sid v) t calm k = cc
+untaking-keeps x d past a t calm k = k
 
 -- t, of home n, has the snapshot sid and all its values
 pub record Full (d : DocumentData) (past : List Act) (n : NodeId) (t : TxId) (s : ScriptData) (sid : Ident) (values : List (ℕ × Value)) : Type 0 where
@@ -84,8 +84,8 @@ keeps-full d past now n t s sid values f (Some y) e k =
 keeps-self : (d : DocumentData) (past : List Act) (t : TxId) (x : Story) → story d past t ≡ Some x → Keeps x (story d past t)
 keeps-self d past t x e = let P : Option Story → Type 0 = λ o. Keeps x o in subst P (sym e) (refl, refl, refl)
 
-calm-full : (d : DocumentData) (past : List Act) (a : Act) (n : NodeId) (t : TxId) (s : ScriptData) (sid : Ident) (values : List (ℕ × Value)) → is_calm a ≡ true → Full d past n t s sid values → Full d (a ∷ past) n t s sid values
-calm-full d past a n t s sid values calm f = keeps-full d past (a ∷ past) n t s sid values f (story d (a ∷ past) t) refl (calm-keeps f.story d past a t calm (keeps-self d past t f.story f.at.story))
+untaking-full : (d : DocumentData) (past : List Act) (a : Act) (n : NodeId) (t : TxId) (s : ScriptData) (sid : Ident) (values : List (ℕ × Value)) → is_untaking a ≡ true → Full d past n t s sid values → Full d (a ∷ past) n t s sid values
+untaking-full d past a n t s sid values calm f = keeps-full d past (a ∷ past) n t s sid values f (story d (a ∷ past) t) refl (untaking-keeps f.story d past a t calm (keeps-self d past t f.story f.at.story))
 
 if-other : (x : Story) (b : Bool) (f : Story → Story) (o : Option Story) → b ≡ false → Keeps x o → Keeps x (if_told b f o)
 if-other x b f None e k = k
@@ -129,7 +129,7 @@ full-more d past (act.Taken u op i v) n t s sid values due f =
     let reads : waiting s.ops f.story.progress.values ≡ None = ap (waiting s.ops) f.told ∙ f.full in
     let other : u ≢ t = taken-other d past u t op i v s f.story due.0 f.at.script f.at.story reads in
     keeps-full d past (act.Taken u op i v ∷ past) n t s sid values f (story d (act.Taken u op i v ∷ past) t) refl (if-other f.story (u == t) (progressed (with_value op i v)) (story d past t) (grind (arith, nat_tests)) (keeps-self d past t f.story f.at.story))
-full-more d past a n t s sid values due f = calm-full d past a n t s sid values refl f
+full-more d past a n t s sid values due f = untaking-full d past a n t s sid values refl f
 
 pub full-snapshot : (d : DocumentData) (past : List Act) (n : NodeId) (t : TxId) (s : ScriptData) (sid : Ident) (values : List (ℕ × Value)) → Full d past n t s sid values → snapshot d past t ≡ sid
 full-snapshot d past n t s sid values f = ap snapshot_in f.at.story ∙ f.ident

@@ -1,3 +1,6 @@
+pub mod EachActs
+pub mod RowOuts
+pub mod CalmRuns
 pub mod MessageCauses
 pub mod Causes
 pub mod Frames
@@ -13,9 +16,7 @@ pub mod AnsweredRows
 pub mod DueLosses
 pub mod DueRuns
 pub mod AnsweredRuns
-pub mod MildOuts
-pub mod SilentOuts
-pub mod CalmOuts
+pub mod UntakingActs
 pub mod RunsDue
 pub mod NodesFit
 pub mod NodesFitActs
@@ -53,5 +54,4 @@ pub mod DeliveredFit
 pub mod Instances
 pub mod NodesNumbered
 pub mod PartsOfKeys
-pub mod EachActs
 pub mod WorkedDocuments

@@ -1,5 +1,5 @@
 -- How many proposals the outs of a row have: none but in the row of a Prepare, which has at most one.
-use Rattle.std.proofs.Common.{◌≡◌, ℕ, ◌+◌, ◌≤◌, Bool, true, false, List, [], ◌∷◌, ◌++◌, Option, Some, None, refl, arith}
+use Rattle.std.proofs.Common.{◌≡◌, ℕ, ◌+◌, ◌≤◌, Bool, true, false, List, [], ◌∷◌, ◌++◌, Option, Some, None, refl, sym, ◌∙◌, arith}
 use Rattle.std.specs.Prelude.{◌==◌, if◌then◌else◌, map, filter, nat_lt}
 use Rattle.std.proofs.lemmas.Bool.{and_parts}
 use Rattle.score_base.specs.declared.ids.TxId.{TxId}
@@ -20,16 +20,18 @@ use Rattle.grid_model.specs.declared.messages.ReadRep.{ReadRep}
 use Rattle.journal_words.specs.Journals.{commit_id}
 use Rattle.grid_model.specs.Stories.{with_value}
 use Rattle.script_runs.specs.Waits.{waiting}
-use Rattle.grid_model.specs.Views.{stage, Stage, View, Open, Reads, Collects, Commits, Apart, participant}
+use Rattle.grid_model.specs.Views.{stage, View, Participant, participant}
 use Rattle.grid_model.specs.Advances.{advance, advance_end, owns}
 use Rattle.script_runs.specs.Walks.{own_reads, unread}
 use Rattle.grid_model.specs.Fitness.{is_fit_at, tx_in}
-use Rattle.grid_model.specs.Rows.{ack_row, answer, ask_row, begin_outs, begun_at, judged, prepare_row, reply_row, row_of, tell_outs, vote_row}
-use Rattle.grid_model.specs.Schedules.{broken, kept, numbered}
+use Rattle.grid_model.specs.Rows.{answer, begin_outs, judged, prepare_outs, prepare_row}
+use Rattle.grid_model.specs.Schedules.{broken, kept, lost_at, numbered, start_act}
 use Rattle.grid_laws.proofs.ActsLow.{weight, proposals}
 use Rattle.grid_model.specs.Documents.{DocumentData}
-use Rattle.grid_model.proofs.EventShapes.{IsAgain}
-use Rattle.grid_laws.proofs.MildOuts.{is_mild, all_mild, is_mild_out, mild_outs, mild-read, mild-vote, mild-tell, mild-ack, mild-ask, mild-again, mild-end}
+use Rattle.grid_model.specs.Nodes.{script_of}
+use Rattle.std.specs.List.{flat_map, list_all}
+use Rattle.grid_model.proofs.EventShapes.{IsAgain, idle-pass, is_idle}
+use Rattle.grid_laws.proofs.RowOuts.{Pass, is_of_row, is_prepare, on_act, pass-again, pass-answer, pass-begin, pass-losses, pass-starts}
 
 -- ---- outs
 
@@ -65,70 +67,53 @@ weight-kept false n os = weight-broken n os
 pub weight-acts : (m : ℕ) (n : NodeId) (b : Bool) (os : List Out) → proposals (numbered m n (kept b n os)) ≤ outs_weight os
 weight-acts m n b os = omega (arith, weight-numbered m n (kept b n os), weight-kept b n os)
 
-weight-append : (xs ys : List Out) → outs_weight (xs ++ ys) ≡ outs_weight xs + outs_weight ys
-weight-append [] ys = omega arith
-weight-append (x ∷ xs) ys = omega (arith, weight-append xs ys)
+-- ---- what proposes nothing
 
-none-append : (xs ys : List Out) → outs_weight xs ≡ 0 → outs_weight ys ≡ 0 → outs_weight (xs ++ ys) ≡ 0
-none-append xs ys h k = omega (arith, weight-append xs ys, h, k)
+-- an act that proposes nothing, also as a stop
+abbrev is_unproposing : Act → Bool
+is_unproposing (act.Prepared n t p) = false
+is_unproposing (act.Down n h) = false
+is_unproposing a = true
 
-none-if : (b : Bool) (os : List Out) → outs_weight os ≡ 0 → outs_weight (if b then os else []) ≡ 0
-none-if true os h = h
-none-if false os h = refl
-
--- an out that proposes nothing, before others that propose nothing
-none-behind : (o : Out) (os : List Out) → out_weight o ≡ 0 → outs_weight os ≡ 0 → outs_weight (o ∷ os) ≡ 0
-none-behind o os h k = omega (arith, h, k)
-
--- ---- what is mild proposes nothing
-
-none-act : (a : Act) → is_mild a ≡ true → weight a ≡ 0
+none-act : (a : Act) → is_unproposing a ≡ true → weight a ≡ 0
 none-act (act.Prepared n t p) h = cc
 none-act (act.Down n o) h = cc
 none-act a h = refl
 
-none-out : (o : Out) → is_mild_out o ≡ true → out_weight o ≡ 0
-none-out (out.Act a) h = none-act a h
-none-out (out.Send to said) h = refl
+none-outs : (os : List Out) → Pass is_unproposing os → outs_weight os ≡ 0
+none-outs [] h = refl
+none-outs (out.Send to said ∷ os) h = omega (arith, none-outs os h)
+none-outs (out.Act a ∷ os) h =
+    let both = and_parts (is_unproposing a) (list_all (on_act is_unproposing) os) h in
+    omega (arith, none-act a both.0, none-outs os both.1)
 
-none-mild : (os : List Out) → mild_outs os ≡ true → outs_weight os ≡ 0
-none-mild [] h = refl
-none-mild (o ∷ os) h =
-    let both = and_parts (is_mild_out o) (mild_outs os) h in
-    none-behind o os (none-out o both.0) (none-mild os both.1)
-
--- acts that are mild propose nothing
-pub none-all : (acts : List Act) → all_mild acts ≡ true → proposals acts ≡ 0
+none-all : (acts : List Act) → list_all is_unproposing acts ≡ true → proposals acts ≡ 0
 none-all [] h = refl
 none-all (a ∷ acts) h =
-    let both = and_parts (is_mild a) (all_mild acts) h in
+    let both = and_parts (is_unproposing a) (list_all is_unproposing acts) h in
     omega (arith, none-act a both.0, none-all acts both.1)
 
--- ---- the other rows that propose nothing
+pub none-idle : (acts : List Act) → list_all is_idle acts ≡ true → proposals acts ≡ 0
+none-idle acts is = none-all acts (idle-pass is_unproposing (λ code. refl) (λ m. refl) (λ m. refl) acts is)
 
-none-shown : (t : TxId) (ys : List (ℕ × Value)) → outs_weight (map (λ y. out.Act (act.Own t y.0 y.1)) ys) ≡ 0
-none-shown t [] = refl
-none-shown t (y ∷ ys) = omega (arith, none-shown t ys)
+pub none-losses : (d : DocumentData) (past : List Act) (n : NodeId) (ts : List TxId)
+    → proposals (flat_map (λ t. lost_at d past n (script_of t d.scripts)) ts) ≡ 0
+none-losses d past n ts = none-all (flat_map (λ t. lost_at d past n (script_of t d.scripts)) ts) (pass-losses is_unproposing d past n ts (λ t. refl))
 
-none-advance : (c : ClusterData) (x : Open) (i : ℕ) → outs_weight (advance c x i) ≡ 0
-none-advance c x i = none-append (owns x.script.number i (own_reads 1 [] unread x.progress.values x.script.ops)) (advance_end c x (waiting x.script.ops x.progress.values)) (none-shown x.script.number (filter (λ y. nat_lt i y.0) (own_reads 1 [] unread x.progress.values x.script.ops))) (none-mild (advance_end c x (waiting x.script.ops x.progress.values)) (mild-end c x (waiting x.script.ops x.progress.values)))
-
-none-reply : (c : ClusterData) (q : ReadRep) (g : Stage) → outs_weight (reply_row c q g) ≡ 0
-none-reply c q (Reads x j) =
-    let y : Open = record x { progress = with_value q.op q.sid q.value x.progress } in
-    let o : Out = out.Act (act.Taken q.t q.op q.sid q.value) in
-    none-if (j == q.op) (o ∷ advance c y q.op) (none-behind o (advance c y q.op) refl (none-advance c y q.op))
-none-reply c q (Collects x) = refl
-none-reply c q (Commits y acks) = refl
-none-reply c q Apart = refl
+pub none-starts : (opens : NodeId → Bool) (ns : List NodeId) → proposals (map (start_act opens) ns) ≡ 0
+none-starts opens ns = none-all (map (start_act opens) ns) (pass-starts is_unproposing opens ns (λ n. refl) (λ n. refl))
 
 pub none-again : (d : DocumentData) (past : List Act) (n : NodeId) (os : List Out) → IsAgain d past n os → outs_weight os ≡ 0
-none-again d past n os is = none-mild os (mild-again d past n os is)
+none-again d past n os is = none-outs os (pass-again is_unproposing d past n os is)
 
 pub none-begin : (n : NodeId) (v : View) (s : ScriptData) → outs_weight (begin_outs n (participant v) s) ≡ 0
 none-begin n v s =
-    let x : Open = begun_at s (commit_id v.journal) in
-    none-behind (out.Act (act.Began s.number n (commit_id v.journal))) (advance v.cluster x 0) refl (none-advance v.cluster x 0)
+    none-outs (begin_outs n (participant v) s) (pass-begin is_unproposing (λ t m sid0. refl) (λ t j w. refl) (λ t. refl) n (participant v) s)
+
+row-unproposing : (n : NodeId) (said : Message) → is_prepare said ≡ false → (a : Act) → is_of_row n said a ≡ true → is_unproposing a ≡ true
+row-unproposing n said none (act.Prepared m t p) h = sym none ∙ (and_parts (is_prepare said) (m == n) h).0
+row-unproposing n said none (act.Down m x) h = h
+row-unproposing n said none a h = refl
 
 -- ---- the row of a Prepare proposes at most once
 
@@ -145,19 +130,17 @@ one-prepare n x t None None u y p = one-judged n x t u y p
 pub from-none : (os : List Out) → outs_weight os ≡ 0 → outs_weight os ≤ 1
 from-none os h = omega (arith, h)
 
-one-row_of : (n : NodeId) (v : View) (g : Stage) (x : NodeId) (said : Message) → outs_weight (row_of n (participant v) v.held g x said) ≤ 1
-one-row_of n v g x (message.ReadReq q) = from-none (row_of n (participant v) v.held g x (message.ReadReq q)) (none-mild (row_of n (participant v) v.held g x (message.ReadReq q)) (mild-read n v x q _))
-one-row_of n v g x (message.ReadRep q) = from-none (reply_row v.cluster q g) (none-reply v.cluster q g)
-one-row_of n v g x (message.Prepare q) = one-prepare n x q.t _ _ _ _ _
-one-row_of n v g x (message.Vote t b) = from-none (vote_row v.cluster t x b g) (none-mild (vote_row v.cluster t x b g) (mild-vote v.cluster t x b g))
-one-row_of n v g x (message.Tell t o) = from-none (tell_outs n (participant v) v.held t o) (none-mild (tell_outs n (participant v) v.held t o) (mild-tell n v t o))
-one-row_of n v g x (message.Ack t) = from-none (ack_row t x g) (none-mild (ack_row t x g) (mild-ack t x g))
-one-row_of n v g x (message.Ask t) = from-none (ask_row t x g) (none-mild (ask_row t x g) (mild-ask t x g))
-
 one-if : (b : Bool) (os : List Out) → outs_weight os ≤ 1 → outs_weight (if b then os else []) ≤ 1
 one-if true os h = h
 one-if false os h = omega arith
 
 -- the answer to a message proposes at most once
 pub one-answer : (n : NodeId) (v : View) (x : NodeId) (said : Message) → outs_weight (answer n v x said) ≤ 1
-one-answer n v x said = one-if (is_fit_at n (participant v) (stage v (tx_in said)) x said) _ (one-row_of n v (stage v (tx_in said)) x said)
+one-answer n v x said = go said (is_prepare said) refl
+  where
+    go : (said : Message) (b : Bool) → is_prepare said ≡ b → outs_weight (answer n v x said) ≤ 1
+    go (message.Prepare q) b e =
+        let p : Participant = participant v in
+        one-if (is_fit_at n p (stage v q.t) x (message.Prepare q)) (prepare_outs n p x q) (one-prepare n x q.t _ _ _ _ _)
+    go said true e = cc
+    go said false e = from-none (answer n v x said) (none-outs (answer n v x said) (pass-answer is_unproposing n v x said (row-unproposing n said e)))

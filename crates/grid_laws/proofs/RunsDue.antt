@@ -13,13 +13,14 @@ use Rattle.journal_words.specs.Journals.{Decision, decision, has_decided}
 use Rattle.grid_model.specs.Nodes.{journal}
 use Rattle.grid_model.specs.Stories.{story}
 use Rattle.journal_words.proofs.Decisions.{decision-has}
-use Rattle.grid_laws.proofs.CalmOuts.{calm-starts}
+use Rattle.grid_laws.proofs.UntakingActs.{untaking-starts}
 use Rattle.grid_laws.proofs.Causes.{AllDue}
-use Rattle.grid_laws.proofs.DueActs.{after-append, all-after}
+use Rattle.grid_laws.proofs.DueActs.{all-after}
+use Rattle.grid_model.proofs.EventShapes.{after-append}
 use Rattle.grid_laws.proofs.DueRuns.{UnbegunUndecided, due-row, due-start}
 use Rattle.grid_laws.proofs.NodesFitActs.{nodes-fit}
 use Rattle.grid_laws.proofs.DecisionsRest.{decided-say, decision-stands}
-use Rattle.grid_laws.proofs.Answered.{AllTold, calm-all}
+use Rattle.grid_laws.proofs.Answered.{AllTold, untaking-all}
 use Rattle.grid_laws.proofs.AnsweredRuns.{told-row, answered-told}
 
 told-none : (d : DocumentData) (past : List Act) (t : TxId) (s : ScriptData) (o : Option Decision) → AllDue d past → story d past t ≡ None → decision t (journal d past s.home) ≡ o → o ≡ None
@@ -48,7 +49,7 @@ pub due-run : (d : DocumentData) (items : List Item) (h : List Act) → IsRun d 
 due-run d items h run =
     let first : List Act = start_row d.cluster.nodes run.opens in
     let due : AllDue d (after [] first) = all-after d [] first tt (due-start d d.cluster.nodes run.opens) in
-    let told : AllTold d (after [] first) = calm-all d [] first (calm-starts run.opens (range_with_len 1 d.cluster.nodes)) (λ t s e. refl) in
+    let told : AllTold d (after [] first) = untaking-all d [] first (untaking-starts run.opens (range_with_len 1 d.cluster.nodes)) (λ t s e. refl) in
     let more : AllDue d (after (after [] first) run.rest) = due-rows d (after [] first) (flat_map events_in items) run.rest due told run.rows in
     let P : List Act → Type 0 = λ p. AllDue d p in
     rw run.start (subst P (sym (after-append [] first run.rest)) more)

@@ -7,11 +7,14 @@
 //! [`law_identifiers`] stand beside it. [`law_records_fit`] is what the others rest on: whatever a disk
 //! leaves at a stop, each journal is a list in which every record fits those before it. What the laws
 //! say of records they say of the journal, and of the journal with the record in doubt behind it.
+//! [`law_calm_run`] and [`law_one_history`] speak of the run in which no disk fails, `calm_run` of
+//! `specs/CalmRuns.antt`.
 #![tactic(auto)]
 
 mod runs;
 
 pub use runs::{
-    law_aborts_final, law_decisions_rest, law_facts, law_fit, law_identifiers, law_locks_exclude,
-    law_messages_backed, law_never_held, law_prepares_agree, law_records_fit, law_served_promised,
+    law_aborts_final, law_calm_run, law_decisions_rest, law_facts, law_fit, law_identifiers,
+    law_locks_exclude, law_messages_backed, law_never_held, law_one_history, law_prepares_agree,
+    law_records_fit, law_served_promised,
 };

@@ -1,9 +1,9 @@
 //! Laws of every run: of all rows and all free choices of the disks, stops and restarts included.
-ghost use Rattle.std.specs.Prelude.{List, [], sum_by};
+ghost use Rattle.std.specs.Prelude.{◌≡◌, List, [], sum_by};
 ghost use Rattle.grid_model.specs.declared.acts.Act.{Act};
 ghost use Rattle.grid_model.specs.Documents.{DocumentData, IsOne, events_of};
 ghost use Rattle.grid_model.specs.Histories.{after};
-ghost use Rattle.grid_model.specs.Runs.{IsRun};
+ghost use Rattle.grid_model.specs.Runs.{IsRun, Lawful};
 ghost use Rattle.grid_model.specs.Facts.{
   AbortsFinal,
   DecisionsRest,
@@ -18,6 +18,7 @@ ghost use Rattle.grid_model.specs.Facts.{
   ServedPromised,
   UpSettled,
 };
+ghost use Rattle.grid_laws.specs.CalmRuns.{AreUnfused, calm_run};
 
 /// Each record of each journal, and the record in doubt behind them, fits those before it; and a node that
 /// is up has no record in doubt.
@@ -76,4 +77,16 @@ pub fn law_fit()
 /// The facts on which one copy rests hold of every run, stops and restarts included.
 pub fn law_facts()
     ensures { (d : DocumentData) (h : List Act) → IsRun d d.items h → Facts d h }
+{}
+
+/// The calm run of a document is a run, and a lawful one without a fault where its schedule sets no fuse.
+pub fn law_calm_run()
+    ensures run { (d : DocumentData) → IsRun d d.items (calm_run d) }
+    ensures lawful { (d : DocumentData) → AreUnfused d.items → Lawful d (calm_run d) (λ n. 0) }
+{}
+
+/// A document whose schedule sets no fuse has exactly one lawful run in which no disk fails.
+pub fn law_one_history()
+    ensures some { (d : DocumentData) → AreUnfused d.items → (h : List Act) × Lawful d h (λ n. 0) }
+    ensures one { (d : DocumentData) (h h' : List Act) → AreUnfused d.items → Lawful d h (λ n. 0) → Lawful d h' (λ n. 0) → h ≡ h' }
 {}

@@ -1,6 +1,6 @@
 -- The seven shapes of an event: what the row of each item is behind a past, by what the disks choose.
 -- What holds of each shape holds of each row, so that an item more opens this file alone.
-use Rattle.std.proofs.Common.{◌≡◌, ℕ, Bool, true, false, List, [], ◌∷◌, Option, Some, None, refl, sym, subst, if◌then◌else◌}
+use Rattle.std.proofs.Common.{◌≡◌, ℕ, Bool, true, false, List, [], ◌∷◌, ◌++◌, Option, Some, None, refl, sym, subst, if◌then◌else◌}
 use Rattle.std.specs.List.{list_all}
 use Rattle.score_base.specs.declared.ids.TxId.{TxId}
 use Rattle.score_base.specs.declared.ids.NodeId.{NodeId}
@@ -13,7 +13,7 @@ use Rattle.grid_model.specs.declared.items.Item.TheVariants as item
 use Rattle.grid_model.specs.declared.messages.Envelope.{Envelope}
 use Rattle.grid_model.specs.declared.stories.Story.{Story}
 use Rattle.grid_model.specs.Documents.{DocumentData}
-use Rattle.grid_model.specs.Histories.{sent, sent_at}
+use Rattle.grid_model.specs.Histories.{after, sent, sent_at}
 use Rattle.grid_model.specs.Nodes.{node, script_of}
 use Rattle.grid_model.specs.Stories.{story}
 use Rattle.grid_model.specs.Views.{participant, view, stage}
@@ -156,3 +156,8 @@ row-shaped d past (item.Restart n) = restart_row-shaped d past (item.Restart n) 
 pub by-shape : (d : DocumentData) (past : List Act) (i : Item) (c : Choice) (P : List Act → Type 0)
     → ((s : Shape d past i) → P (acts_by d past i c s)) → P (row d past i c)
 by-shape d past i c P each = let is = row-shaped d past i in subst P (sym (is.same c)) (each is.shape)
+
+-- the acts of an event, and those of the events behind it
+pub after-append : (past xs ys : List Act) → after past (xs ++ ys) ≡ after (after past xs) ys
+after-append past [] ys = refl
+after-append past (a ∷ xs) ys = after-append (a ∷ past) xs ys

@@ -29,7 +29,7 @@ use Rattle.grid_model.specs.Schedules.{Choice, numbered, kept, broken, next_numb
 use Rattle.grid_model.specs.Runs.{Rows, IsRun}
 use Rattle.grid_model.specs.NextViews.{OwnDecisions, is_running}
 use Rattle.grid_model.proofs.Undecided.{script-number}
-use Rattle.grid_model.proofs.EventShapes.{Shape, idle, arms, crashes, restarts, begins, delivers, again, IsAgain, retries, asks, acts_by, by-shape, idle-pass}
+use Rattle.grid_model.proofs.EventShapes.{Shape, idle, arms, crashes, restarts, begins, delivers, again, IsAgain, retries, asks, acts_by, by-shape, idle-pass, after-append}
 use Rattle.grid_model.proofs.ViewSteps.{here, at-desk, entry}
 use Rattle.grid_model.proofs.PlainOuts.{both, is_plain, are_plain}
 use Rattle.grid_model.proofs.NextSteps.{Given, answer-given, advance-plain, retry-plain, asks-plain}
@@ -189,10 +189,6 @@ shape-owes d past kept_now i c (restarts n up) = restart-owes d past kept_now n 
 shape-owes d past kept_now i c (begins s is new up) = begin-owes d past s.home (view d past s.home) s (next_number past) c.keeps
 shape-owes d past kept_now i c (delivers m e is up) = (tt, given-owes d past e.to m (next_number past) c.keeps (answer e.to (view d past e.to) e.from e.message) (answer-given d past e.to e.from e.message (kept-own d past e.to kept_now)))
 shape-owes d past kept_now i c (again n os up is) = calm-all d past (acts_of past c n os) (plain-calm d n false c.keeps (next_number past) os (again-plain d past n os is))
-
-after-append : (past xs ys : List Act) → after past (xs ++ ys) ≡ after (after past xs) ys
-after-append past [] ys = refl
-after-append past (a ∷ xs) ys = after-append (a ∷ past) xs ys
 
 rows-keep : (d : DocumentData) (past : List Act) (es : List Item) (h : List Act) → DecisionsKept d past → Rows d past es h → DecisionsKept d (after past h)
 unfolding Rows

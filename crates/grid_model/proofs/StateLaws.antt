@@ -4,10 +4,7 @@ use Rattle.grid_model.specs.declared.acts.Act.{Act}
 use Rattle.grid_model.specs.Documents.{DocumentData}
 use Rattle.grid_model.specs.Histories.{after}
 use Rattle.grid_model.specs.States.{state_of, state_after}
-
-pub after-append : (past xs ys : List Act) → after past (xs ++ ys) ≡ after (after past xs) ys
-after-append past [] ys = refl
-after-append past (a ∷ xs) ys = after-append (a ∷ past) xs ys
+use Rattle.grid_model.proofs.EventShapes.{after-append}
 
 pub state-all : (d : DocumentData) (past acts : List Act) → state_of d (after past acts) ≡ state_after d (state_of d past) acts
 state-all d past [] = refl

@@ -8,11 +8,8 @@ use Rattle.grid_model.specs.Documents.{DocumentData}
 use Rattle.grid_model.specs.Histories.{after, sent, sent_at, is_gone}
 use Rattle.grid_model.specs.Nodes.{Node, blank, got, change, changed}
 use Rattle.run_state.specs.Kept.{Keeps, posted, got_by, going, is_number, is_marked, node_in, telling, retold_by}
+use Rattle.run_state.proofs.ForCode.{after-append}
 use Rattle.run_state.proofs.Told.{stories-more}
-
-pub after-more : (past acts : List Act) (a : Act) → after past (acts ++ a ∷ []) ≡ a ∷ after past acts
-after-more past [] a = refl
-after-more past (x ∷ acts) a = after-more (x ∷ past) acts a
 
 sent-more : (a : Act) (ms : List Envelope) (past : List Act) → ms ≡ sent past → posted a ms ≡ sent (a ∷ past)
 sent-more (act.Sent m x y said) ms past e = rw e refl
@@ -69,4 +66,4 @@ pub keeps-act : (d : DocumentData) (acts acts' : List Act) (a : Act) (ms ms' : L
     → Keeps d (after [] acts') ms' marks' last' nodes' stories'
 keeps-act d acts acts' a ms ms' marks marks' last last' nodes nodes' stories stories' o k acts-are ms-are marked last-is count each o-is stories-are =
     let kept : Keeps d (a ∷ after [] acts) (posted a ms) marks' (got_by a ms last) nodes' (retold_by d a (telling d (after [] acts) a) stories) = keeps-more d (after [] acts) a ms marks marks' last nodes nodes' stories k marked count each in
-    rw (acts-are, after-more [] acts a, ms-are, last-is, stories-are, o-is) kept
+    rw (acts-are, after-append [] acts (a ∷ []), ms-are, last-is, stories-are, o-is) kept

@@ -1,3 +1,4 @@
+pub mod ForCode
 pub mod Marked
 pub mod Elsewhere
 pub mod Told

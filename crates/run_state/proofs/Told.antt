@@ -15,8 +15,7 @@ use Rattle.grid_model.specs.Histories.{sent, sent_at}
 use Rattle.grid_model.specs.Keyed.{at_key, put_key}
 use Rattle.grid_model.specs.Nodes.{Node, node, script_of, parts_of, is_home}
 use Rattle.grid_model.specs.Stories.{story, begun, told, if_told, heard, heard_at, asked, phase_at, Phase, with_request, with_value, with_vote, with_ack, without_answers, is_counted_vote, is_counted_ack, progressed}
-use Rattle.grid_model.proofs.Places.{at-put, put-other}
-use Rattle.grid_model.proofs.Undecided.{script-number}
+use Rattle.run_state.proofs.ForCode.{at-put, put-other, script-number}
 use Rattle.run_state.specs.Kept.{retold, paired, voter, hearing_at, hearing_of, hearing, asking, telling, put_telling, forgotten, retold_by}
 
 -- what a list that has one story more says of t, by what it said of t

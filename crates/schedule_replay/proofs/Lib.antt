@@ -1,3 +1,4 @@
+pub mod ForCode
 pub mod Told
 pub mod Clocks
 pub mod Counts
@@ -5,7 +6,5 @@ pub mod Posts
 pub mod Shorts
 pub mod Reopened
 pub mod Events
-pub mod Calm
 pub mod Ranges
 pub mod Loops
-pub mod OneRun

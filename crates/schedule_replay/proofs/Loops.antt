@@ -9,9 +9,11 @@ use Rattle.grid_model.specs.declared.items.Item.{Item}
 use Rattle.grid_model.specs.Documents.{DocumentData, events_of}
 use Rattle.grid_model.specs.Histories.{after}
 use Rattle.grid_model.specs.Schedules.{start_row, start_act, events_in}
-use Rattle.schedule_replay.specs.Replays.{HasRoom, played, plays}
+use Rattle.grid_laws.specs.CalmRuns.{played, plays}
+use Rattle.schedule_replay.specs.Replays.{HasRoom}
 use Rattle.schedule_replay.proofs.Posts.{posts, holdings, sent-after, held-after}
-use Rattle.schedule_replay.proofs.Events.{after-append, plays-more, room-event, room-events, room-less, length-events}
+use Rattle.schedule_replay.proofs.Events.{plays-more, room-event, room-events, room-less}
+use Rattle.schedule_replay.proofs.ForCode.{after-append, length-events_in}
 
 pub told-event : (d : DocumentData) (acts acts' : List Act) (x : Item) (es : List Item) (all : List Act) → acts' ≡ acts ++ played d (after [] acts) x → acts ++ plays d (after [] acts) (x ∷ es) ≡ all → acts' ++ plays d (after [] acts') es ≡ all
 told-event d acts acts' x es all e told = rw e (append_assoc acts (played d (after [] acts) x) _ ∙ ap (λ z. acts ++ (played d (after [] acts) x ++ plays d z es)) (after-append [] acts (played d (after [] acts) x)) ∙ told)
@@ -24,7 +26,7 @@ told-item d acts acts' xs ys all e told = rw e (plays-more d acts xs ys ∙ told
 
 pub left-item : (d : DocumentData) (acts acts' : List Act) (i : Item) (e : ℕ) → acts' ≡ acts ++ plays d (after [] acts) (events_in i) → HasRoom d (after [] acts) (events_of i + e) → HasRoom d (after [] acts') e
 left-item d acts acts' i e at room =
-    let here : HasRoom d (after [] acts) (length (events_in i) + e) = room-less d (after [] acts) (events_of i + e) (length (events_in i) + e) (omega (arith, length-events i)) room in
+    let here : HasRoom d (after [] acts) (length (events_in i) + e) = room-less d (after [] acts) (events_of i + e) (length (events_in i) + e) (omega (arith, length-events_in i)) room in
     rw (at, after-append [] acts (plays d (after [] acts) (events_in i))) (room-events d (after [] acts) (events_in i) e here)
 
 -- the first of the items that are left

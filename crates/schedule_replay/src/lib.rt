@@ -1,6 +1,6 @@
 //! The run of a document: the rows of its schedule, played one behind the other.
 //!
-//! [`replay`] gives the acts of the lawful run. Nodes and homes are plain, as `run_state` keeps them:
+//! [`replay`] gives the acts of the calm run of `grid_laws`, which is lawful where no fuse is set. Nodes and homes are plain, as `run_state` keeps them:
 //! a node has its records in a list, and each event's acts are the row of the rule table.
 #![tactic(auto)]
 
@@ -9,7 +9,6 @@ mod answers;
 mod coordinators;
 mod enders;
 mod fitness;
-mod laws;
 mod numbering;
 mod outs;
 mod readers;
@@ -19,5 +18,4 @@ mod schedule;
 mod stages;
 mod voters;
 
-pub use laws::law_one_history;
 pub use replays::replay;

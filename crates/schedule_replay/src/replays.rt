@@ -4,9 +4,11 @@ ghost use Rattle.grid_model.specs.Documents.{events_of};
 ghost use Rattle.grid_model.specs.Schedules.{start_row, events_in};
 ghost use Rattle.grid_model.specs.Runs.{IsRun, Lawful};
 ghost use Rattle.run_state.specs.Kept.{past};
-ghost use Rattle.schedule_replay.specs.Replays.{HasRoom, AreUnfused, calm_run, played, plays};
+ghost use Rattle.grid_laws.specs.CalmRuns.{AreUnfused, calm_run, played, plays};
+ghost use Rattle.schedule_replay.specs.Replays.{HasRoom};
 
 use crate::schedule::row;
+use grid_laws::law_calm_run;
 use grid_model::{Act, Document, Flag, Item};
 use placement::Cluster;
 use run_state::RunState;
@@ -67,6 +69,7 @@ pub fn replay(alloc: Global, doc: &Document) -> Result<Vec<Act>, Memory>
     ensures run { IfOk result (λ acts. IsRun doc.now doc.now.items acts.items) }
     ensures lawful { IfOk result (λ acts. AreUnfused doc.now.items → Lawful doc.now acts.items (λ n. 0)) }
 {
+    law_calm_run();
     let start = start_row(alloc, doc.cluster())?;
     let mut run = RunState::new(alloc, doc)?.keep_all(alloc, start)?;
     for item in doc.items() {

@@ -8,7 +8,7 @@ ghost use Rattle.grid_model.specs.Nodes.{script_of};
 ghost use Rattle.grid_model.specs.Schedules.{flag_of, lost_at, restart_row};
 ghost use Rattle.grid_model.specs.Voids.{voided};
 ghost use Rattle.run_state.specs.Kept.{past};
-ghost use Rattle.schedule_replay.specs.Replays.{calm};
+ghost use Rattle.grid_laws.specs.CalmRuns.{calm};
 
 use crate::stages::is_open;
 use grid_model::{Act, Flag, Void};

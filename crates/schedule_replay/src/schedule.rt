@@ -7,7 +7,8 @@ ghost use Rattle.grid_model.specs.Schedules.{next_left, or_void, acts_of, begin_
 ghost use Rattle.grid_model.specs.Voids.{void_code};
 ghost use Rattle.run_state.specs.Kept.{past};
 ghost use Rattle.schedule_replay.specs.Numbering.{sends};
-ghost use Rattle.schedule_replay.specs.Replays.{HasRoom, calm, played};
+ghost use Rattle.grid_laws.specs.CalmRuns.{calm, played};
+ghost use Rattle.schedule_replay.specs.Replays.{HasRoom};
 
 use crate::numbering::number_all;
 use crate::outs::{outs_at_ask, outs_at_begin, outs_at_delivery, outs_at_retry};

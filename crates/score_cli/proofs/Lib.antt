@@ -1,3 +1,2 @@
 pub mod Complete
-pub mod Headlines
 pub mod Runs

@@ -1,19 +1,21 @@
 -- The text that is written is that of the run of the input.
 use Rattle.std.proofs.Common.{◌≡◌, ℕ, ◌≤◌, List, [], ◌∷◌, true, length, Ok, refl, subst, ◌∙◌}
+use Rattle.std.proofs.lemmas.Bool.{and_parts}
 use Rattle.std.specs.declared.option.Option.{Option}
 use Rattle.std.specs.Io.KnownBytes.{Appends}
 use Rattle.score_base.specs.Faults.{Rose}
 use Rattle.score_io.specs.Streams.{ReadWhole, AppendsPart}
 use Rattle.cluster_file.specs.Doc.{doc}
 use Rattle.std.specs.List.{list_all}
-use Rattle.grid_model.specs.Documents.{DocumentData}
+use Rattle.grid_model.specs.Documents.{DocumentData, IsOne}
+use Rattle.grid_model.specs.declared.acts.Act.{Act}
+use Rattle.grid_model.specs.Runs.{Lawful}
 use Rattle.grid_model.specs.declared.items.Item.{Item}
 use Rattle.grid_model.specs.declared.items.Item.TheVariants as item
 use Rattle.cluster_file.specs.Spelling.{is_built_item}
-use Rattle.cluster_file.proofs.Bools.{and_parts}
 use Rattle.cluster_file.proofs.OneSpelling.{IsSpelled, spelled}
-use Rattle.schedule_replay.specs.Replays.{is_unfused, AreUnfused}
-use Rattle.score_cli.proofs.Headlines.{headline}
+use Rattle.grid_laws.specs.CalmRuns.{is_unfused, AreUnfused}
+use Rattle.score_cli.specs.Headline.{Headline}
 use Rattle.score_cli.specs.Answers.{Ran, Done, Broken, IsRunText, IsTextOf}
 
 -- an item that is read sets no fuse
@@ -34,9 +36,10 @@ built_are_unfused (i ∷ is) e =
     let both = and_parts (is_built_item i) (list_all is_built_item is) e in
     rw (built_is_unfused i both.0) (built_are_unfused is both.1)
 
--- the text of the run of a document that was read
-pub text_of_run : (bytes written : List ℕ) (d : DocumentData) → doc bytes ≡ Ok d → (AreUnfused d.items → IsRunText d written) → IsTextOf bytes written
-text_of_run bytes written d read run =
+-- the text of the run of a document that was read, where each lawful run without a fault has the headline
+pub text_of_run : ((d : DocumentData) (h : List Act) → IsOne d → Lawful d h (λ n. 0) → Headline d h)
+    → (bytes written : List ℕ) (d : DocumentData) → doc bytes ≡ Ok d → (AreUnfused d.items → IsRunText d written) → IsTextOf bytes written
+text_of_run headline bytes written d read run =
     let s : IsSpelled bytes d = spelled bytes d read in
     let r : IsRunText d written = run (built_are_unfused d.items s.built.items) in
     record { document = d; spelled = read; acts = r.acts; headline = headline d r.acts s.one r.lawful; printed = r.printed }

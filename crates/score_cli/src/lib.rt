@@ -5,9 +5,11 @@
 //! Want of memory alone is free.
 #![tactic(auto)]
 
+mod headline;
 mod lines;
 mod status;
 
+pub use headline::law_headline;
 pub use status::{Status, score};
 
 #[cfg(test)]

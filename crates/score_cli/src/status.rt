@@ -3,10 +3,11 @@ ghost use Rattle.std.specs.Prelude.{◌≡◌, ◌⊎◌, ◌↔◌, ℕ, List, 
 ghost use Rattle.std.specs.Io.KnownBytes.{Keeps};
 ghost use Rattle.score_base.specs.Faults.{Rose};
 ghost use Rattle.cluster_file.specs.Doc.{doc, FailsDoc};
-ghost use Rattle.schedule_replay.specs.Replays.{AreUnfused};
+ghost use Rattle.grid_laws.specs.CalmRuns.{AreUnfused};
 ghost use Rattle.history_print.specs.Text.{text};
 ghost use Rattle.score_cli.specs.Answers.{is_command, Wrote, Done, Broken, NoDocument, TooLong, IsCode, code_asked, IsRunText, IsTextOf};
 
+use crate::headline::law_headline;
 use crate::lines::{refused_line, say};
 use cluster_file::{DocEnd, read_document};
 use grid_model::{Act, Document};
@@ -54,11 +55,11 @@ fn run_text(alloc: Global, doc: &Document) -> Result<Vec<u8>, Memory>
 }
 
 /// The text of the run of the document that the bytes spell. No form that sets a fuse is read.
-#[tactic(auto, using(crate::proofs::Runs::text_of_run))]
 fn play(alloc: Global, bytes: &[u8]) -> Result<Vec<u8>, DocEnd>
     ensures text { IfOk result (λ v. IsTextOf bytes.now v.items) }
     ensures refused { IfErr result (λ e. FailsDoc e (doc bytes.now)) }
 {
+    law_headline();
     let doc = match read_document(alloc, bytes) {
         Ok(doc) => doc,
         Err(e) => return Err(e),

@@ -1,6 +1,6 @@
 use Rattle.std.proofs.Common.{arith}
 use Rattle.std.proofs.lemmas.Bool.Decides.{nat_tests}
-use Rattle.grid_model.proofs.Places.{place_here}
+use Rattle.run_state.proofs.ForCode.{place_here}
 use Rattle.run_state.proofs.states.story_place.Goals as goal
 
 pub returns-then-eq-clause-found : goal.returns-then-eq-clause-found

@@ -1,7 +1,7 @@
 use Rattle.std.proofs.Common.{◌≡◌, ◌+◌, ◌-◌, ◌++◌, ◌∙◌, ap, sym, arith, replicate, ◌∷◌}
 use Rattle.grid_model.specs.declared.items.Item.TheVariants as item
 use Rattle.run_state.specs.Kept.{past}
-use Rattle.schedule_replay.specs.Replays.{played, plays}
+use Rattle.grid_laws.specs.CalmRuns.{played, plays}
 use Rattle.schedule_replay.proofs.Events.{room-less}
 use Rattle.schedule_replay.proofs.Loops.{told-event, left-event}
 use Rattle.schedule_replay.proofs.Ranges.{replicate_more}

@@ -1,7 +1,8 @@
 use Rattle.std.proofs.Common.{◌≡◌, ◌-◌, ◌++◌, replicate}
 use Rattle.grid_model.specs.declared.items.Item.TheVariants as item
 use Rattle.run_state.specs.Kept.{past}
-use Rattle.schedule_replay.specs.Replays.{HasRoom, plays}
+use Rattle.grid_laws.specs.CalmRuns.{plays}
+use Rattle.schedule_replay.specs.Replays.{HasRoom}
 use Rattle.schedule_replay.proofs.replays.play_next.Given as goal
 
 abbrev pub invariant-loop-i : goal.invariant-loop-i

@@ -1,4 +1,4 @@
-use Rattle.std.proofs.Common.{◌≡◌, List, ◌+◌, ◌++◌, ◌∷◌, [], ◌∙◌, ap, sym, arith, drop, true, refl}
+use Rattle.std.proofs.Common.{◌≡◌, List, ◌+◌, ◌++◌, ◌∷◌, [], ◌∙◌, ap, sym, arith, drop, true, refl, subst}
 use Rattle.std.specs.Prelude.{sum_by}
 use Rattle.std.specs.List.{flat_map}
 use Rattle.std.proofs.lemmas.List.{append-nil, drop_all}
@@ -7,8 +7,9 @@ use Rattle.grid_model.specs.declared.items.Item.{Item}
 use Rattle.grid_model.specs.Documents.{DocumentData, events_of}
 use Rattle.grid_model.specs.Schedules.{start_row, events_in}
 use Rattle.run_state.specs.Kept.{past}
-use Rattle.schedule_replay.specs.Replays.{HasRoom, calm_run, plays}
-use Rattle.schedule_replay.proofs.Calm.{run-plays, lawful-plays}
+use Rattle.grid_model.specs.Runs.{IsRun, Lawful}
+use Rattle.grid_laws.specs.CalmRuns.{AreUnfused, calm_run, plays}
+use Rattle.schedule_replay.specs.Replays.{HasRoom}
 use Rattle.schedule_replay.proofs.Loops.{told-item, left-item, drop-item, sum-item, room-start}
 use Rattle.schedule_replay.proofs.replays.replay.Goals as goal
 
@@ -37,15 +38,16 @@ loop-item-preserved c =
 whole : (d : DocumentData) (acts behind : List Act) (left : List Item) → left ≡ [] → acts ++ plays d behind (flat_map events_in left) ≡ calm_run d → acts ≡ calm_run d
 whole d acts behind left none told = sym (append-nil acts) ∙ ap (λ is. acts ++ plays d behind (flat_map events_in is)) (sym none) ∙ told
 
-pub returns-clause-calm : goal.returns-clause-calm
-returns-clause-calm c = c.into_acts.ensures ∙ whole c.args.doc.now c.loop-item.run.acts (past c.loop-item.run) (drop c.loop-item.item-index c.items-item-items.result.now) (drop_all c.loop-item.item-index c.items-item-items.result.now (grind arith)) c.loop-item.invariant.told
-
-pub returns-clause-run : goal.returns-clause-run
-returns-clause-run c =
-    let acts : c.loop-item.run.acts ≡ calm_run c.args.doc.now = whole c.args.doc.now c.loop-item.run.acts (past c.loop-item.run) (drop c.loop-item.item-index c.items-item-items.result.now) (drop_all c.loop-item.item-index c.items-item-items.result.now (grind arith)) c.loop-item.invariant.told in
-    run-plays c.args.doc.now c.into_acts.result.items (c.into_acts.ensures ∙ acts)
-
-pub returns-clause-lawful : goal.returns-clause-lawful
-returns-clause-lawful c =
-    let acts : c.loop-item.run.acts ≡ calm_run c.args.doc.now = whole c.args.doc.now c.loop-item.run.acts (past c.loop-item.run) (drop c.loop-item.item-index c.items-item-items.result.now) (drop_all c.loop-item.item-index c.items-item-items.result.now (grind arith)) c.loop-item.invariant.told in
-    lawful-plays c.args.doc.now c.into_acts.result.items (c.into_acts.ensures ∙ acts)
+-- the acts that are handed out are the calm run, of which the law speaks
+pub returns : goal.returns
+returns c =
+    let d : DocumentData = c.args.doc.now in
+    let left : List Item = drop c.loop-item.item-index c.items-item-items.result.now in
+    let acts : c.into_acts.result.items ≡ calm_run d =
+        c.into_acts.ensures
+        ∙ whole d c.loop-item.run.acts (past c.loop-item.run) left (drop_all c.loop-item.item-index c.items-item-items.result.now (grind arith)) c.loop-item.invariant.told in
+    record {
+      calm = acts;
+      run = subst (λ h. IsRun d d.items h) (sym acts) (c.law_calm_run.ensures.run d);
+      lawful = subst (λ h. AreUnfused d.items → Lawful d h (λ n. 0)) (sym acts) (c.law_calm_run.ensures.lawful d);
+    }

@@ -5,7 +5,8 @@ use Rattle.grid_model.specs.Documents.{events_of}
 use Rattle.grid_model.specs.Histories.{after}
 use Rattle.grid_model.specs.Schedules.{start_row, events_in}
 use Rattle.run_state.specs.Kept.{past}
-use Rattle.schedule_replay.specs.Replays.{HasRoom, plays}
+use Rattle.grid_laws.specs.CalmRuns.{plays}
+use Rattle.schedule_replay.specs.Replays.{HasRoom}
 use Rattle.schedule_replay.proofs.replays.replay.Given as goal
 
 abbrev pub invariant-loop-item : goal.invariant-loop-item
