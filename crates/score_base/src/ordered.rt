@@ -14,8 +14,8 @@ use crate::memory::Memory;
 use crate::steps::Steps;
 use std::alloc::Global;
 use std::cmp::Ordering;
-use std::marker::Model;
-use std::sync::ledger::Ledger;
+use std::marker::{Brand, Model};
+use std::sync::ledger::{Blank, Ledger};
 
 /// Pairs of a key and a value, in rising order of distinct keys. Contracts see the list of the pairs
 /// and `spare`, the number of pairs for which there is room.
@@ -84,6 +84,7 @@ impl<K: Copy + Ord, V: Copy> Ordered<K, V> {
         ensures found { IfOk result (λ i. (i < length self.now.pairs)
             × ((d : K × V) → K.cmp (slice_index_or self.now.pairs i d).0 key.now ≡ Ordering.Equal)) }
         ensures absent { IfErr result (λ i. IsGap K.cmp self.now.pairs key.now i) }
+        ensures rising { IsRising K.cmp self.now.pairs }
         ensures count { steps.old ≤ steps.new }
         ensures cost { 2 ^ (steps.new - steps.old) ≤ 2 * length self.now.pairs + 1 }
     {
@@ -98,6 +99,16 @@ impl<K: Copy + Ord, V: Copy> Ordered<K, V> {
             }
         }
         Err(low)
+    }
+
+    /// As [`Ordered::find`], by a counter of its own.
+    pub fn place(&self, key: &K) -> Result<usize, usize>
+        ensures found { IfOk result (λ i. (i < length self.now.pairs)
+            × ((d : K × V) → K.cmp (slice_index_or self.now.pairs i d).0 key.now ≡ Ordering.Equal)) }
+        ensures absent { IfErr result (λ i. IsGap K.cmp self.now.pairs key.now i) }
+        ensures rising { IsRising K.cmp self.now.pairs }
+    {
+        found_by::<Brand, K, V>(self, key, Blank::new(1))
     }
 
     /// The pair at place `i`.
@@ -136,4 +147,21 @@ impl<K: Copy + Ord, V: Copy> Ordered<K, V> {
     {
         self.items.retain(f);
     }
+}
+
+/// The place of a key, by a counter that is opened here.
+fn found_by<L: Ledger, K: Copy + Ord, V: Copy>(
+    table: &Ordered<K, V>,
+    key: &K,
+    blank: Blank,
+) -> Result<usize, usize>
+    requires { (blank.name ≡ L.name) × (blank.parts ≡ L.parts) × (0 < L.parts) }
+    ensures found { IfOk result (λ i. (i < length table.now.pairs)
+        × ((d : K × V) → K.cmp (slice_index_or table.now.pairs i d).0 key.now ≡ Ordering.Equal)) }
+    ensures absent { IfErr result (λ i. IsGap K.cmp table.now.pairs key.now i) }
+    ensures rising { IsRising K.cmp table.now.pairs }
+{
+    let (book, share) = blank.open::<L>();
+    let mut steps = Steps::new(book, share);
+    table.find(key, &mut steps)
 }

@@ -1,9 +1,5 @@
 //! Keys, numbers, lists, texts and tables at their edges.
-ghost use Rattle.std.specs.Prelude.{◌≡◌, ◌<◌};
-
 use super::*;
-use std::marker::Brand;
-use std::sync::ledger::{Blank, Ledger};
 use std::test::Fail;
 
 #[test]
@@ -83,18 +79,9 @@ fn lists_grow_and_are_copied(rt: HostRuntime) -> Result<(), Fail> {
     Ok(())
 }
 
-/// The place of a key in a table, by a counter of its own.
-fn found_by<L: Ledger>(table: &Ordered<u64, u64>, key: u64, blank: Blank) -> Result<usize, usize>
-    requires { (blank.name ≡ L.name) × (blank.parts ≡ L.parts) × (0 < L.parts) }
-{
-    let (book, share) = blank.open::<L>();
-    let mut steps = Steps::new(book, share);
-    table.find(&key, &mut steps)
-}
-
 /// The place of a key in a table, or else where it would stand.
 fn place(table: &Ordered<u64, u64>, key: u64) -> usize {
-    match found_by::<Brand>(table, key, Blank::new(1)) {
+    match table.place(&key) {
         Ok(i) => i,
         Err(i) => i,
     }

@@ -11,13 +11,16 @@
 //! Only `reserve` takes memory.
 #![tactic(auto)]
 
-ghost use Rattle.std.specs.Prelude.{◌≡◌, ◌+◌, ◌-◌, ◌*◌, ◌<◌, ◌≤◌, ◌^◌, ◌++◌, ◌∷◌, [], length, OnOk};
+ghost use Rattle.std.specs.Prelude.{◌≡◌, ℕ, ◌+◌, ◌-◌, ◌*◌, ◌<◌, ◌≤◌, ◌^◌, ◌++◌, ◌∷◌, [], length, slice_index_or, OnOk, IfOk, IfErr};
+ghost use Rattle.std.specs.Ordering.{nat_cmp};
+ghost use Rattle.score_base.specs.Tables.{IsGap};
 ghost use Rattle.version_chain.specs.Versions.{newest, version_at, RisesFrom};
 
 use score_base::{Ident, Memory, Ordered, Steps, Value};
 use std::alloc::Global;
-use std::marker::{Brand, Model};
-use std::sync::ledger::{Blank, Ledger};
+use std::cmp::Ordering;
+use std::marker::Model;
+use std::sync::ledger::Ledger;
 
 /// The versions of one key, the newest last.
 #[derive(Drop, Debug)]
@@ -74,7 +77,7 @@ impl Chain {
     pub fn at(&self, sid: Ident) -> (Ident, Value)
         ensures { result ≡ version_at self.now.initial self.now.versions sid }
     {
-        at_alone::<Brand>(self, sid, Blank::new(1))
+        self.seen(self.versions.place(&sid), sid)
     }
 
     /// As [`Chain::at`], and counts its comparisons.
@@ -84,11 +87,7 @@ impl Chain {
         ensures count { steps.old ≤ steps.new }
         ensures cost { 2 ^ (steps.new - steps.old) ≤ 2 * length self.now.versions + 1 }
     {
-        match self.versions.find(&sid, steps) {
-            Ok(i) => self.versions.pair(i),
-            Err(0) => (Ident(0), self.initial),
-            Err(i) => self.versions.pair(i - 1),
-        }
+        self.seen(self.versions.find(&sid, steps), sid)
     }
 
     /// The identifier of the newest version, or 0 where there is none but the initial value.
@@ -101,16 +100,20 @@ impl Chain {
             n => self.versions.pair(n - 1).0,
         }
     }
-}
 
-/// The version that a read sees, by a counter of its own.
-fn at_alone<L: Ledger>(chain: &Chain, sid: Ident, blank: Blank) -> (Ident, Value)
-    requires { (blank.name ≡ L.name) × (blank.parts ≡ L.parts) × (0 < L.parts) }
-    ensures { result ≡ version_at chain.now.initial chain.now.versions sid }
-{
-    let (book, share) = blank.open::<L>();
-    let mut steps = Steps::new(book, share);
-    chain.at_counted(sid, &mut steps)
+    /// The version that a read at `sid` sees, whose look-up gave this place.
+    fn seen(&self, place: Result<usize, usize>, sid: Ident) -> (Ident, Value)
+        requires found { IfOk place (λ i. (i < length self.now.versions)
+            × ((d : ℕ × ℕ) → nat_cmp (slice_index_or self.now.versions i d).0 sid ≡ Ordering.Equal)) }
+        requires absent { IfErr place (λ i. IsGap nat_cmp self.now.versions sid i) }
+        ensures { result ≡ version_at self.now.initial self.now.versions sid }
+    {
+        match place {
+            Ok(i) => self.versions.pair(i),
+            Err(0) => (Ident(0), self.initial),
+            Err(i) => self.versions.pair(i - 1),
+        }
+    }
 }
 
 #[cfg(test)]

@@ -2,6 +2,8 @@
 ghost use Rattle.std.specs.Prelude.{◌≡◌, ◌<◌, ◌≤◌, length, IfOk};
 
 use super::*;
+use std::marker::Brand;
+use std::sync::ledger::Blank;
 use std::test::Fail;
 
 // A key with the initial value 10, then the value 3 from 2 on, and the value 7 from 5 on.

@@ -1,0 +1,4 @@
+use Rattle.score_base.proofs.ordered.Ordered.place.Given as goal
+
+abbrev pub ghosts-found_by : goal.ghosts-found_by
+ghosts-found_by g a = record { name = a.blank.name; parts = a.blank.parts }
