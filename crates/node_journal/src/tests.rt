@@ -110,32 +110,48 @@ fn ended() -> Record
     }
 }
 
-/// Whether two records print alike.
-fn alike(alloc: Global, a: &Record, b: &Record) -> Result<bool, Fail> {
+/// A disk to which a journal wrote the four records.
+fn four_records(alloc: Global) -> Result<MemDisk, Fail>
+    ensures { IfOk result (λ disk. IsSettled (memory_file disk)) }
+{
+    let (journal, _) = open(alloc, MemDisk::new(alloc, Vec::new(alloc)))?;
+    let journal = append(journal, prepared(alloc)?)?;
+    let journal = append(journal, decided(alloc)?)?;
+    let journal = append(journal, ended())?;
+    let journal = append(journal, closed(1))?;
+    Ok(journal.stop())
+}
+
+#[test]
+fn journal_bytes(rt: HostRuntime) -> Result<(), Fail> {
+    let disk = four_records(rt.alloc())?;
+    assert_eq!(rt; disk.bytes(), FOUR_RECORDS.as_slice());
+    Ok(())
+}
+
+/// The four records.
+fn the_four(alloc: Global) -> Result<Vec<Record>, Fail> {
+    let mut records = Vec::new(alloc);
+    records.push(prepared(alloc)?)?;
+    records.push(decided(alloc)?)?;
+    records.push(ended())?;
+    records.push(closed(1))?;
+    Ok(records)
+}
+
+/// Whether two lists of records print alike.
+fn alike(alloc: Global, a: &[Record], b: &[Record]) -> Result<bool, Fail> {
     let first = format!(in alloc; "{:?}", a)?;
     let second = format!(in alloc; "{:?}", b)?;
     Ok(first == second)
 }
 
 #[test]
-fn journal_bytes(rt: HostRuntime) -> Result<(), Fail> {
+fn records_of_a_journal(rt: HostRuntime) -> Result<(), Fail> {
     let alloc = rt.alloc();
-    let (journal, records) = open(alloc, MemDisk::new(alloc, Vec::new(alloc)))?;
-    assert_eq!(rt; records.len(), 0);
-    let journal = append(journal, prepared(alloc)?)?;
-    let journal = append(journal, decided(alloc)?)?;
-    let journal = append(journal, ended())?;
-    let journal = append(journal, closed(1))?;
+    let (journal, records) = open(alloc, four_records(alloc)?)?;
     assert_eq!(rt; journal.count(), 4);
-    let disk = journal.stop();
-    assert_eq!(rt; disk.bytes(), FOUR_RECORDS.as_slice());
-    let (journal, records) = open(alloc, disk)?;
-    assert_eq!(rt; records.len(), 4);
-    assert_eq!(rt; journal.count(), 4);
-    assert!(rt; alike(alloc, &records[0], &prepared(alloc)?)?);
-    assert!(rt; alike(alloc, &records[1], &decided(alloc)?)?);
-    assert!(rt; alike(alloc, &records[2], &ended())?);
-    assert!(rt; alike(alloc, &records[3], &closed(1))?);
+    assert!(rt; alike(alloc, &records, &the_four(alloc)?)?);
     Ok(())
 }
 
@@ -211,16 +227,23 @@ fn disarmed_in_time(rt: HostRuntime) -> Result<(), Fail> {
     Ok(())
 }
 
-#[test]
-fn three_thousand_records(rt: HostRuntime) -> Result<(), Fail> {
-    let alloc = rt.alloc();
+/// A disk to which a journal wrote 3,000 records.
+fn three_thousand(alloc: Global) -> Result<MemDisk, Fail>
+    ensures { IfOk result (λ disk. IsSettled (memory_file disk)) }
+{
     let (mut journal, _) = open(alloc, MemDisk::new(alloc, Vec::new(alloc)))?;
     for t in 1..=3000 {
         journal = append(journal, closed(t))?;
     }
-    let (journal, records) = open(alloc, journal.stop())?;
+    Ok(journal.stop())
+}
+
+#[test]
+fn three_thousand_records(rt: HostRuntime) -> Result<(), Fail> {
+    let alloc = rt.alloc();
+    let (journal, records) = open(alloc, three_thousand(alloc)?)?;
     assert_eq!(rt; journal.count(), 3000);
     assert_eq!(rt; records.len(), 3000);
-    assert!(rt; alike(alloc, &records[2999], &closed(3000))?);
+    assert!(rt; alike(alloc, &records[2999..], &[closed(3000)])?);
     Ok(())
 }
