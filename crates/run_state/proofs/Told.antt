@@ -1,5 +1,5 @@
 -- The stories that are kept act by act tell what the acts tell.
-use Rattle.std.proofs.Common.{◌≡◌, ◌≢◌, ℕ, ◌==◌, ◌&&◌, Bool, true, false, List, [], ◌∷◌, Option, Some, None, is_some, refl, sym, ap, subst, ◌∙◌, inl, inr, arith, if◌then◌else◌}
+use Rattle.std.proofs.Common.{◌≡◌, ◌≢◌, ℕ, ◌==◌, ◌&&◌, Bool, true, false, List, [], ◌∷◌, length, Option, Some, None, is_some, refl, sym, ap, subst, ◌∙◌, inl, inr, arith, if◌then◌else◌}
 use Rattle.std.proofs.lemmas.Bool.{cases_eq}
 use Rattle.std.proofs.lemmas.Bool.Decides.{nat_tests}
 use Rattle.score_base.specs.declared.causes.Ballot.TheVariants as ballot
@@ -8,6 +8,8 @@ use Rattle.grid_model.specs.declared.acts.Act.{Act}
 use Rattle.grid_model.specs.declared.acts.Act.TheVariants as act
 use Rattle.grid_model.specs.declared.messages.Envelope.{Envelope}
 use Rattle.grid_model.specs.declared.messages.Message.{Message}
+use Rattle.grid_model.specs.declared.messages.ReadReq.{ReadReq}
+use Rattle.placement.specs.Places.{holders}
 use Rattle.grid_model.specs.declared.messages.Message.TheVariants as message
 use Rattle.grid_model.specs.declared.stories.Story.{Story}
 use Rattle.grid_model.specs.Documents.{DocumentData}
@@ -172,3 +174,9 @@ pub hearing-here : (d d' : DocumentData) (past : List Act) (e : Envelope) (t : �
 hearing-here d d' past e t s x y h same home script here told is =
     let at : Some y ≡ heard (parts_of d s) (phase_at s (Some x) (node d past s.home)) (node d past s.home) s.number e.from e.message (Some x) = subst (λ n. Some y ≡ heard (parts_of d s) (phase_at s (Some x) n) n s.number e.from e.message (Some x)) home (subst (λ k. Some y ≡ heard (parts_of k s) (phase_at s (Some x) h) h s.number e.from e.message (Some x)) same is) in
     rw (script, here, told) (ap (paired t) at)
+
+-- a request of a story that is there
+pub asking-here : (d d' : DocumentData) (past : List Act) (said : Message) (q : ReadReq) (x y : Story) (r : ℕ) → d' ≡ d → said ≡ message.ReadReq q → story d past q.t ≡ Some x → r ≡ length (holders d'.cluster.places q.key) → y ≡ progressed (with_request r) x → Some (q.t, y) ≡ asking d past said
+asking-here d d' past said q x y r same is told count made =
+    let holds : r ≡ length (holders d.cluster.places q.key) = count ∙ ap (λ (z : DocumentData). length (holders z.cluster.places q.key)) same in
+    rw (is, told, ← holds, made) refl

@@ -116,7 +116,14 @@ fn retry_row(alloc: Global, cluster: &Cluster, t: TxId, stage: &Stage) -> Result
     let mut outs = Vec::new(alloc);
     match stage {
         Stage::Apart => {}
-        Stage::Reads(tx, j) => push_request(alloc, &mut outs, cluster, tx, *j, tx.story.progress.turn)?,
+        Stage::Reads(tx, j) => push_request(
+            alloc,
+            &mut outs,
+            cluster,
+            tx,
+            *j,
+            tx.story.progress.turn,
+        )?,
         Stage::Collects(tx) => {
             let parts = parts_now(alloc, cluster, tx)?;
             let missing = not_voted(alloc, parts.as_slice(), tx.story.progress.votes.as_slice())?;
