@@ -33,11 +33,12 @@ use Rattle.script_lang.specs.Words.{node_of, key_of, tx_of}
 use Rattle.cluster_file.specs.Doc.{blank}
 use Rattle.cluster_file.specs.Spelling.{is_node, is_tx, node_word}
 use Rattle.cluster_file.proofs.Members.{distinct_before}
+use Rattle.script_lang.specs.declared.whys.Why.{Why}
 
 -- The words.
 
 -- one reader behind another
-pub goes : {A B : Type 0} (m : Result A ℕ) (f : A → Result B ℕ) (x : A) (r : Result B ℕ) → m ≡ Ok x → f x ≡ r → (m >>= f) ≡ r
+pub goes : {A B : Type 0} (m : Result A Why) (f : A → Result B Why) (x : A) (r : Result B Why) → m ≡ Ok x → f x ≡ r → (m >>= f) ≡ r
 goes m f x r h k = ap (λ n. n >>= f) h ∙ k
 
 -- a limit that is not reached

@@ -32,6 +32,8 @@ use Rattle.cluster_file.proofs.Again.{small}
 use Rattle.cluster_file.proofs.ClusterAgain.{lines_from}
 use Rattle.cluster_file.proofs.LinesAgain.{running, document_again}
 use Rattle.cluster_file.proofs.LinesSoFar.{tx_words}
+use Rattle.script_lang.specs.declared.whys.Why.{Why}
+use Rattle.script_lang.specs.declared.whys.Why.TheVariants as why
 
 -- The lines of a spelling are lines of words.
 
@@ -153,7 +155,7 @@ unfolding line_of
 line_again d [] h = cc
 line_again d (w ∷ ws) h =
     let plain = (and_parts (nat_le 1 (length (w ∷ ws))) (are_plain (w ∷ ws)) h).1 in
-    ap (λ b. cond b (words_line d (slice_split (λ b. b == 32) (join_with_byte 32 (w ∷ ws)))) (Err 11)) (printed_words (w ∷ ws) plain) ∙ ap (words_line d) (words_again w ws plain)
+    ap (λ b. cond b (words_line d (slice_split (λ b. b == 32) (join_with_byte 32 (w ∷ ws)))) (Err why.Byte)) (printed_words (w ∷ ws) plain) ∙ ap (words_line d) (words_again w ws plain)
 
 more_behind : (xs : List (List ℕ)) → (length (xs ++ [] ∷ []) == 0) ≡ false
 more_behind xs = ne_eqb (length (xs ++ [] ∷ [])) 0 (λ e. omega (arith, e, length-append xs ([] ∷ [])))
@@ -168,7 +170,7 @@ pieces_again d e n (ws ∷ ls) h k ended =
     let both = and_parts (is_line ws) (list_all is_line ls) h in
     by (words_line d ws) refl k both.0 (λ f rest. pieces_again f e (n + 1) ls both.1 rest ended)
   where
-    by : (m : Result Draft ℕ) → words_line d ws ≡ m → (m >>= λ f. lines_from f ls) ≡ Ok e → is_line ws ≡ true → ((f : Draft) → lines_from f ls ≡ Ok e → pieces_from f (n + 1) (map (join_with_byte 32) ls ++ [] ∷ []) ≡ Ok e) → pieces_from d n (join_with_byte 32 ws ∷ (map (join_with_byte 32) ls ++ [] ∷ [])) ≡ Ok e
+    by : (m : Result Draft Why) → words_line d ws ≡ m → (m >>= λ f. lines_from f ls) ≡ Ok e → is_line ws ≡ true → ((f : Draft) → lines_from f ls ≡ Ok e → pieces_from f (n + 1) (map (join_with_byte 32) ls ++ [] ∷ []) ≡ Ok e) → pieces_from d n (join_with_byte 32 ws ∷ (map (join_with_byte 32) ls ++ [] ∷ [])) ≡ Ok e
     by (Ok f) read rest is again =
         ap (λ b. cond b (at_line n (close d (join_with_byte 32 ws))) (at_line n (line_of d (join_with_byte 32 ws)) >>> λ g. pieces_from g (n + 1) (map (join_with_byte 32) ls ++ [] ∷ []))) (more_behind (map (join_with_byte 32) ls))
         ∙ ap (λ m. at_line n m >>> λ g. pieces_from g (n + 1) (map (join_with_byte 32) ls ++ [] ∷ [])) (line_again d ws is ∙ read)

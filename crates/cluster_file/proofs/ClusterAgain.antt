@@ -26,14 +26,15 @@ use Rattle.std.proofs.lemmas.Bool.{and_parts}
 use Rattle.cluster_file.proofs.Members.{among_keys, distinct_before, fewer_keys}
 use Rattle.cluster_file.proofs.Named.{key_order_last, keys_init, known_in_inits, keys_more_inits}
 use Rattle.cluster_file.proofs.Again.{partition_line_again, init_line_again}
+use Rattle.script_lang.specs.declared.whys.Why.{Why}
 
 -- what some lines add to a draft
-unfoldable pub lines_from : Draft → List (List (List ℕ)) → Result Draft ℕ
+unfoldable pub lines_from : Draft → List (List (List ℕ)) → Result Draft Why
 lines_from d [] = Ok d
 lines_from d (ws ∷ rest) = words_line d ws >>= λ e. lines_from e rest
 
 -- a line that is read
-pub then_lines : (d e : Draft) (ws : List (List ℕ)) (rest : List (List (List ℕ))) (r : Result Draft ℕ) → words_line d ws ≡ Ok e → lines_from e rest ≡ r → lines_from d (ws ∷ rest) ≡ r
+pub then_lines : (d e : Draft) (ws : List (List ℕ)) (rest : List (List (List ℕ))) (r : Result Draft Why) → words_line d ws ≡ Ok e → lines_from e rest ≡ r → lines_from d (ws ∷ rest) ≡ r
 unfolding lines_from
 then_lines d e ws rest r h k = ap (λ m. m >>= λ f. lines_from f rest) h ∙ k
 
@@ -132,7 +133,7 @@ module _ (n : ℕ) (ps : List (List NodeId)) where
       by part.Scripts h = absurd h
       by part.Items h = absurd h
 
-  pub inits_again : (p : Part) (xs ys : List (Key × Value)) (tail : List (List (List ℕ))) (r : Result Draft ℕ) → IsEarly p → are_keys_distinct (xs ++ ys) ≡ true → length (key_order (keys_in (xs ++ ys) [])) ≤ 4096 → list_all is_init_in_range ys ≡ true
+  pub inits_again : (p : Part) (xs ys : List (Key × Value)) (tail : List (List (List ℕ))) (r : Result Draft Why) → IsEarly p → are_keys_distinct (xs ++ ys) ≡ true → length (key_order (keys_in (xs ++ ys) [])) ≤ 4096 → list_all is_init_in_range ys ≡ true
       → ((q : Part) → IsEarly q → lines_from (scripted q n ps (xs ++ ys) []) tail ≡ r) → lines_from (scripted p n ps xs []) (map init_words ys ++ tail) ≡ r
   inits_again p xs [] tail r early distinct few are next = ap (λ l. lines_from (scripted p n ps l []) tail) (sym (append-nil xs)) ∙ next p early
   inits_again p xs (y ∷ ys) tail r early distinct few are next =

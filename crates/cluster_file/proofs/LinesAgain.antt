@@ -26,6 +26,7 @@ use Rattle.cluster_file.proofs.Again.{nodes_line_again, begin_line_again, delive
 use Rattle.cluster_file.proofs.ClusterAgain.{lines_from, then_lines, first_few, placed, places_again, IsOpen, is_open, scripted, inits_again}
 use Rattle.cluster_file.proofs.ScriptsAgain.{scripts_again}
 use Rattle.script_lang.specs.Spelling.{script_words}
+use Rattle.script_lang.specs.declared.whys.Why.{Why}
 
 -- a draft of these items so far
 abbrev pub running : ℕ → List (List NodeId) → List (Key × Value) → List ScriptData → List Item → ℕ → Draft
@@ -82,7 +83,7 @@ document_again d h r b =
     let inits_left : List (List (List ℕ)) = map init_words xs ++ scripts_left in
     let least : nat_le 1 n ≡ true = grind (arith, nat_tests, h.cluster.least) in
     let most : nat_le n 16 ≡ true = grind (arith, nat_tests, h.cluster.most) in
-    let end : Result Draft ℕ = Ok (running n ps xs d.scripts d.items (0 + sum_by events_of d.items)) in
+    let end : Result Draft Why = Ok (running n ps xs d.scripts d.items (0 + sum_by events_of d.items)) in
     let last : (p : Part) → IsOpen p → lines_from (scripted p n ps xs d.scripts) ((codes "schedule" ∷ []) ∷ items_left) ≡ end =
     λ p may. then_lines (scripted p n ps xs d.scripts) (running n ps xs d.scripts [] 0) (codes "schedule" ∷ []) items_left end (schedule_again n ps xs p d.scripts may) (items_again n ps xs d.scripts [] d.items 0 (omega (arith, h.events)) h.items r.items b.items) in
     let init_keys : length (key_order (keys_in xs [])) ≤ 4096 = first_few (keys_in xs []) (flat_map (λ s. keys_named s.ops) d.scripts) (keys_in xs d.scripts) (keys_more_scripts xs [] d.scripts) h.keys in

@@ -29,6 +29,7 @@ use Rattle.script_lang.proofs.Readings.{behind, then, either, weaken}
 use Rattle.script_lang.proofs.WordsRead.{word_read, end_read, number_read, key_read, tx_read, node_read}
 use Rattle.cluster_file.proofs.SoFar.{inside, outside}
 use Rattle.cluster_file.proofs.LinesSoFar.{open_lines, schedule_lines, lines_so_far, IsOpened, Adds, Begins, more_script, more_scripts, more_inits, more_partitions, partition_next, tx_words}
+use Rattle.script_lang.specs.declared.whys.Why.{Why}
 
 -- The words.
 
@@ -53,7 +54,7 @@ unfolding steps
 nodes_told nodes ns [] = (sym (append-nil (map node_word ns)), λ few are. are)
 nodes_told nodes ns (w ∷ ws) = behind (node_step nodes ns w) _ _ _ (node_step_told nodes ns w) (λ ms e. by (steps (node_step nodes) ms ws) ms (nodes_told nodes ms ws) (ap (λ l. l ++ ws) e.0 ∙ append_assoc (map node_word ns) (w ∷ []) ws) e.1)
   where
-    by : (m : Result (List NodeId) ℕ) (ms : List NodeId) → IfOk m (λ ks. (map node_word ks ≡ map node_word ms ++ ws) × (nodes ≤ 16 → list_all is_node ms ≡ true → list_all is_node ks ≡ true)) → map node_word ms ++ ws ≡ map node_word ns ++ w ∷ ws → (nodes ≤ 16 → list_all is_node ns ≡ true → list_all is_node ms ≡ true)
+    by : (m : Result (List NodeId) Why) (ms : List NodeId) → IfOk m (λ ks. (map node_word ks ≡ map node_word ms ++ ws) × (nodes ≤ 16 → list_all is_node ms ≡ true → list_all is_node ks ≡ true)) → map node_word ms ++ ws ≡ map node_word ns ++ w ∷ ws → (nodes ≤ 16 → list_all is_node ns ≡ true → list_all is_node ms ≡ true)
         → IfOk m (λ ks. (map node_word ks ≡ map node_word ns ++ w ∷ ws) × (nodes ≤ 16 → list_all is_node ns ≡ true → list_all is_node ks ≡ true))
     by (Ok ks) ms h e are = (h.0 ∙ e, λ few is. h.1 few (are few is))
     by (Err v) ms h e are = tt

@@ -29,6 +29,7 @@ use Rattle.script_lang.proofs.Readings.{behind, either, weaken}
 use Rattle.script_lang.proofs.WordsRead.{node_read}
 use Rattle.cluster_file.proofs.Named.{numbers_last, key_order_last, number_order_last, keys_op, keys_begun, keys_init, all_last, all_but_last, known_in_inits}
 use Rattle.cluster_file.proofs.SoFar.{IsNamed, IsPlan, opened}
+use Rattle.script_lang.specs.declared.whys.Why.{Why}
 
 -- The words.
 
@@ -72,7 +73,7 @@ name_key_keeps known k = either (nat_le (length (with_key known k).keys) 4096) _
 pub name_new_key_keeps : (known : BTreeSet Key) (k : Key) → IfOk (name_new_key known k) (λ new. IsNamedBy known.keys k new × (list_any (same_key k) known.keys ≡ false))
 name_new_key_keeps known k = either (is_known known k) _ _ _ (λ e. tt) (λ e. also (name_key known k) (name_key_keeps known k) e)
   where
-    also : (m : Result (BTreeSet Key) ℕ) → IfOk m (IsNamedBy known.keys k) → list_any (same_key k) known.keys ≡ false → IfOk m (λ new. IsNamedBy known.keys k new × (list_any (same_key k) known.keys ≡ false))
+    also : (m : Result (BTreeSet Key) Why) → IfOk m (IsNamedBy known.keys k) → list_any (same_key k) known.keys ≡ false → IfOk m (λ new. IsNamedBy known.keys k new × (list_any (same_key k) known.keys ≡ false))
     also (Ok x) h e = (h, e)
     also (Err w) h e = tt
 

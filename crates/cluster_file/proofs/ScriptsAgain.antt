@@ -30,6 +30,7 @@ use Rattle.cluster_file.proofs.Known.{read_before}
 use Rattle.cluster_file.proofs.Again.{tx_line_again, read_line_again, write_line_again, end_line_again}
 use Rattle.cluster_file.proofs.ClusterAgain.{lines_from, then_lines, first_few, IsOpen, scripted}
 use Rattle.cluster_file.proofs.LinesSoFar.{tx_words}
+use Rattle.script_lang.specs.declared.whys.Why.{Why}
 
 -- a draft that is in a script, of these operations so far
 abbrev reading : ℕ → List (List NodeId) → List (Key × Value) → List ScriptData → ScriptData → Draft
@@ -99,7 +100,7 @@ module _ (n : ℕ) (ps : List (List NodeId)) (xs : List (Key × Value)) where
       ∙ ops_again ss s [] s.ops ((codes "end" ∷ []) ∷ tail) most few a.1 z.1
       ∙ then_lines (reading n ps xs ss s) (scripted part.Scripts n ps xs (ss ++ s ∷ [])) (codes "end" ∷ []) tail _ (end_line_again (record (reading n ps xs ss s) { script = None }) s some) refl)
 
-  pub scripts_again : (p : Part) (ss rest : List ScriptData) (tail : List (List (List ℕ))) (r : Result Draft ℕ) → IsOpen p → are_numbers_distinct (script_numbers (ss ++ rest)) ≡ true → length (key_order (keys_in xs (ss ++ rest))) ≤ 4096 → length (ss ++ rest) ≤ 4096 → list_all (λ s. nat_le s.home n) rest ≡ true → list_all is_script_in_range rest ≡ true
+  pub scripts_again : (p : Part) (ss rest : List ScriptData) (tail : List (List (List ℕ))) (r : Result Draft Why) → IsOpen p → are_numbers_distinct (script_numbers (ss ++ rest)) ≡ true → length (key_order (keys_in xs (ss ++ rest))) ≤ 4096 → length (ss ++ rest) ≤ 4096 → list_all (λ s. nat_le s.home n) rest ≡ true → list_all is_script_in_range rest ≡ true
       → ((q : Part) → IsOpen q → lines_from (scripted q n ps xs (ss ++ rest)) tail ≡ r) → lines_from (scripted p n ps xs ss) (flat_map script_words rest ++ tail) ≡ r
   scripts_again p ss [] tail r may distinct few room low is next = ap (λ l. lines_from (scripted p n ps xs l) tail) (sym (append-nil ss)) ∙ next p may
   scripts_again p ss (s ∷ rest) tail r may distinct few room low is next =

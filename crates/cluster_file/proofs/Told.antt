@@ -23,6 +23,7 @@ use Rattle.cluster_file.proofs.SoFar.{IsStage, IsBegun, inside, outside, planned
 use Rattle.cluster_file.proofs.LinesSoFar.{open_lines, schedule_lines, Adds, Begins, more_schedule}
 use Rattle.cluster_file.proofs.LinesTold.{in_range_told, one_number, first_told, partition_told, init_told, tx_lines_told, read_told, write_told, end_lines_told}
 use Rattle.script_lang.specs.Spelling.{script_words}
+use Rattle.script_lang.specs.declared.whys.Why.{Why}
 
 schedule_told : (d : Draft) (ws : List (List ℕ)) → d.items ≡ [] → schedule_lines d.part d.items ≡ [] → IfOk (schedule_line d ws) (Adds d (codes "schedule" ∷ ws))
 unfolding schedule_line
@@ -65,7 +66,7 @@ next_item_told d ws = behind (number_at ws) _ _ _ (number_read ws) (λ n words. 
 -- Which lines may stand where.
 
 -- a line whose first word is c, or another
-word_or : (w c : List ℕ) (ws : List (List ℕ)) (d : Draft) (x y : Result Draft ℕ) → IfOk x (Adds d (c ∷ ws)) → IfOk y (Adds d (w ∷ ws)) → IfOk (cond (is_word w c) x y) (Adds d (w ∷ ws))
+word_or : (w c : List ℕ) (ws : List (List ℕ)) (d : Draft) (x y : Result Draft Why) → IfOk x (Adds d (c ∷ ws)) → IfOk y (Adds d (w ∷ ws)) → IfOk (cond (is_word w c) x y) (Adds d (w ∷ ws))
 word_or w c ws d x y h k = either (is_word w c) x y _ (λ e. subst (λ v. IfOk x (Adds d (v ∷ ws))) (sym ((bytes_decides w c).0 e)) h) (λ _. k)
 
 script_told : (d : Draft) (s : ScriptData) (w : List ℕ) (ws : List (List ℕ)) → IfOk (script_line (outside d) s w ws) (Adds (inside d s) (w ∷ ws))

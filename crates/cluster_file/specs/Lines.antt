@@ -23,6 +23,8 @@ use Rattle.script_lang.specs.Reads.{known_keys}
 use Rattle.script_lang.specs.Reading.{◌>>=◌, is_word, word_at, end_at, number_at, in_range, steps}
 use Rattle.script_lang.specs.Words.{node_of, key_of, tx_of, is_printed}
 use Rattle.script_lang.specs.ExprWords.{expr_of}
+use Rattle.script_lang.specs.declared.whys.Why.{Why}
+use Rattle.script_lang.specs.declared.whys.Why.TheVariants as why
 
 -- What was named before.
 
@@ -43,52 +45,52 @@ abbrev pub with_number : BTreeSet TxId → TxId → BTreeSet TxId
 with_number numbers t = record { keys = insert_key nat_cmp numbers.keys t }
 
 -- the keys named so far and this one, at most 4,096
-abbrev pub name_key : BTreeSet Key → Key → Result (BTreeSet Key) ℕ
-name_key known k = if nat_le (length (with_key known k).keys) 4096 then Ok (with_key known k) else Err 9
+abbrev pub name_key : BTreeSet Key → Key → Result (BTreeSet Key) Why
+name_key known k = if nat_le (length (with_key known k).keys) 4096 then Ok (with_key known k) else Err why.Limit
 
 -- the same, where the key was not named before
-abbrev pub name_new_key : BTreeSet Key → Key → Result (BTreeSet Key) ℕ
-name_new_key known k = if is_known known k then Err 8 else name_key known k
+abbrev pub name_new_key : BTreeSet Key → Key → Result (BTreeSet Key) Why
+name_new_key known k = if is_known known k then Err why.Repeat else name_key known k
 
 -- no script has the number
-abbrev pub new_number : BTreeSet TxId → TxId → Result ℕ ℕ
-new_number numbers t = if is_taken numbers t then Err 8 else Ok 0
+abbrev pub new_number : BTreeSet TxId → TxId → Result ℕ Why
+new_number numbers t = if is_taken numbers t then Err why.Repeat else Ok 0
 
 -- a script has the number
-abbrev pub known_number : BTreeSet TxId → TxId → Result ℕ ℕ
-known_number numbers t = if is_taken numbers t then Ok 0 else Err 6
+abbrev pub known_number : BTreeSet TxId → TxId → Result ℕ Why
+known_number numbers t = if is_taken numbers t then Ok 0 else Err why.Transaction
 
 -- The cluster: 'nodes N', then 1 to 64 lines 'partition i n..', then any number of lines 'init k v'.
 
-unfoldable pub nodes_line : Draft → List (List ℕ) → Result Draft ℕ
+unfoldable pub nodes_line : Draft → List (List ℕ) → Result Draft Why
 nodes_line d ws = do
   n ← number_at ws
   count ← in_range 1 16 n.0
   end ← end_at n.1
   Ok (record d { nodes = count; part = part.Nodes })
 
-abbrev pub new_node : List NodeId → NodeId → Result ℕ ℕ
-new_node ns n = if list_any (λ m. m == n) ns then Err 8 else Ok 0
+abbrev pub new_node : List NodeId → NodeId → Result ℕ Why
+new_node ns n = if list_any (λ m. m == n) ns then Err why.Repeat else Ok 0
 
 -- one node more, which is not there yet
-unfoldable pub node_step : ℕ → List NodeId → List ℕ → Result (List NodeId) ℕ
+unfoldable pub node_step : ℕ → List NodeId → List ℕ → Result (List NodeId) Why
 node_step nodes ns w = do
   n ← node_of nodes w
   new ← new_node ns n
   Ok (ns ++ n ∷ [])
 
 -- the number of the next partition, and some words behind it
-abbrev pub is_next : ℕ → ℕ → List (List ℕ) → Result ℕ ℕ
-is_next next i ws = if i == next then (if length ws == 0 then Err 10 else Ok 0) else Err 4
+abbrev pub is_next : ℕ → ℕ → List (List ℕ) → Result ℕ Why
+is_next next i ws = if i == next then (if length ws == 0 then Err why.Missing else Ok 0) else Err why.Partition
 
-unfoldable pub partition_line : Draft → List (List ℕ) → Result Draft ℕ
-partition_line d ws = if nat_le 64 (length d.places) then Err 9 else (do
+unfoldable pub partition_line : Draft → List (List ℕ) → Result Draft Why
+partition_line d ws = if nat_le 64 (length d.places) then Err why.Limit else (do
   i ← number_at ws
   next ← is_next (length d.places) i.0 i.1
   ns ← steps (node_step d.nodes) [] i.1
   Ok (record d { places = d.places ++ ns ∷ []; part = part.Partitions }))
 
-unfoldable pub init_line : Draft → List (List ℕ) → Result Draft ℕ
+unfoldable pub init_line : Draft → List (List ℕ) → Result Draft Why
 init_line d ws = do
   w ← word_at ws
   k ← key_of w.0
@@ -99,8 +101,8 @@ init_line d ws = do
 
 -- Scripts: 'tx t n', then 1 to 32 lines 'read k' or 'write k E', then 'end'.
 
-unfoldable pub tx_line : Draft → List (List ℕ) → Result Draft ℕ
-tx_line d ws = if nat_le 4096 (length d.scripts) then Err 9 else (do
+unfoldable pub tx_line : Draft → List (List ℕ) → Result Draft Why
+tx_line d ws = if nat_le 4096 (length d.scripts) then Err why.Limit else (do
   w ← word_at ws
   t ← tx_of w.0
   new ← new_number d.numbers t
@@ -109,30 +111,30 @@ tx_line d ws = if nat_le 4096 (length d.scripts) then Err 9 else (do
   end ← end_at v.1
   Ok (record d { script = Some (record { number = t; home = n; ops = [] }); numbers = with_number d.numbers t; part = part.Scripts }))
 
-unfoldable pub read_line : Draft → ScriptData → List (List ℕ) → Result Draft ℕ
-read_line d s ws = if nat_le 32 (length s.ops) then Err 9 else (do
+unfoldable pub read_line : Draft → ScriptData → List (List ℕ) → Result Draft Why
+read_line d s ws = if nat_le 32 (length s.ops) then Err why.Limit else (do
   w ← word_at ws
   k ← key_of w.0
   known ← name_key d.known k
   end ← end_at w.1
   Ok (record d { script = Some (record s { ops = s.ops ++ op.Read k ∷ [] }); known = known }))
 
-unfoldable pub write_line : Draft → ScriptData → List (List ℕ) → Result Draft ℕ
-write_line d s ws = if nat_le 32 (length s.ops) then Err 9 else (do
+unfoldable pub write_line : Draft → ScriptData → List (List ℕ) → Result Draft Why
+write_line d s ws = if nat_le 32 (length s.ops) then Err why.Limit else (do
   w ← word_at ws
   k ← key_of w.0
   known ← name_key d.known k
   e ← expr_of (known_keys s.ops) w.1
   Ok (record d { script = Some (record s { ops = s.ops ++ op.Write k e ∷ [] }); known = known }))
 
-unfoldable pub end_line : Draft → ScriptData → List (List ℕ) → Result Draft ℕ
-end_line d s ws = if length s.ops == 0 then Err 10 else (do
+unfoldable pub end_line : Draft → ScriptData → List (List ℕ) → Result Draft Why
+end_line d s ws = if length s.ops == 0 then Err why.Missing else (do
   end ← end_at ws
   Ok (record d { scripts = d.scripts ++ s ∷ []; script = None }))
 
 -- The schedule: 'schedule', then any number of items, of at most 50,000 events.
 
-unfoldable pub schedule_line : Draft → List (List ℕ) → Result Draft ℕ
+unfoldable pub schedule_line : Draft → List (List ℕ) → Result Draft Why
 schedule_line d ws = do
   end ← end_at ws
   Ok (record d { part = part.Items })
@@ -141,34 +143,34 @@ schedule_line d ws = do
 abbrev pub with_item : Draft → Item → ℕ → Draft
 with_item d i c = record d { items = d.items ++ i ∷ []; events = d.events + c }
 
-unfoldable pub begin_line : Draft → List (List ℕ) → Result Draft ℕ
-begin_line d ws = if nat_le 50000 d.events then Err 9 else (do
+unfoldable pub begin_line : Draft → List (List ℕ) → Result Draft Why
+begin_line d ws = if nat_le 50000 d.events then Err why.Limit else (do
   w ← word_at ws
   t ← tx_of w.0
   known ← known_number d.numbers t
   end ← end_at w.1
   Ok (with_item d (item.Begin t) 1))
 
-unfoldable pub deliver_line : Draft → List (List ℕ) → Result Draft ℕ
-deliver_line d ws = if nat_le 50000 d.events then Err 9 else (do
+unfoldable pub deliver_line : Draft → List (List ℕ) → Result Draft Why
+deliver_line d ws = if nat_le 50000 d.events then Err why.Limit else (do
   n ← number_at ws
   m ← in_range 1 4294967295 n.0
   end ← end_at n.1
   Ok (with_item d (item.Deliver m) 1))
 
-unfoldable pub drop_line : Draft → List (List ℕ) → Result Draft ℕ
-drop_line d ws = if nat_le 50000 d.events then Err 9 else (do
+unfoldable pub drop_line : Draft → List (List ℕ) → Result Draft Why
+drop_line d ws = if nat_le 50000 d.events then Err why.Limit else (do
   n ← number_at ws
   m ← in_range 1 4294967295 n.0
   end ← end_at n.1
   Ok (with_item d (item.Drop m) 1))
 
 -- so many more events, at most 50,000 in all
-abbrev pub more_events : ℕ → ℕ → Result ℕ ℕ
-more_events events c = if nat_le (events + c) 50000 then Ok c else Err 9
+abbrev pub more_events : ℕ → ℕ → Result ℕ Why
+more_events events c = if nat_le (events + c) 50000 then Ok c else Err why.Limit
 
 -- the limit on events is checked at the number, since the item is so many events
-unfoldable pub next_line : Draft → List (List ℕ) → Result Draft ℕ
+unfoldable pub next_line : Draft → List (List ℕ) → Result Draft Why
 next_line d ws = do
   n ← number_at ws
   c ← in_range 1 50000 n.0
@@ -179,20 +181,20 @@ next_line d ws = do
 -- Which lines may stand where.
 
 -- a line inside a script
-abbrev pub script_line : Draft → ScriptData → List ℕ → List (List ℕ) → Result Draft ℕ
+abbrev pub script_line : Draft → ScriptData → List ℕ → List (List ℕ) → Result Draft Why
 script_line d s w ws =
     if is_word w (codes "read") then read_line d s ws else
     (if is_word w (codes "write") then write_line d s ws else
-    (if is_word w (codes "end") then end_line d s ws else Err 1))
+    (if is_word w (codes "end") then end_line d s ws else Err why.Word))
 
 -- a line behind the initial values
-abbrev pub later_line : Draft → List ℕ → List (List ℕ) → Result Draft ℕ
+abbrev pub later_line : Draft → List ℕ → List (List ℕ) → Result Draft Why
 later_line d w ws =
     if is_word w (codes "tx") then tx_line d ws else
-    (if is_word w (codes "schedule") then schedule_line d ws else Err 1)
+    (if is_word w (codes "schedule") then schedule_line d ws else Err why.Word)
 
 -- a line behind the partitions
-abbrev pub init_or_later : Draft → List ℕ → List (List ℕ) → Result Draft ℕ
+abbrev pub init_or_later : Draft → List ℕ → List (List ℕ) → Result Draft Why
 init_or_later d w ws = if is_word w (codes "init") then init_line d ws else later_line d w ws
 
 -- the items that are not read yet
@@ -200,32 +202,32 @@ abbrev pub is_later_item : List ℕ → Bool
 is_later_item w = is_word w (codes "retry") || is_word w (codes "ask") || is_word w (codes "crash") || is_word w (codes "fuse") || is_word w (codes "restart")
 
 -- a line of the schedule
-abbrev pub item_line : Draft → List ℕ → List (List ℕ) → Result Draft ℕ
+abbrev pub item_line : Draft → List ℕ → List (List ℕ) → Result Draft Why
 item_line d w ws =
     if is_word w (codes "begin") then begin_line d ws else
     (if is_word w (codes "deliver") then deliver_line d ws else
     (if is_word w (codes "drop") then drop_line d ws else
     (if is_word w (codes "next") then next_line d ws else
-    (if is_later_item w then Err 12 else Err 1))))
+    (if is_later_item w then Err why.Unbuilt else Err why.Word))))
 
 -- a line outside of scripts, by the part of the document that it stands in
-abbrev pub part_line : Part → Draft → List ℕ → List (List ℕ) → Result Draft ℕ
-part_line part.Start d w ws = if is_word w (codes "nodes") then nodes_line d ws else Err 1
-part_line part.Nodes d w ws = if is_word w (codes "partition") then partition_line d ws else Err 1
+abbrev pub part_line : Part → Draft → List ℕ → List (List ℕ) → Result Draft Why
+part_line part.Start d w ws = if is_word w (codes "nodes") then nodes_line d ws else Err why.Word
+part_line part.Nodes d w ws = if is_word w (codes "partition") then partition_line d ws else Err why.Word
 part_line part.Partitions d w ws = if is_word w (codes "partition") then partition_line d ws else init_or_later d w ws
 part_line part.Inits d w ws = init_or_later d w ws
 part_line part.Scripts d w ws = later_line d w ws
 part_line part.Items d w ws = item_line d w ws
 
 -- a line, by the script that it stands in, if any
-abbrev pub line_in : Option ScriptData → Draft → List ℕ → List (List ℕ) → Result Draft ℕ
+abbrev pub line_in : Option ScriptData → Draft → List ℕ → List (List ℕ) → Result Draft Why
 line_in (Some s) d w ws = script_line d s w ws
 line_in None d w ws = part_line d.part d w ws
 
-abbrev pub words_line : Draft → List (List ℕ) → Result Draft ℕ
-words_line d [] = Err 1
+abbrev pub words_line : Draft → List (List ℕ) → Result Draft Why
+words_line d [] = Err why.Word
 words_line d (w ∷ ws) = line_in d.script (record d { script = None }) w ws
 
 -- a line of printed bytes, as words between single spaces
-unfoldable pub line_of : Draft → List ℕ → Result Draft ℕ
-line_of d line = if list_all is_printed line then words_line d (slice_split (λ b. b == 32) line) else Err 11
+unfoldable pub line_of : Draft → List ℕ → Result Draft Why
+line_of d line = if list_all is_printed line then words_line d (slice_split (λ b. b == 32) line) else Err why.Byte

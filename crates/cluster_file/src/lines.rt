@@ -47,7 +47,7 @@ fn name_key(known: &mut BTreeSet<Key>, key: Key) -> Result<u64, LineEnd>
 {
     put_key(known, key)?;
     if known.len() > 4096 {
-        return Err(LineEnd::Why(9));
+        return Err(LineEnd::Why(Why::Limit));
     }
     Ok(0)
 }
@@ -56,7 +56,7 @@ fn name_new_key(known: &mut BTreeSet<Key>, key: Key) -> Result<u64, LineEnd>
     ensures { Gives (λ _. known.new) result (name_new_key known.old key) }
 {
     if is_known(known, &key) {
-        return Err(LineEnd::Why(8));
+        return Err(LineEnd::Why(Why::Repeat));
     }
     name_key(known, key)
 }
@@ -65,7 +65,7 @@ fn new_number(numbers: &BTreeSet<TxId>, t: &TxId) -> Result<u64, LineEnd>
     ensures { Gives (λ n. n) result (new_number numbers.now t.now) }
 {
     if is_taken(numbers, t) {
-        return Err(LineEnd::Why(8));
+        return Err(LineEnd::Why(Why::Repeat));
     }
     Ok(0)
 }
@@ -76,7 +76,7 @@ fn known_number(numbers: &BTreeSet<TxId>, t: &TxId) -> Result<u64, LineEnd>
     if is_taken(numbers, t) {
         return Ok(0);
     }
-    Err(LineEnd::Why(6))
+    Err(LineEnd::Why(Why::Transaction))
 }
 
 #[tactic(auto, unfolding(crate::specs::Lines::nodes_line))]
@@ -103,7 +103,7 @@ fn new_node(nodes: &[NodeId], node: NodeId) -> Result<u64, LineEnd>
     ensures { Gives (λ n. n) result (new_node nodes.now node) }
 {
     if has_node(nodes, node) {
-        return Err(LineEnd::Why(8));
+        return Err(LineEnd::Why(Why::Repeat));
     }
     Ok(0)
 }
@@ -133,10 +133,10 @@ fn is_next(next: usize, i: u64, words: &[&[u8]]) -> Result<u64, LineEnd>
     ensures { Gives (λ n. n) result (is_next next i (map (λ w. w.now) words.now)) }
 {
     if i != next as u64 {
-        return Err(LineEnd::Why(4));
+        return Err(LineEnd::Why(Why::Partition));
     }
     if words.is_empty() {
-        return Err(LineEnd::Why(10));
+        return Err(LineEnd::Why(Why::Missing));
     }
     Ok(0)
 }
@@ -146,7 +146,7 @@ fn partition_line(alloc: Global, mut draft: Draft, words: &[&[u8]]) -> Result<Dr
     ensures { Gives (λ d. d) result (partition_line draft (map (λ w. w.now) words.now)) }
 {
     if draft.places.len() >= 64 {
-        return Err(LineEnd::Why(9));
+        return Err(LineEnd::Why(Why::Limit));
     }
     let (i, rest) = number_at(words)?;
     is_next(draft.places.len(), i, rest)?;
@@ -175,7 +175,7 @@ fn tx_line(alloc: Global, mut draft: Draft, words: &[&[u8]]) -> Result<Draft, Li
     ensures { Gives (λ d. d) result (tx_line draft (map (λ w. w.now) words.now)) }
 {
     if draft.scripts.len() >= 4096 {
-        return Err(LineEnd::Why(9));
+        return Err(LineEnd::Why(Why::Limit));
     }
     let (word, rest) = word_at(words)?;
     let number = tx_of(word)?;
@@ -194,7 +194,7 @@ fn read_line(mut draft: Draft, mut script: ScriptDraft, words: &[&[u8]]) -> Resu
     ensures { Gives (λ d. d) result (read_line draft script (map (λ w. w.now) words.now)) }
 {
     if script.len() >= 32 {
-        return Err(LineEnd::Why(9));
+        return Err(LineEnd::Why(Why::Limit));
     }
     let (word, rest) = word_at(words)?;
     let key = key_of(word)?;
@@ -215,7 +215,7 @@ fn write_line(
     ensures { Gives (λ d. d) result (write_line draft script (map (λ w. w.now) words.now)) }
 {
     if script.len() >= 32 {
-        return Err(LineEnd::Why(9));
+        return Err(LineEnd::Why(Why::Limit));
     }
     let (word, rest) = word_at(words)?;
     let target = key_of(word)?;
@@ -231,7 +231,7 @@ fn end_line(mut draft: Draft, script: ScriptDraft, words: &[&[u8]]) -> Result<Dr
     ensures { Gives (λ d. d) result (end_line draft script (map (λ w. w.now) words.now)) }
 {
     if script.len() == 0 {
-        return Err(LineEnd::Why(10));
+        return Err(LineEnd::Why(Why::Missing));
     }
     end_at(words)?;
     draft.scripts.push(script.finish())?;
@@ -255,7 +255,7 @@ fn begin_line(mut draft: Draft, words: &[&[u8]]) -> Result<Draft, LineEnd>
     ensures { Gives (λ d. d) result (begin_line draft (map (λ w. w.now) words.now)) }
 {
     if draft.events >= 50000 {
-        return Err(LineEnd::Why(9));
+        return Err(LineEnd::Why(Why::Limit));
     }
     let (word, rest) = word_at(words)?;
     let t = tx_of(word)?;
@@ -271,7 +271,7 @@ fn deliver_line(mut draft: Draft, words: &[&[u8]]) -> Result<Draft, LineEnd>
     ensures { Gives (λ d. d) result (deliver_line draft (map (λ w. w.now) words.now)) }
 {
     if draft.events >= 50000 {
-        return Err(LineEnd::Why(9));
+        return Err(LineEnd::Why(Why::Limit));
     }
     let (n, rest) = number_at(words)?;
     let m = in_range(1, 4_294_967_295, n)?;
@@ -286,7 +286,7 @@ fn drop_line(mut draft: Draft, words: &[&[u8]]) -> Result<Draft, LineEnd>
     ensures { Gives (λ d. d) result (drop_line draft (map (λ w. w.now) words.now)) }
 {
     if draft.events >= 50000 {
-        return Err(LineEnd::Why(9));
+        return Err(LineEnd::Why(Why::Limit));
     }
     let (n, rest) = number_at(words)?;
     let m = in_range(1, 4_294_967_295, n)?;
@@ -304,7 +304,7 @@ fn more_events(events: u64, c: u64) -> Result<u64, LineEnd>
     if events <= 50000 - c {
         Ok(c)
     } else {
-        Err(LineEnd::Why(9))
+        Err(LineEnd::Why(Why::Limit))
     }
 }
 
@@ -337,7 +337,7 @@ fn script_line(
     } else if is_word(word, b"end") {
         end_line(draft, script, rest)
     } else {
-        Err(LineEnd::Why(1))
+        Err(LineEnd::Why(Why::Word))
     }
 }
 
@@ -349,7 +349,7 @@ fn later_line(alloc: Global, draft: Draft, word: &[u8], rest: &[&[u8]]) -> Resul
     } else if is_word(word, b"schedule") {
         schedule_line(draft, rest)
     } else {
-        Err(LineEnd::Why(1))
+        Err(LineEnd::Why(Why::Word))
     }
 }
 
@@ -385,9 +385,9 @@ fn item_line(draft: Draft, word: &[u8], rest: &[&[u8]]) -> Result<Draft, LineEnd
     } else if is_word(word, b"next") {
         next_line(draft, rest)
     } else if is_later_item(word) {
-        Err(LineEnd::Why(12))
+        Err(LineEnd::Why(Why::Unbuilt))
     } else {
-        Err(LineEnd::Why(1))
+        Err(LineEnd::Why(Why::Word))
     }
 }
 
@@ -399,14 +399,14 @@ fn part_line(alloc: Global, draft: Draft, word: &[u8], rest: &[&[u8]]) -> Result
             if is_word(word, b"nodes") {
                 nodes_line(draft, rest)
             } else {
-                Err(LineEnd::Why(1))
+                Err(LineEnd::Why(Why::Word))
             }
         }
         Part::Nodes => {
             if is_word(word, b"partition") {
                 partition_line(alloc, draft, rest)
             } else {
-                Err(LineEnd::Why(1))
+                Err(LineEnd::Why(Why::Word))
             }
         }
         Part::Partitions => {
@@ -426,7 +426,7 @@ fn words_line(alloc: Global, mut draft: Draft, words: &[&[u8]]) -> Result<Draft,
     ensures { Gives (λ d. d) result (words_line draft (map (λ w. w.now) words.now)) }
 {
     let [word, rest @ ..] = words else {
-        return Err(LineEnd::Why(1));
+        return Err(LineEnd::Why(Why::Word));
     };
     match draft.script.take() {
         Some(script) => script_line(alloc, draft, script, word, rest),
@@ -440,7 +440,7 @@ pub fn line_of(alloc: Global, draft: Draft, line: &[u8]) -> Result<Draft, LineEn
     ensures { Gives (λ d. d) result (line_of draft line.now) }
 {
     if !are_printed(line) {
-        return Err(LineEnd::Why(11));
+        return Err(LineEnd::Why(Why::Byte));
     }
     let words = pieces(alloc, line, b' ')?;
     words_line(alloc, draft, words.as_slice())

@@ -21,6 +21,9 @@ use Rattle.script_lang.specs.ScriptLines.{◌>>>◌, tx_line, read_line, write_l
 use Rattle.script_lang.proofs.Readings.{behind, either, at_ok}
 use Rattle.script_lang.proofs.WordsRead.{word_read, end_read, key_read, tx_read, node_read}
 use Rattle.script_lang.proofs.StepsRead.{IsExprOf, expr_read}
+use Rattle.script_lang.specs.declared.whys.Why.{Why}
+use Rattle.script_lang.specs.declared.whys.Why.TheVariants as why
+use Rattle.script_lang.specs.declared.limits.TheConstants.{MAX_OPS}
 
 -- the words of the lines of a script up to its last operation
 abbrev body_words : ScriptData → List (List (List ℕ))
@@ -43,23 +46,23 @@ more_words s o = ap (λ l. (codes "tx" ∷ decimal s.number ∷ (110 ∷ decimal
 
 read_line_read : (s : ScriptData) (ws : List (List ℕ)) → IfOk (read_line s ws) (λ next. words_so_far next ≡ body_words s ++ (codes "read" ∷ ws) ∷ [])
 unfolding read_line
-read_line_read s ws = either (nat_le 32 (length s.ops)) _ _ _ (λ e. tt) (λ room. behind (word_at ws) _ (λ x. ws ≡ x.0 ∷ x.1) _ (word_read ws) (λ w a. behind (key_of w.0) _ _ _ (key_read w.0) (λ k b. behind (end_at w.1) _ (λ _. w.1 ≡ []) _ (end_read w.1) (λ _ e. more_words s (op.Read k) ∙ ap (λ l. body_words s ++ (codes "read" ∷ l) ∷ []) (sym (a ∙ ap (λ x. x ∷ w.1) b.0 ∙ ap (λ l. k ∷ l) e))))))
+read_line_read s ws = either (nat_le MAX_OPS (length s.ops)) _ _ _ (λ e. tt) (λ room. behind (word_at ws) _ (λ x. ws ≡ x.0 ∷ x.1) _ (word_read ws) (λ w a. behind (key_of w.0) _ _ _ (key_read w.0) (λ k b. behind (end_at w.1) _ (λ _. w.1 ≡ []) _ (end_read w.1) (λ _ e. more_words s (op.Read k) ∙ ap (λ l. body_words s ++ (codes "read" ∷ l) ∷ []) (sym (a ∙ ap (λ x. x ∷ w.1) b.0 ∙ ap (λ l. k ∷ l) e))))))
 
 write_line_read : (s : ScriptData) (ws : List (List ℕ)) → IfOk (write_line s ws) (λ next. words_so_far next ≡ body_words s ++ (codes "write" ∷ ws) ∷ [])
 unfolding write_line
-write_line_read s ws = either (nat_le 32 (length s.ops)) _ _ _ (λ e. tt) (λ room. behind (word_at ws) _ (λ x. ws ≡ x.0 ∷ x.1) _ (word_read ws) (λ w a. behind (key_of w.0) _ _ _ (key_read w.0) (λ k b. behind (expr_of (known_keys s.ops) w.1) _ (IsExprOf (known_keys s.ops) w.1) _ (expr_read (known_keys s.ops) w.1) (λ x h. more_words s (op.Write k x) ∙ ap (λ l. body_words s ++ (codes "write" ∷ l) ∷ []) (sym (a ∙ ap (λ y. y ∷ w.1) b.0 ∙ ap (λ l. k ∷ l) h.spelled))))))
+write_line_read s ws = either (nat_le MAX_OPS (length s.ops)) _ _ _ (λ e. tt) (λ room. behind (word_at ws) _ (λ x. ws ≡ x.0 ∷ x.1) _ (word_read ws) (λ w a. behind (key_of w.0) _ _ _ (key_read w.0) (λ k b. behind (expr_of (known_keys s.ops) w.1) _ (IsExprOf (known_keys s.ops) w.1) _ (expr_read (known_keys s.ops) w.1) (λ x h. more_words s (op.Write k x) ∙ ap (λ l. body_words s ++ (codes "write" ∷ l) ∷ []) (sym (a ∙ ap (λ y. y ∷ w.1) b.0 ∙ ap (λ l. k ∷ l) h.spelled))))))
 
 end_line_read : (s : ScriptData) (ws : List (List ℕ)) → IfOk (end_line s ws) (λ next. words_so_far next ≡ body_words s ++ (codes "end" ∷ ws) ∷ [])
 unfolding end_line
 end_line_read s ws = either (length s.ops == 0) _ _ _ (λ e. tt) (λ some. behind (end_at ws) _ (λ _. ws ≡ []) _ (end_read ws) (λ _ e. ap (λ l. body_words s ++ (codes "end" ∷ l) ∷ []) (sym e)))
 
-named : (w bytes : List ℕ) (ws : List (List ℕ)) → is_word w bytes ≡ true → (m : Result Stage ℕ) (before : List (List (List ℕ))) → IfOk m (λ next. words_so_far next ≡ before ++ (bytes ∷ ws) ∷ []) → IfOk m (λ next. words_so_far next ≡ before ++ (w ∷ ws) ∷ [])
+named : (w bytes : List ℕ) (ws : List (List ℕ)) → is_word w bytes ≡ true → (m : Result Stage Why) (before : List (List (List ℕ))) → IfOk m (λ next. words_so_far next ≡ before ++ (bytes ∷ ws) ∷ []) → IfOk m (λ next. words_so_far next ≡ before ++ (w ∷ ws) ∷ [])
 named w bytes ws e (Ok next) before h = h ∙ ap (λ v. before ++ (v ∷ ws) ∷ []) (sym (same_text w bytes (sym e)))
 named w bytes ws e (Err why) before h = tt
 
 words_line_read : (nodes : ℕ) (so_far : Stage) (ws : List (List ℕ)) → IfOk (words_line nodes so_far ws) (λ next. words_so_far next ≡ words_so_far so_far ++ ws ∷ [])
 words_line_read nodes so_far [] = tt
-words_line_read nodes stage.Start (w ∷ ws) = either (is_word w (codes "tx")) (tx_line nodes ws) (Err 1) _ (λ e. named w (codes "tx") ws e (tx_line nodes ws) [] (tx_line_read nodes ws)) (λ e. tt)
+words_line_read nodes stage.Start (w ∷ ws) = either (is_word w (codes "tx")) (tx_line nodes ws) (Err why.Word) _ (λ e. named w (codes "tx") ws e (tx_line nodes ws) [] (tx_line_read nodes ws)) (λ e. tt)
 words_line_read nodes (stage.Body s) (w ∷ ws) = either (is_word w (codes "read")) _ _ _ (λ e. named w (codes "read") ws e (read_line s ws) (body_words s) (read_line_read s ws)) (λ _. either (is_word w (codes "write")) _ _ _ (λ e. named w (codes "write") ws e (write_line s ws) (body_words s) (write_line_read s ws)) (λ _. either (is_word w (codes "end")) _ _ _ (λ e. named w (codes "end") ws e (end_line s ws) (body_words s) (end_line_read s ws)) (λ _. tt)))
 words_line_read nodes (stage.Done s) (w ∷ ws) = tt
 
@@ -71,7 +74,7 @@ line_read nodes so_far line = either (list_all is_printed line) _ _ _ (λ e. joi
     ws : List (List ℕ)
     ws = slice_split (λ b. b == 32) line
 
-    joined : (m : Result Stage ℕ) → IfOk m (λ next. words_so_far next ≡ words_so_far so_far ++ ws ∷ []) → IfOk m (λ next. map (join_with_byte 32) (words_so_far next) ≡ map (join_with_byte 32) (words_so_far so_far) ++ line ∷ [])
+    joined : (m : Result Stage Why) → IfOk m (λ next. words_so_far next ≡ words_so_far so_far ++ ws ∷ []) → IfOk m (λ next. map (join_with_byte 32) (words_so_far next) ≡ map (join_with_byte 32) (words_so_far so_far) ++ line ∷ [])
     joined (Ok next) h = ap (map (join_with_byte 32)) h ∙ map-append (join_with_byte 32) (words_so_far so_far) (ws ∷ []) ∙ ap (λ l. map (join_with_byte 32) (words_so_far so_far) ++ l ∷ []) (join_with_byte-slice_split 32 line)
     joined (Err why) h = tt
 
@@ -89,7 +92,7 @@ unfolding lines_from
 lines_read nodes so_far n [] = tt
 lines_read nodes so_far n (x ∷ rest) = either (length rest == 0) _ _ _ (λ e. last (close so_far x) (empty_list rest e) (close_read so_far x)) (λ e. more (line_of nodes so_far x) (line_read nodes so_far x) (λ next. lines_read nodes next (n + 1) rest))
   where
-    last : (m : Result ScriptData ℕ) → rest ≡ [] → IfOk m (λ s. map (join_with_byte 32) (words_so_far so_far) ++ x ∷ [] ≡ script_lines s ++ [] ∷ []) → IfOk (at_line n m) (λ s. map (join_with_byte 32) (words_so_far so_far) ++ x ∷ rest ≡ script_lines s ++ [] ∷ [])
+    last : (m : Result ScriptData Why) → rest ≡ [] → IfOk m (λ s. map (join_with_byte 32) (words_so_far so_far) ++ x ∷ [] ≡ script_lines s ++ [] ∷ []) → IfOk (at_line n m) (λ s. map (join_with_byte 32) (words_so_far so_far) ++ x ∷ rest ≡ script_lines s ++ [] ∷ [])
     last (Ok s) none h = ap (λ l. map (join_with_byte 32) (words_so_far so_far) ++ x ∷ l) none ∙ h
     last (Err why) none h = tt
 
@@ -97,7 +100,7 @@ lines_read nodes so_far n (x ∷ rest) = either (length rest == 0) _ _ _ (λ e. 
     again next (Ok s) h k = sym (ap (λ l. l ++ rest) h ∙ append_assoc (map (join_with_byte 32) (words_so_far so_far)) (x ∷ []) rest) ∙ k
     again next (Err at) h k = tt
 
-    more : (m : Result Stage ℕ) → IfOk m (λ next. map (join_with_byte 32) (words_so_far next) ≡ map (join_with_byte 32) (words_so_far so_far) ++ x ∷ []) → ((next : Stage) → IfOk (lines_from nodes next (n + 1) rest) (λ s. map (join_with_byte 32) (words_so_far next) ++ rest ≡ script_lines s ++ [] ∷ [])) → IfOk (at_line n m >>> λ next. lines_from nodes next (n + 1) rest) (λ s. map (join_with_byte 32) (words_so_far so_far) ++ x ∷ rest ≡ script_lines s ++ [] ∷ [])
+    more : (m : Result Stage Why) → IfOk m (λ next. map (join_with_byte 32) (words_so_far next) ≡ map (join_with_byte 32) (words_so_far so_far) ++ x ∷ []) → ((next : Stage) → IfOk (lines_from nodes next (n + 1) rest) (λ s. map (join_with_byte 32) (words_so_far next) ++ rest ≡ script_lines s ++ [] ∷ [])) → IfOk (at_line n m >>> λ next. lines_from nodes next (n + 1) rest) (λ s. map (join_with_byte 32) (words_so_far so_far) ++ x ∷ rest ≡ script_lines s ++ [] ∷ [])
     more (Ok next) h k = again next (lines_from nodes next (n + 1) rest) h (k next)
     more (Err why) h k = tt
 

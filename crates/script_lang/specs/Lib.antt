@@ -1,3 +1,4 @@
+pub mod Whys
 pub mod Exprs
 pub mod Values
 pub mod Scripts

@@ -12,6 +12,7 @@
 pub mod expr_words;
 mod exprs;
 mod laws;
+pub mod limits;
 mod reads;
 pub mod script_lines;
 mod scripts;
@@ -27,4 +28,4 @@ pub use reads::{is_known, is_named, is_update, key_of, keys, read_keys, write_ke
 pub use script_lines::read_script;
 pub use scripts::{Op, OpList, Script, ScriptDraft};
 pub use values::{Reads, eval, has_each_key};
-pub use whys::{At, LineEnd, ScriptEnd};
+pub use whys::{At, LineEnd, ScriptEnd, Why};

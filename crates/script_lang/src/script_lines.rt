@@ -2,11 +2,13 @@
 ghost use Rattle.std.specs.Prelude.{◌≡◌, ◌≤◌, map};
 ghost use Rattle.script_lang.specs.declared.script_lines.Stage.TheVariants as stage;
 ghost use Rattle.script_lang.specs.Reading.{Gives};
+ghost use Rattle.script_lang.specs.Whys.{number_of};
 ghost use Rattle.script_lang.specs.ScriptLines.{tx_line, read_line, write_line, end_line, begin_line, body_line, stage_line, words_line, line_of, at_line, whole, close, lines_from, script_of_text, GivesScript};
 
 use crate::expr_words::read_expr;
+use crate::limits::{MAX_NODES, MAX_OPS};
 use crate::scripts::{Script, ScriptDraft};
-use crate::whys::{At, LineEnd, ScriptEnd};
+use crate::whys::{At, LineEnd, ScriptEnd, Why};
 use crate::words::{
     NodeCount, are_printed, end_at, is_word, key_of, node_of, pieces, tx_of, word_at,
 };
@@ -39,8 +41,8 @@ fn tx_line(alloc: Global, nodes: NodeCount, words: &[&[u8]]) -> Result<Stage, Li
 fn read_line(mut draft: ScriptDraft, words: &[&[u8]]) -> Result<Stage, LineEnd>
     ensures { Gives (λ s. s) result (read_line draft (map (λ w. w.now) words.now)) }
 {
-    if draft.len() >= 32 {
-        return Err(LineEnd::Why(9));
+    if draft.len() >= MAX_OPS {
+        return Err(LineEnd::Why(Why::Limit));
     }
     let (word, rest) = word_at(words)?;
     let key = key_of(word)?;
@@ -53,8 +55,8 @@ fn read_line(mut draft: ScriptDraft, words: &[&[u8]]) -> Result<Stage, LineEnd>
 fn write_line(alloc: Global, mut draft: ScriptDraft, words: &[&[u8]]) -> Result<Stage, LineEnd>
     ensures { Gives (λ s. s) result (write_line draft (map (λ w. w.now) words.now)) }
 {
-    if draft.len() >= 32 {
-        return Err(LineEnd::Why(9));
+    if draft.len() >= MAX_OPS {
+        return Err(LineEnd::Why(Why::Limit));
     }
     let (word, rest) = word_at(words)?;
     let key = key_of(word)?;
@@ -68,7 +70,7 @@ fn end_line(draft: ScriptDraft, words: &[&[u8]]) -> Result<Stage, LineEnd>
     ensures { Gives (λ s. s) result (end_line draft (map (λ w. w.now) words.now)) }
 {
     if draft.len() == 0 {
-        return Err(LineEnd::Why(10));
+        return Err(LineEnd::Why(Why::Missing));
     }
     end_at(words)?;
     Ok(Stage::Done(draft.finish()))
@@ -85,7 +87,7 @@ fn begin_line(
     if is_word(word, b"tx") {
         tx_line(alloc, nodes, rest)
     } else {
-        Err(LineEnd::Why(1))
+        Err(LineEnd::Why(Why::Word))
     }
 }
 
@@ -104,7 +106,7 @@ fn body_line(
     } else if is_word(word, b"end") {
         end_line(draft, rest)
     } else {
-        Err(LineEnd::Why(1))
+        Err(LineEnd::Why(Why::Word))
     }
 }
 
@@ -117,12 +119,12 @@ fn words_line(
     ensures { Gives (λ s. s) result (words_line nodes stage (map (λ w. w.now) words.now)) }
 {
     let [word, rest @ ..] = words else {
-        return Err(LineEnd::Why(1));
+        return Err(LineEnd::Why(Why::Word));
     };
     match stage {
         Stage::Start => begin_line(alloc, nodes, word, rest),
         Stage::Body(draft) => body_line(alloc, draft, word, rest),
-        Stage::Done(_) => Err(LineEnd::Why(1)),
+        Stage::Done(_) => Err(LineEnd::Why(Why::Word)),
     }
 }
 
@@ -131,10 +133,20 @@ fn line_of(alloc: Global, nodes: NodeCount, stage: Stage, line: &[u8]) -> Result
     ensures { Gives (λ s. s) result (line_of nodes stage line.now) }
 {
     if !are_printed(line) {
-        return Err(LineEnd::Why(11));
+        return Err(LineEnd::Why(Why::Byte));
     }
     let words = pieces(alloc, line, b' ')?;
     words_line(alloc, nodes, stage, words.as_slice())
+}
+
+/// The fault of the line of this number.
+fn bad(n: usize, why: Why) -> ScriptEnd
+    ensures { result ≡ ScriptEnd.Bad (record { line = n; why = number_of why }) }
+{
+    ScriptEnd::Bad(At {
+        line: n,
+        why: why.number(),
+    })
 }
 
 fn line_at(
@@ -149,7 +161,7 @@ fn line_at(
     match line_of(alloc, nodes, stage, line) {
         Ok(next) => Ok(next),
         Err(LineEnd::Memory) => Err(ScriptEnd::Memory),
-        Err(LineEnd::Why(why)) => Err(ScriptEnd::Bad(At { line: n, why })),
+        Err(LineEnd::Why(why)) => Err(bad(n, why)),
     }
 }
 
@@ -157,11 +169,11 @@ fn close(stage: Stage, n: usize, tail: &[u8]) -> Result<Script, ScriptEnd>
     ensures { GivesScript result (at_line n (close stage tail.now)) }
 {
     if !tail.is_empty() {
-        return Err(ScriptEnd::Bad(At { line: n, why: 10 }));
+        return Err(bad(n, Why::Missing));
     }
     match stage {
         Stage::Done(script) => Ok(script),
-        _ => Err(ScriptEnd::Bad(At { line: n, why: 10 })),
+        _ => Err(bad(n, Why::Missing)),
     }
 }
 
@@ -180,14 +192,14 @@ fn read_pieces(alloc: Global, nodes: NodeCount, pieces: &[&[u8]]) -> Result<Scri
         n += 1;
         lines = rest;
     }
-    Err(ScriptEnd::Bad(At { line: n, why: 10 }))
+    Err(bad(n, Why::Missing))
 }
 
 /// The script that a text spells, in a cluster of so many nodes: the lines from `tx` to `end`. `Bad`
 /// exactly where it spells none, with the first line at fault and why.
 #[tactic(auto, unfolding(crate::specs::ScriptLines::script_of_text))]
 pub fn read_script(alloc: Global, text: &[u8], nodes: u8) -> Result<Script, ScriptEnd>
-    requires { nodes ≤ 16 }
+    requires { nodes ≤ MAX_NODES }
     ensures { GivesScript result (script_of_text nodes text.now) }
 {
     let Ok(pieces) = pieces(alloc, text, b'\n') else {
