@@ -34,6 +34,8 @@ use Rattle.cluster_file.specs.Doc.{blank}
 use Rattle.cluster_file.specs.Spelling.{is_node, is_tx, node_word}
 use Rattle.cluster_file.proofs.Members.{distinct_before}
 use Rattle.script_lang.specs.declared.whys.Why.{Why}
+use Rattle.script_lang.specs.declared.limits.TheConstants.{MAX_NODES, MAX_OPS, MAX_TX}
+use Rattle.cluster_file.specs.declared.limits.TheConstants.{MAX_COUNT, MAX_EVENTS, MAX_KEYS, MAX_PARTITIONS, MAX_SCRIPTS}
 
 -- The words.
 
@@ -59,7 +61,7 @@ small n high h k =
 
 pub node_again : (nodes n : ℕ) → nat_le n nodes ≡ true → is_node n ≡ true → node_of nodes (node_word n) ≡ Ok n
 node_again nodes n h k =
-    let both = and_parts (nat_le 1 n) (nat_le n 16) k in
+    let both = and_parts (nat_le 1 n) (nat_le n MAX_NODES) k in
     rw (number-decimal n (small n 16 both.1 (omega arith)), both.0, h) refl
 
 pub key_again : (k : List ℕ) → is_key k ≡ true → key_of k ≡ Ok k
@@ -67,12 +69,12 @@ key_again k h = rw h refl
 
 pub tx_again : (t : ℕ) → is_tx t ≡ true → tx_of (decimal t) ≡ Ok t
 tx_again t h =
-    let both = and_parts (nat_le 1 t) (nat_le t 65535) h in
+    let both = and_parts (nat_le 1 t) (nat_le t MAX_TX) h in
     rw (number-decimal t (small t 65535 both.1 (omega arith)), both.0, both.1) refl
 
 node_step_again : (nodes : ℕ) (ns : List NodeId) (n : NodeId) → list_any (λ m. m == n) ns ≡ false → nat_le n nodes ≡ true → is_node n ≡ true → node_step nodes ns (node_word n) ≡ Ok (ns ++ n ∷ [])
 unfolding node_step
-node_step_again nodes ns n new low is = goes (node_of nodes (node_word n)) _ n _ (node_again nodes n low is) (goes (new_node ns n) _ 0 _ (rw new refl) refl)
+node_step_again nodes ns n new low is = goes (node_of nodes (node_word n)) _ n _ (node_again nodes n low is) (goes (new_node ns n) _ tt _ (rw new refl) refl)
 
 pub nodes_again : (nodes : ℕ) (acc ns : List NodeId) → are_distinct (acc ++ ns) ≡ true → list_all (λ n. nat_le n nodes) ns ≡ true → list_all is_node ns ≡ true → steps (node_step nodes) acc (map node_word ns) ≡ Ok (acc ++ ns)
 unfolding steps
@@ -86,61 +88,61 @@ nodes_again nodes acc (n ∷ ns) d low is =
 
 -- What was named before.
 
-pub name_again : (known : BTreeSet Key) (k : Key) → length (insert_key (slice_cmp nat_cmp) known.keys k) ≤ 4096 → name_key known k ≡ Ok (with_key known k)
+pub name_again : (known : BTreeSet Key) (k : Key) → length (insert_key (slice_cmp nat_cmp) known.keys k) ≤ MAX_KEYS → name_key known k ≡ Ok (with_key known k)
 name_again known k h =
-    let room : nat_le (length (insert_key (slice_cmp nat_cmp) known.keys k)) 4096 ≡ true = grind (arith, nat_tests, h) in
+    let room : nat_le (length (insert_key (slice_cmp nat_cmp) known.keys k)) MAX_KEYS ≡ true = grind (arith, nat_tests, h) in
     rw room refl
 
 -- The lines.
 
-pub nodes_line_again : (n : ℕ) → nat_le 1 n ≡ true → nat_le n 16 ≡ true → nodes_line blank (decimal n ∷ []) ≡ Ok (record blank { nodes = n; part = part.Nodes })
+pub nodes_line_again : (n : ℕ) → nat_le 1 n ≡ true → nat_le n MAX_NODES ≡ true → nodes_line blank (decimal n ∷ []) ≡ Ok (record blank { nodes = n; part = part.Nodes })
 unfolding nodes_line
-nodes_line_again n h k = goes (number_at (decimal n ∷ [])) _ (n, []) _ (number_again n [] (small n 16 k (omega arith))) (goes (in_range 1 16 n) _ n _ (within_again 1 16 n h k) refl)
+nodes_line_again n h k = goes (number_at (decimal n ∷ [])) _ (n, []) _ (number_again n [] (small n 16 k (omega arith))) (goes (in_range 1 MAX_NODES n) _ n _ (within_again 1 MAX_NODES n h k) refl)
 
-next_again : (n : ℕ) (ns : List NodeId) → 1 ≤ length ns → is_next n n (map node_word ns) ≡ Ok 0
+next_again : (n : ℕ) (ns : List NodeId) → 1 ≤ length ns → is_next n n (map node_word ns) ≡ Ok tt
 next_again n [] h = absurd (omega (arith, h))
 next_again n (m ∷ ns) h =
     let some : (length (node_word m ∷ map node_word ns) == 0) ≡ false = ne_eqb (length (node_word m ∷ map node_word ns)) 0 (λ e. omega (arith, e)) in
     rw (eq-eqb n n refl, some) refl
 
-pub partition_line_again : (d : Draft) (ns : List NodeId) → length d.places < 64 → 1 ≤ length ns → are_distinct ns ≡ true → list_all (λ n. nat_le n d.nodes) ns ≡ true → list_all is_node ns ≡ true → partition_line d (decimal (length d.places) ∷ map node_word ns) ≡ Ok (record d { places = d.places ++ ns ∷ []; part = part.Partitions })
+pub partition_line_again : (d : Draft) (ns : List NodeId) → length d.places < MAX_PARTITIONS → 1 ≤ length ns → are_distinct ns ≡ true → list_all (λ n. nat_le n d.nodes) ns ≡ true → list_all is_node ns ≡ true → partition_line d (decimal (length d.places) ∷ map node_word ns) ≡ Ok (record d { places = d.places ++ ns ∷ []; part = part.Partitions })
 unfolding partition_line
 partition_line_again d ns room some distinct low are =
-    let less : nat_le 64 (length d.places) ≡ false = grind (arith, nat_tests, room) in
-    passes (nat_le 64 (length d.places)) _ _ _ less
+    let less : nat_le MAX_PARTITIONS (length d.places) ≡ false = grind (arith, nat_tests, room) in
+    passes (nat_le MAX_PARTITIONS (length d.places)) _ _ _ less
     (goes (number_at (decimal (length d.places) ∷ map node_word ns)) _ (length d.places, map node_word ns) _ (number_again (length d.places) (map node_word ns) (omega (arith, room)))
-    (goes (is_next (length d.places) (length d.places) (map node_word ns)) _ 0 _ (next_again (length d.places) ns some)
+    (goes (is_next (length d.places) (length d.places) (map node_word ns)) _ tt _ (next_again (length d.places) ns some)
     (goes (steps (node_step d.nodes) [] (map node_word ns)) _ ns _ (nodes_again d.nodes [] ns distinct low are) refl)))
 
-pub init_line_again : (d : Draft) (k : Key) (v : Value) → is_known d.known k ≡ false → length (insert_key (slice_cmp nat_cmp) d.known.keys k) ≤ 4096 → is_key k ≡ true → v < 2 ^ 64 → init_line d (k ∷ decimal v ∷ []) ≡ Ok (record d { inits = d.inits ++ (k, v) ∷ []; known = with_key d.known k; part = part.Inits })
+pub init_line_again : (d : Draft) (k : Key) (v : Value) → is_known d.known k ≡ false → length (insert_key (slice_cmp nat_cmp) d.known.keys k) ≤ MAX_KEYS → is_key k ≡ true → v < 2 ^ 64 → init_line d (k ∷ decimal v ∷ []) ≡ Ok (record d { inits = d.inits ++ (k, v) ∷ []; known = with_key d.known k; part = part.Inits })
 unfolding init_line
 init_line_again d k v new room is low =
     goes (key_of k) _ k _ (key_again k is)
     (goes (name_new_key d.known k) _ (with_key d.known k) _ (passes (is_known d.known k) _ _ _ new (name_again d.known k room))
     (goes (number_at (decimal v ∷ [])) _ (v, []) _ (number_again v [] low) refl))
 
-pub tx_line_again : (d : Draft) (t : TxId) (n : NodeId) → length d.scripts < 4096 → is_taken d.numbers t ≡ false → is_tx t ≡ true → nat_le n d.nodes ≡ true → is_node n ≡ true → tx_line d (decimal t ∷ node_word n ∷ []) ≡ Ok (record d { script = Some (record { number = t; home = n; ops = [] }); numbers = with_number d.numbers t; part = part.Scripts })
+pub tx_line_again : (d : Draft) (t : TxId) (n : NodeId) → length d.scripts < MAX_SCRIPTS → is_taken d.numbers t ≡ false → is_tx t ≡ true → nat_le n d.nodes ≡ true → is_node n ≡ true → tx_line d (decimal t ∷ node_word n ∷ []) ≡ Ok (record d { script = Some (record { number = t; home = n; ops = [] }); numbers = with_number d.numbers t; part = part.Scripts })
 unfolding tx_line
 tx_line_again d t n room new is low node =
-    let less : nat_le 4096 (length d.scripts) ≡ false = grind (arith, nat_tests, room) in
-    passes (nat_le 4096 (length d.scripts)) _ _ _ less
+    let less : nat_le MAX_SCRIPTS (length d.scripts) ≡ false = grind (arith, nat_tests, room) in
+    passes (nat_le MAX_SCRIPTS (length d.scripts)) _ _ _ less
     (goes (tx_of (decimal t)) _ t _ (tx_again t is)
-    (goes (new_number d.numbers t) _ 0 _ (rw new refl)
+    (goes (new_number d.numbers t) _ tt _ (rw new refl)
     (goes (node_of d.nodes (node_word n)) _ n _ (node_again d.nodes n low node) refl)))
 
-pub read_line_again : (d : Draft) (s : ScriptData) (k : Key) → length s.ops < 32 → length (insert_key (slice_cmp nat_cmp) d.known.keys k) ≤ 4096 → is_key k ≡ true → read_line d s (k ∷ []) ≡ Ok (record d { script = Some (record s { ops = s.ops ++ op.Read k ∷ [] }); known = with_key d.known k })
+pub read_line_again : (d : Draft) (s : ScriptData) (k : Key) → length s.ops < MAX_OPS → length (insert_key (slice_cmp nat_cmp) d.known.keys k) ≤ MAX_KEYS → is_key k ≡ true → read_line d s (k ∷ []) ≡ Ok (record d { script = Some (record s { ops = s.ops ++ op.Read k ∷ [] }); known = with_key d.known k })
 unfolding read_line
 read_line_again d s k room few is =
-    let less : nat_le 32 (length s.ops) ≡ false = grind (arith, nat_tests, room) in
-    passes (nat_le 32 (length s.ops)) _ _ _ less
+    let less : nat_le MAX_OPS (length s.ops) ≡ false = grind (arith, nat_tests, room) in
+    passes (nat_le MAX_OPS (length s.ops)) _ _ _ less
     (goes (key_of k) _ k _ (key_again k is)
     (goes (name_key d.known k) _ (with_key d.known k) _ (name_again d.known k few) refl))
 
-pub write_line_again : (d : Draft) (s : ScriptData) (k : Key) (e : Expr) → length s.ops < 32 → length (insert_key (slice_cmp nat_cmp) d.known.keys k) ≤ 4096 → is_key k ≡ true → is_plain_expr e ≡ true → is_expr_among (known_keys s.ops) e ≡ true → write_line d s (k ∷ expr_words e) ≡ Ok (record d { script = Some (record s { ops = s.ops ++ op.Write k e ∷ [] }); known = with_key d.known k })
+pub write_line_again : (d : Draft) (s : ScriptData) (k : Key) (e : Expr) → length s.ops < MAX_OPS → length (insert_key (slice_cmp nat_cmp) d.known.keys k) ≤ MAX_KEYS → is_key k ≡ true → is_plain_expr e ≡ true → is_expr_among (known_keys s.ops) e ≡ true → write_line d s (k ∷ expr_words e) ≡ Ok (record d { script = Some (record s { ops = s.ops ++ op.Write k e ∷ [] }); known = with_key d.known k })
 unfolding write_line
 write_line_again d s k e room few is plain among =
-    let less : nat_le 32 (length s.ops) ≡ false = grind (arith, nat_tests, room) in
-    passes (nat_le 32 (length s.ops)) _ _ _ less
+    let less : nat_le MAX_OPS (length s.ops) ≡ false = grind (arith, nat_tests, room) in
+    passes (nat_le MAX_OPS (length s.ops)) _ _ _ less
     (goes (key_of k) _ k _ (key_again k is)
     (goes (name_key d.known k) _ (with_key d.known k) _ (name_again d.known k few)
     (goes (expr_of (known_keys s.ops) (expr_words e)) _ e _ (expr_again (known_keys s.ops) e among plain) refl)))
@@ -149,34 +151,34 @@ pub end_line_again : (d : Draft) (s : ScriptData) → 1 ≤ length s.ops → end
 unfolding end_line
 end_line_again d s some = passes (length s.ops == 0) _ _ _ (ne_eqb (length s.ops) 0 (λ e. omega (arith, e, some))) refl
 
-more_room : (events : ℕ) → events + 1 ≤ 50000 → nat_le 50000 events ≡ false
+more_room : (events : ℕ) → events + 1 ≤ MAX_EVENTS → nat_le MAX_EVENTS events ≡ false
 more_room events h = grind (arith, nat_tests, h)
 
-pub begin_line_again : (d : Draft) (t : TxId) → d.events + 1 ≤ 50000 → is_tx t ≡ true → is_taken d.numbers t ≡ true → begin_line d (decimal t ∷ []) ≡ Ok (with_item d (item.Begin t) 1)
+pub begin_line_again : (d : Draft) (t : TxId) → d.events + 1 ≤ MAX_EVENTS → is_tx t ≡ true → is_taken d.numbers t ≡ true → begin_line d (decimal t ∷ []) ≡ Ok (with_item d (item.Begin t) 1)
 unfolding begin_line
 begin_line_again d t room is known =
-    passes (nat_le 50000 d.events) _ _ _ (more_room d.events room)
+    passes (nat_le MAX_EVENTS d.events) _ _ _ (more_room d.events room)
     (goes (tx_of (decimal t)) _ t _ (tx_again t is)
-    (goes (known_number d.numbers t) _ 0 _ (rw known refl) refl))
+    (goes (known_number d.numbers t) _ tt _ (rw known refl) refl))
 
-pub deliver_line_again : (d : Draft) (m : ℕ) → d.events + 1 ≤ 50000 → nat_le 1 m ≡ true → nat_le m 4294967295 ≡ true → deliver_line d (decimal m ∷ []) ≡ Ok (with_item d (item.Deliver m) 1)
+pub deliver_line_again : (d : Draft) (m : ℕ) → d.events + 1 ≤ MAX_EVENTS → nat_le 1 m ≡ true → nat_le m MAX_COUNT ≡ true → deliver_line d (decimal m ∷ []) ≡ Ok (with_item d (item.Deliver m) 1)
 unfolding deliver_line
 deliver_line_again d m room low high =
-    passes (nat_le 50000 d.events) _ _ _ (more_room d.events room)
+    passes (nat_le MAX_EVENTS d.events) _ _ _ (more_room d.events room)
     (goes (number_at (decimal m ∷ [])) _ (m, []) _ (number_again m [] (small m 4294967295 high (omega arith)))
-    (goes (in_range 1 4294967295 m) _ m _ (within_again 1 4294967295 m low high) refl))
+    (goes (in_range 1 MAX_COUNT m) _ m _ (within_again 1 MAX_COUNT m low high) refl))
 
-pub drop_line_again : (d : Draft) (m : ℕ) → d.events + 1 ≤ 50000 → nat_le 1 m ≡ true → nat_le m 4294967295 ≡ true → drop_line d (decimal m ∷ []) ≡ Ok (with_item d (item.Drop m) 1)
+pub drop_line_again : (d : Draft) (m : ℕ) → d.events + 1 ≤ MAX_EVENTS → nat_le 1 m ≡ true → nat_le m MAX_COUNT ≡ true → drop_line d (decimal m ∷ []) ≡ Ok (with_item d (item.Drop m) 1)
 unfolding drop_line
 drop_line_again d m room low high =
-    passes (nat_le 50000 d.events) _ _ _ (more_room d.events room)
+    passes (nat_le MAX_EVENTS d.events) _ _ _ (more_room d.events room)
     (goes (number_at (decimal m ∷ [])) _ (m, []) _ (number_again m [] (small m 4294967295 high (omega arith)))
-    (goes (in_range 1 4294967295 m) _ m _ (within_again 1 4294967295 m low high) refl))
+    (goes (in_range 1 MAX_COUNT m) _ m _ (within_again 1 MAX_COUNT m low high) refl))
 
-pub next_line_again : (d : Draft) (c : ℕ) → d.events + c ≤ 50000 → nat_le 1 c ≡ true → nat_le c 50000 ≡ true → next_line d (decimal c ∷ []) ≡ Ok (with_item d (item.Next c) c)
+pub next_line_again : (d : Draft) (c : ℕ) → d.events + c ≤ MAX_EVENTS → nat_le 1 c ≡ true → nat_le c MAX_EVENTS ≡ true → next_line d (decimal c ∷ []) ≡ Ok (with_item d (item.Next c) c)
 unfolding next_line
 next_line_again d c room low high =
-    let few : nat_le (d.events + c) 50000 ≡ true = grind (arith, nat_tests, room) in
-    goes (number_at (decimal c ∷ [])) _ (c, []) _ (number_again c [] (small c 50000 high (omega arith)))
-    (goes (in_range 1 50000 c) _ c _ (within_again 1 50000 c low high)
-    (goes (more_events d.events c) _ c _ (rw few refl) refl))
+    let few : nat_le (d.events + c) MAX_EVENTS ≡ true = grind (arith, nat_tests, room) in
+    goes (number_at (decimal c ∷ [])) _ (c, []) _ (number_again c [] (small c MAX_EVENTS high (omega arith)))
+    (goes (in_range 1 MAX_EVENTS c) _ c _ (within_again 1 MAX_EVENTS c low high)
+    (goes (more_events d.events c) _ tt _ (rw few refl) refl))

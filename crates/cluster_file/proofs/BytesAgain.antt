@@ -34,6 +34,8 @@ use Rattle.cluster_file.proofs.LinesAgain.{running, document_again}
 use Rattle.cluster_file.proofs.LinesSoFar.{tx_words}
 use Rattle.script_lang.specs.declared.whys.Why.{Why}
 use Rattle.script_lang.specs.declared.whys.Why.TheVariants as why
+use Rattle.script_lang.specs.declared.limits.TheConstants.{MAX_NODES, MAX_OPS, MAX_TX}
+use Rattle.cluster_file.specs.declared.limits.TheConstants.{MAX_COUNT, MAX_PARTITIONS}
 
 -- The lines of a spelling are lines of words.
 
@@ -53,12 +55,12 @@ all_flat_map q p f each (x ∷ xs) h =
     all_both p (f x) (flat_map f xs) (each x both.0) (all_flat_map q p f each xs both.1)
 
 plain_node : (n : NodeId) → is_node n ≡ true → list_all is_plain (node_word n) ≡ true
-plain_node n h = rw (plain_decimal n (small n 16 (and_parts (nat_le 1 n) (nat_le n 16) h).1 (omega arith))) refl
+plain_node n h = rw (plain_decimal n (small n 16 (and_parts (nat_le 1 n) (nat_le n MAX_NODES) h).1 (omega arith))) refl
 
 plain_tx : (t : ℕ) → is_tx t ≡ true → list_all is_plain (decimal t) ≡ true
-plain_tx t h = plain_decimal t (small t 65535 (and_parts (nat_le 1 t) (nat_le t 65535) h).1 (omega arith))
+plain_tx t h = plain_decimal t (small t 65535 (and_parts (nat_le 1 t) (nat_le t MAX_TX) h).1 (omega arith))
 
-nodes_line : (n : ℕ) → n ≤ 16 → is_line (nodes_words n) ≡ true
+nodes_line : (n : ℕ) → n ≤ MAX_NODES → is_line (nodes_words n) ≡ true
 nodes_line n h = rw (plain_decimal n (omega (arith, h))) refl
 
 partition_line : (i : ℕ) (ns : List NodeId) → i < 2 ^ 64 → list_all is_node ns ≡ true → is_line (partition_words i ns) ≡ true
@@ -66,7 +68,7 @@ partition_line i ns h k =
     let long : nat_le 1 (length (codes "partition" ∷ decimal i ∷ map node_word ns)) ≡ true = grind (arith, nat_tests) in
     rw (long, plain_decimal i h, all_map is_node (list_all is_plain) node_word plain_node ns k) refl
 
-partition_lines_are : (i : ℕ) (ps : List (List NodeId)) → i + length ps ≤ 64 → list_all (list_all is_node) ps ≡ true → list_all is_line (partition_lines i ps) ≡ true
+partition_lines_are : (i : ℕ) (ps : List (List NodeId)) → i + length ps ≤ MAX_PARTITIONS → list_all (list_all is_node) ps ≡ true → list_all is_line (partition_lines i ps) ≡ true
 partition_lines_are i [] h k = refl
 partition_lines_are i (ns ∷ ps) h k =
     let both = and_parts (list_all is_node ns) (list_all (list_all is_node) ps) k in
@@ -107,16 +109,16 @@ op_line (op.Write k e) h =
 
 script_lines_are : (s : ScriptData) → is_script_in_range s ≡ true → list_all is_line (script_words s) ≡ true
 script_lines_are s h =
-    let z = and_parts (is_tx s.number && is_node s.home && nat_le 1 (length s.ops) && nat_le (length s.ops) 32 && list_all has_key s.ops) (are_sound [] s.ops) h in
-    let a = and_parts (is_tx s.number && is_node s.home && nat_le 1 (length s.ops) && nat_le (length s.ops) 32) (list_all has_key s.ops) z.0 in
-    let b = and_parts (is_tx s.number && is_node s.home && nat_le 1 (length s.ops)) (nat_le (length s.ops) 32) a.0 in
+    let z = and_parts (is_tx s.number && is_node s.home && nat_le 1 (length s.ops) && nat_le (length s.ops) MAX_OPS && list_all has_key s.ops) (are_sound [] s.ops) h in
+    let a = and_parts (is_tx s.number && is_node s.home && nat_le 1 (length s.ops) && nat_le (length s.ops) MAX_OPS) (list_all has_key s.ops) z.0 in
+    let b = and_parts (is_tx s.number && is_node s.home && nat_le 1 (length s.ops)) (nat_le (length s.ops) MAX_OPS) a.0 in
     let c = and_parts (is_tx s.number && is_node s.home) (nat_le 1 (length s.ops)) b.0 in
     let e = and_parts (is_tx s.number) (is_node s.home) c.0 in
     let first : is_line (tx_words s) ≡ true = rw (plain_tx s.number e.0, plain_node s.home e.1) refl in
     let rest : list_all is_line (map op_words s.ops ++ (codes "end" ∷ []) ∷ []) ≡ true = all_both is_line (map op_words s.ops) ((codes "end" ∷ []) ∷ []) (all_map has_key is_line op_words op_line s.ops a.1) refl in
     rw (first, rest) refl
 
-plain_small : (m : ℕ) → nat_le m 4294967295 ≡ true → list_all is_plain (decimal m) ≡ true
+plain_small : (m : ℕ) → nat_le m MAX_COUNT ≡ true → list_all is_plain (decimal m) ≡ true
 plain_small m h = plain_decimal m (small m 4294967295 h (omega arith))
 
 plain_long : (m : ℕ) → nat_lt m (2 ^ 64) ≡ true → list_all is_plain (decimal m) ≡ true

@@ -18,12 +18,14 @@ use Rattle.script_lang.proofs.Readings.{behind, then, either}
 use Rattle.cluster_file.proofs.Named.{all_last}
 use Rattle.cluster_file.proofs.SoFar.{IsNamed, IsPlan, IsBegun, all_scripts, inside, outside}
 use Rattle.cluster_file.proofs.PartsKeep.{in_range_keeps, node_of_keeps, steps_keep, is_next_keeps, name_key_keeps, name_new_key_keeps, named_init, named_tx, named_op, plan_none, no_script}
+use Rattle.script_lang.specs.declared.limits.TheConstants.{MAX_NODES, MAX_OPS}
+use Rattle.cluster_file.specs.declared.limits.TheConstants.{MAX_PARTITIONS, MAX_SCRIPTS}
 
 -- The lines.
 
 pub nodes_keeps : (ws : List (List ℕ)) → IfOk (nodes_line blank ws) IsBegun
 unfolding nodes_line
-nodes_keeps ws = then (number_at ws) _ _ (λ n. behind (in_range 1 16 n.0) _ _ _ (in_range_keeps 1 16 n.0) (λ m h. then (end_at n.1) _ _ (λ _. record {
+nodes_keeps ws = then (number_at ws) _ _ (λ n. behind (in_range 1 MAX_NODES n.0) _ _ _ (in_range_keeps 1 MAX_NODES n.0) (λ m h. then (end_at n.1) _ _ (λ _. record {
   head = record { least = h.0; most = h.1; few = omega arith; each = refl; within = refl };
   named = record { fresh = refl; few = omega arith; distinct = refl; homes = refl; ordered = refl; few_keys = omega arith; taken = refl };
   plan = record { each = refl; counted = refl; few = omega arith };
@@ -32,9 +34,9 @@ nodes_keeps ws = then (number_at ws) _ _ (λ n. behind (in_range 1 16 n.0) _ _ _
 
 pub partition_keeps : (d : Draft) (ws : List (List ℕ)) → IsBegun d → d.scripts ≡ [] → d.script ≡ None → d.items ≡ [] → d.inits ≡ [] → IfOk (partition_line d ws) IsBegun
 unfolding partition_line
-partition_keeps d ws h ss none items bare = either (nat_le 64 (length d.places)) _ _ _ (λ e. tt) (λ room. then (number_at ws) _ _ (λ i. behind (is_next (length d.places) i.0 i.1) _ _ _ (is_next_keeps (length d.places) i.0 i.1) (λ z some. behind (steps (node_step d.nodes) [] i.1) _ _ _ (steps_keep d.nodes [] i.1 (record { distinct = refl; within = refl }) (omega (arith, some))) (λ ns k.
+partition_keeps d ws h ss none items bare = either (nat_le MAX_PARTITIONS (length d.places)) _ _ _ (λ e. tt) (λ room. then (number_at ws) _ _ (λ i. behind (is_next (length d.places) i.0 i.1) _ _ _ (is_next_keeps (length d.places) i.0 i.1) (λ z some. behind (steps (node_step d.nodes) [] i.1) _ _ _ (steps_keep d.nodes [] i.1 (record { distinct = refl; within = refl }) (omega (arith, some))) (λ ns k.
     let long : length (d.places ++ ns ∷ []) ≡ length d.places + 1 = length-append d.places (ns ∷ []) in
-    let less : length d.places < 64 = grind (arith, nat_tests, room) in
+    let less : length d.places < MAX_PARTITIONS = grind (arith, nat_tests, room) in
     let least : nat_le 1 (length ns) ≡ true = grind (arith, nat_tests, k.1) in
     let one : is_partition ns ≡ true = rw (least, k.0.distinct) refl in
     record {
@@ -60,7 +62,7 @@ tx_keeps : (d : Draft) (ws : List (List ℕ)) → IsBegun d → d.script ≡ Non
 unfolding tx_line
 tx_keeps d ws h none items some =
     let named : IsNamed d.nodes d.inits d.scripts d.known.keys d.numbers.keys = subst (λ l. IsNamed d.nodes d.inits l d.known.keys d.numbers.keys) (no_script d.scripts d.script none) h.named in
-    either (nat_le 4096 (length d.scripts)) _ _ _ (λ e. tt) (λ room. then (word_at ws) _ _ (λ w. then (tx_of w.0) _ _ (λ t. behind (new_number d.numbers t) _ (λ _. is_taken d.numbers t ≡ false) _ (either (is_taken d.numbers t) _ _ _ (λ e. tt) (λ e. e)) (λ z new. then (word_at w.1) _ _ (λ v. behind (node_of d.nodes v.0) _ _ _ (node_of_keeps d.nodes v.0) (λ n home. then (end_at v.1) _ _ (λ _. record {
+    either (nat_le MAX_SCRIPTS (length d.scripts)) _ _ _ (λ e. tt) (λ room. then (word_at ws) _ _ (λ w. then (tx_of w.0) _ _ (λ t. behind (new_number d.numbers t) _ (λ _. is_taken d.numbers t ≡ false) _ (either (is_taken d.numbers t) _ _ _ (λ e. tt) (λ e. e)) (λ z new. then (word_at w.1) _ _ (λ v. behind (node_of d.nodes v.0) _ _ _ (node_of_keeps d.nodes v.0) (λ n home. then (end_at v.1) _ _ (λ _. record {
       head = h.head;
       named = named_tx d.nodes d.inits d.scripts d.known.keys d.numbers.keys (record { number = t; home = n; ops = [] }) named (grind (arith, nat_tests, room)) home new refl;
       plan = plan_none d.nodes (script_numbers (all_scripts d)) _ d.items d.events items h.plan;
@@ -73,7 +75,7 @@ schedule_keeps d ws h none some = then (end_at ws) _ _ (λ _. record { head = h.
 
 read_keeps : (d : Draft) (s : ScriptData) (ws : List (List ℕ)) → IsBegun (inside d s) → IfOk (read_line (outside d) s ws) IsBegun
 unfolding read_line
-read_keeps d s ws h = either (nat_le 32 (length s.ops)) _ _ _ (λ e. tt) (λ room. then (word_at ws) _ _ (λ w. then (key_of w.0) _ _ (λ k. behind (name_key d.known k) _ _ _ (name_key_keeps d.known k) (λ known new. then (end_at w.1) _ _ (λ _. record {
+read_keeps d s ws h = either (nat_le MAX_OPS (length s.ops)) _ _ _ (λ e. tt) (λ room. then (word_at ws) _ _ (λ w. then (key_of w.0) _ _ (λ k. behind (name_key d.known k) _ _ _ (name_key_keeps d.known k) (λ known new. then (end_at w.1) _ _ (λ _. record {
   head = h.head;
   named = named_op d.nodes d.inits d.scripts d.known.keys known.keys d.numbers.keys s (op.Read k) h.named new.same new.few;
   plan = plan_none d.nodes (script_numbers (d.scripts ++ s ∷ [])) _ d.items d.events h.stage.0 h.plan;
@@ -82,7 +84,7 @@ read_keeps d s ws h = either (nat_le 32 (length s.ops)) _ _ _ (λ e. tt) (λ roo
 
 write_keeps : (d : Draft) (s : ScriptData) (ws : List (List ℕ)) → IsBegun (inside d s) → IfOk (write_line (outside d) s ws) IsBegun
 unfolding write_line
-write_keeps d s ws h = either (nat_le 32 (length s.ops)) _ _ _ (λ e. tt) (λ room. then (word_at ws) _ _ (λ w. then (key_of w.0) _ _ (λ k. behind (name_key d.known k) _ _ _ (name_key_keeps d.known k) (λ known new. then (expr_of (reads.known_keys s.ops) w.1) _ _ (λ e. record {
+write_keeps d s ws h = either (nat_le MAX_OPS (length s.ops)) _ _ _ (λ e. tt) (λ room. then (word_at ws) _ _ (λ w. then (key_of w.0) _ _ (λ k. behind (name_key d.known k) _ _ _ (name_key_keeps d.known k) (λ known new. then (expr_of (reads.known_keys s.ops) w.1) _ _ (λ e. record {
   head = h.head;
   named = named_op d.nodes d.inits d.scripts d.known.keys known.keys d.numbers.keys s (op.Write k e) h.named new.same new.few;
   plan = plan_none d.nodes (script_numbers (d.scripts ++ s ∷ [])) _ d.items d.events h.stage.0 h.plan;

@@ -11,6 +11,7 @@ use Rattle.cluster_file.specs.declared.drafts.Part.{Part}
 use Rattle.cluster_file.specs.declared.drafts.Part.TheVariants as part
 use Rattle.std.specs.Fmt.{decimal}
 use Rattle.cluster_file.specs.Spelling.{is_node, is_tx, is_init_in_range, is_script_in_range, is_item_in_range, has_key, is_built_item, node_word, nodes_words, partition_words, init_words, item_words, partition_lines}
+use Rattle.script_lang.specs.declared.limits.TheConstants.{MAX_NODES}
 
 -- The lines of what was read.
 
@@ -59,7 +60,7 @@ pub record IsInRangeSoFar (d : Draft) : Type 0 where
 -- one line more
 pub record Adds (d : Draft) (ws : List (List ℕ)) (e : Draft) : Type 0 where
   pub lines : lines_so_far e ≡ lines_so_far d ++ ws ∷ []
-  pub ranges : d.nodes ≤ 16 → IsInRangeSoFar d → IsInRangeSoFar e
+  pub ranges : d.nodes ≤ MAX_NODES → IsInRangeSoFar d → IsInRangeSoFar e
 
 -- the first line
 pub record Begins (ws : List (List ℕ)) (d : Draft) : Type 0 where

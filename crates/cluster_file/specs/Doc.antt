@@ -2,6 +2,7 @@
 use Rattle.std.specs.Prelude.{◌≡◌, ℕ, true, false, ◌+◌, ◌==◌, ◌&&◌, Bool, List, [], ◌∷◌, length, None, Result, Ok, Err, if◌then◌else◌}
 use Rattle.std.specs.List.{slice_split}
 use Rattle.grid_model.specs.Documents.{DocumentData}
+use Rattle.script_lang.specs.Whys.{number_of}
 use Rattle.cluster_file.specs.declared.drafts.Draft.{Draft}
 use Rattle.cluster_file.specs.declared.drafts.Part.{Part}
 use Rattle.cluster_file.specs.declared.drafts.Part.TheVariants as part
@@ -15,7 +16,7 @@ use Rattle.script_lang.specs.declared.whys.Why.TheVariants as why
 -- what was read, or the refusal of the line of this number
 abbrev pub at_line : {A : Type 0} → ℕ → Result A Why → Result A Refusal
 at_line n (Ok x) = Ok x
-at_line n (Err why) = Err (record { line = n; why = why })
+at_line n (Err w) = Err (record { line = n; why = number_of w })
 
 -- one line behind another: the first at fault decides
 infixl 10 ◌>>>◌

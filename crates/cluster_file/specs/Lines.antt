@@ -1,8 +1,4 @@
 -- What each line of a document adds to what was read before it, or its first why.
---
--- The whys: 1 a first word that cannot stand there, or a word too many; 2 no number; 3 no node of the
--- cluster; 4 not the next partition; 5 no key; 6 no transaction; 7 a key that was not read before; 8 a
--- repeat; 9 past a limit; 10 a word too few; 11 a byte that is not printed; 12 an item that is not read yet.
 use Rattle.std.specs.Prelude.{ℕ, ◌+◌, ◌==◌, ◌||◌, nat_le, Bool, List, [], ◌∷◌, ◌++◌, length, Option, Some, None, Result, Ok, Err, if◌then◌else◌, codes}
 use Rattle.std.specs.List.{slice_split, list_any, list_all}
 use Rattle.std.specs.Ordering.{nat_cmp}
@@ -25,6 +21,8 @@ use Rattle.script_lang.specs.Words.{node_of, key_of, tx_of, is_printed}
 use Rattle.script_lang.specs.ExprWords.{expr_of}
 use Rattle.script_lang.specs.declared.whys.Why.{Why}
 use Rattle.script_lang.specs.declared.whys.Why.TheVariants as why
+use Rattle.script_lang.specs.declared.limits.TheConstants.{MAX_NODES, MAX_OPS}
+use Rattle.cluster_file.specs.declared.limits.TheConstants.{MAX_COUNT, MAX_EVENTS, MAX_KEYS, MAX_PARTITIONS, MAX_SCRIPTS}
 
 -- What was named before.
 
@@ -46,31 +44,31 @@ with_number numbers t = record { keys = insert_key nat_cmp numbers.keys t }
 
 -- the keys named so far and this one, at most 4,096
 abbrev pub name_key : BTreeSet Key → Key → Result (BTreeSet Key) Why
-name_key known k = if nat_le (length (with_key known k).keys) 4096 then Ok (with_key known k) else Err why.Limit
+name_key known k = if nat_le (length (with_key known k).keys) MAX_KEYS then Ok (with_key known k) else Err why.Limit
 
 -- the same, where the key was not named before
 abbrev pub name_new_key : BTreeSet Key → Key → Result (BTreeSet Key) Why
 name_new_key known k = if is_known known k then Err why.Repeat else name_key known k
 
 -- no script has the number
-abbrev pub new_number : BTreeSet TxId → TxId → Result ℕ Why
-new_number numbers t = if is_taken numbers t then Err why.Repeat else Ok 0
+abbrev pub new_number : BTreeSet TxId → TxId → Result (Unit {0}) Why
+new_number numbers t = if is_taken numbers t then Err why.Repeat else Ok tt
 
 -- a script has the number
-abbrev pub known_number : BTreeSet TxId → TxId → Result ℕ Why
-known_number numbers t = if is_taken numbers t then Ok 0 else Err why.Transaction
+abbrev pub known_number : BTreeSet TxId → TxId → Result (Unit {0}) Why
+known_number numbers t = if is_taken numbers t then Ok tt else Err why.Transaction
 
 -- The cluster: 'nodes N', then 1 to 64 lines 'partition i n..', then any number of lines 'init k v'.
 
 unfoldable pub nodes_line : Draft → List (List ℕ) → Result Draft Why
 nodes_line d ws = do
   n ← number_at ws
-  count ← in_range 1 16 n.0
+  count ← in_range 1 MAX_NODES n.0
   end ← end_at n.1
   Ok (record d { nodes = count; part = part.Nodes })
 
-abbrev pub new_node : List NodeId → NodeId → Result ℕ Why
-new_node ns n = if list_any (λ m. m == n) ns then Err why.Repeat else Ok 0
+abbrev pub new_node : List NodeId → NodeId → Result (Unit {0}) Why
+new_node ns n = if list_any (λ m. m == n) ns then Err why.Repeat else Ok tt
 
 -- one node more, which is not there yet
 unfoldable pub node_step : ℕ → List NodeId → List ℕ → Result (List NodeId) Why
@@ -80,11 +78,11 @@ node_step nodes ns w = do
   Ok (ns ++ n ∷ [])
 
 -- the number of the next partition, and some words behind it
-abbrev pub is_next : ℕ → ℕ → List (List ℕ) → Result ℕ Why
-is_next next i ws = if i == next then (if length ws == 0 then Err why.Missing else Ok 0) else Err why.Partition
+abbrev pub is_next : ℕ → ℕ → List (List ℕ) → Result (Unit {0}) Why
+is_next next i ws = if i == next then (if length ws == 0 then Err why.Missing else Ok tt) else Err why.Partition
 
 unfoldable pub partition_line : Draft → List (List ℕ) → Result Draft Why
-partition_line d ws = if nat_le 64 (length d.places) then Err why.Limit else (do
+partition_line d ws = if nat_le MAX_PARTITIONS (length d.places) then Err why.Limit else (do
   i ← number_at ws
   next ← is_next (length d.places) i.0 i.1
   ns ← steps (node_step d.nodes) [] i.1
@@ -102,7 +100,7 @@ init_line d ws = do
 -- Scripts: 'tx t n', then 1 to 32 lines 'read k' or 'write k E', then 'end'.
 
 unfoldable pub tx_line : Draft → List (List ℕ) → Result Draft Why
-tx_line d ws = if nat_le 4096 (length d.scripts) then Err why.Limit else (do
+tx_line d ws = if nat_le MAX_SCRIPTS (length d.scripts) then Err why.Limit else (do
   w ← word_at ws
   t ← tx_of w.0
   new ← new_number d.numbers t
@@ -112,7 +110,7 @@ tx_line d ws = if nat_le 4096 (length d.scripts) then Err why.Limit else (do
   Ok (record d { script = Some (record { number = t; home = n; ops = [] }); numbers = with_number d.numbers t; part = part.Scripts }))
 
 unfoldable pub read_line : Draft → ScriptData → List (List ℕ) → Result Draft Why
-read_line d s ws = if nat_le 32 (length s.ops) then Err why.Limit else (do
+read_line d s ws = if nat_le MAX_OPS (length s.ops) then Err why.Limit else (do
   w ← word_at ws
   k ← key_of w.0
   known ← name_key d.known k
@@ -120,7 +118,7 @@ read_line d s ws = if nat_le 32 (length s.ops) then Err why.Limit else (do
   Ok (record d { script = Some (record s { ops = s.ops ++ op.Read k ∷ [] }); known = known }))
 
 unfoldable pub write_line : Draft → ScriptData → List (List ℕ) → Result Draft Why
-write_line d s ws = if nat_le 32 (length s.ops) then Err why.Limit else (do
+write_line d s ws = if nat_le MAX_OPS (length s.ops) then Err why.Limit else (do
   w ← word_at ws
   k ← key_of w.0
   known ← name_key d.known k
@@ -144,7 +142,7 @@ abbrev pub with_item : Draft → Item → ℕ → Draft
 with_item d i c = record d { items = d.items ++ i ∷ []; events = d.events + c }
 
 unfoldable pub begin_line : Draft → List (List ℕ) → Result Draft Why
-begin_line d ws = if nat_le 50000 d.events then Err why.Limit else (do
+begin_line d ws = if nat_le MAX_EVENTS d.events then Err why.Limit else (do
   w ← word_at ws
   t ← tx_of w.0
   known ← known_number d.numbers t
@@ -152,28 +150,28 @@ begin_line d ws = if nat_le 50000 d.events then Err why.Limit else (do
   Ok (with_item d (item.Begin t) 1))
 
 unfoldable pub deliver_line : Draft → List (List ℕ) → Result Draft Why
-deliver_line d ws = if nat_le 50000 d.events then Err why.Limit else (do
+deliver_line d ws = if nat_le MAX_EVENTS d.events then Err why.Limit else (do
   n ← number_at ws
-  m ← in_range 1 4294967295 n.0
+  m ← in_range 1 MAX_COUNT n.0
   end ← end_at n.1
   Ok (with_item d (item.Deliver m) 1))
 
 unfoldable pub drop_line : Draft → List (List ℕ) → Result Draft Why
-drop_line d ws = if nat_le 50000 d.events then Err why.Limit else (do
+drop_line d ws = if nat_le MAX_EVENTS d.events then Err why.Limit else (do
   n ← number_at ws
-  m ← in_range 1 4294967295 n.0
+  m ← in_range 1 MAX_COUNT n.0
   end ← end_at n.1
   Ok (with_item d (item.Drop m) 1))
 
 -- so many more events, at most 50,000 in all
-abbrev pub more_events : ℕ → ℕ → Result ℕ Why
-more_events events c = if nat_le (events + c) 50000 then Ok c else Err why.Limit
+abbrev pub more_events : ℕ → ℕ → Result (Unit {0}) Why
+more_events events c = if nat_le (events + c) MAX_EVENTS then Ok tt else Err why.Limit
 
 -- the limit on events is checked at the number, since the item is so many events
 unfoldable pub next_line : Draft → List (List ℕ) → Result Draft Why
 next_line d ws = do
   n ← number_at ws
-  c ← in_range 1 50000 n.0
+  c ← in_range 1 MAX_EVENTS n.0
   room ← more_events d.events c
   end ← end_at n.1
   Ok (with_item d (item.Next c) c)

@@ -5,14 +5,16 @@ ghost use Rattle.cluster_file.specs.Lines.{is_known, is_taken, with_key, with_nu
 ghost use Rattle.script_lang.specs.Words.{is_printed};
 
 use crate::drafts::{Draft, Part};
+use crate::limits::{MAX_COUNT, MAX_EVENTS, MAX_KEYS, MAX_PARTITIONS, MAX_SCRIPTS};
 use grid_model::Item;
 use score_base::{Key, Memory, NodeId, NodeList, TxId, Value};
 use script_lang::expr_words::read_expr;
+use script_lang::limits::{MAX_NODES, MAX_OPS};
 use script_lang::words::{
     NodeCount, are_printed, end_at, in_range, is_word, key_of, node_of, number_at, pieces, tx_of,
     word_at,
 };
-use script_lang::{LineEnd, ScriptDraft};
+use script_lang::{LineEnd, ScriptDraft, Why};
 use std::alloc::Global;
 use std::collections::BTreeSet;
 
@@ -42,17 +44,17 @@ fn put_number(numbers: &mut BTreeSet<TxId>, t: TxId) -> Result<(), Memory>
     Ok(())
 }
 
-fn name_key(known: &mut BTreeSet<Key>, key: Key) -> Result<u64, LineEnd>
+fn name_key(known: &mut BTreeSet<Key>, key: Key) -> Result<(), LineEnd>
     ensures { Gives (λ _. known.new) result (name_key known.old key) }
 {
     put_key(known, key)?;
-    if known.len() > 4096 {
+    if known.len() > MAX_KEYS {
         return Err(LineEnd::Why(Why::Limit));
     }
-    Ok(0)
+    Ok(())
 }
 
-fn name_new_key(known: &mut BTreeSet<Key>, key: Key) -> Result<u64, LineEnd>
+fn name_new_key(known: &mut BTreeSet<Key>, key: Key) -> Result<(), LineEnd>
     ensures { Gives (λ _. known.new) result (name_new_key known.old key) }
 {
     if is_known(known, &key) {
@@ -61,20 +63,20 @@ fn name_new_key(known: &mut BTreeSet<Key>, key: Key) -> Result<u64, LineEnd>
     name_key(known, key)
 }
 
-fn new_number(numbers: &BTreeSet<TxId>, t: &TxId) -> Result<u64, LineEnd>
-    ensures { Gives (λ n. n) result (new_number numbers.now t.now) }
+fn new_number(numbers: &BTreeSet<TxId>, t: &TxId) -> Result<(), LineEnd>
+    ensures { Gives (λ x. x) result (new_number numbers.now t.now) }
 {
     if is_taken(numbers, t) {
         return Err(LineEnd::Why(Why::Repeat));
     }
-    Ok(0)
+    Ok(())
 }
 
-fn known_number(numbers: &BTreeSet<TxId>, t: &TxId) -> Result<u64, LineEnd>
-    ensures { Gives (λ n. n) result (known_number numbers.now t.now) }
+fn known_number(numbers: &BTreeSet<TxId>, t: &TxId) -> Result<(), LineEnd>
+    ensures { Gives (λ x. x) result (known_number numbers.now t.now) }
 {
     if is_taken(numbers, t) {
-        return Ok(0);
+        return Ok(());
     }
     Err(LineEnd::Why(Why::Transaction))
 }
@@ -84,7 +86,7 @@ fn nodes_line(draft: Draft, words: &[&[u8]]) -> Result<Draft, LineEnd>
     ensures { Gives (λ d. d) result (nodes_line draft (map (λ w. w.now) words.now)) }
 {
     let (n, rest) = number_at(words)?;
-    let count = in_range(1, 16, n)?;
+    let count = in_range(1, MAX_NODES as u64, n)?;
     end_at(rest)?;
     Ok(Draft {
         nodes: NodeCount::new(count),
@@ -99,13 +101,13 @@ fn has_node(nodes: &[NodeId], node: NodeId) -> bool
     nodes.iter().any(|m| *m == node)
 }
 
-fn new_node(nodes: &[NodeId], node: NodeId) -> Result<u64, LineEnd>
-    ensures { Gives (λ n. n) result (new_node nodes.now node) }
+fn new_node(nodes: &[NodeId], node: NodeId) -> Result<(), LineEnd>
+    ensures { Gives (λ x. x) result (new_node nodes.now node) }
 {
     if has_node(nodes, node) {
         return Err(LineEnd::Why(Why::Repeat));
     }
-    Ok(0)
+    Ok(())
 }
 
 #[tactic(auto, unfolding(crate::specs::Lines::node_step))]
@@ -129,8 +131,8 @@ fn nodes_at(alloc: Global, count: NodeCount, words: &[&[u8]]) -> Result<NodeList
     Ok(nodes)
 }
 
-fn is_next(next: usize, i: u64, words: &[&[u8]]) -> Result<u64, LineEnd>
-    ensures { Gives (λ n. n) result (is_next next i (map (λ w. w.now) words.now)) }
+fn is_next(next: usize, i: u64, words: &[&[u8]]) -> Result<(), LineEnd>
+    ensures { Gives (λ x. x) result (is_next next i (map (λ w. w.now) words.now)) }
 {
     if i != next as u64 {
         return Err(LineEnd::Why(Why::Partition));
@@ -138,14 +140,14 @@ fn is_next(next: usize, i: u64, words: &[&[u8]]) -> Result<u64, LineEnd>
     if words.is_empty() {
         return Err(LineEnd::Why(Why::Missing));
     }
-    Ok(0)
+    Ok(())
 }
 
 #[tactic(auto, unfolding(crate::specs::Lines::partition_line))]
 fn partition_line(alloc: Global, mut draft: Draft, words: &[&[u8]]) -> Result<Draft, LineEnd>
     ensures { Gives (λ d. d) result (partition_line draft (map (λ w. w.now) words.now)) }
 {
-    if draft.places.len() >= 64 {
+    if draft.places.len() >= MAX_PARTITIONS {
         return Err(LineEnd::Why(Why::Limit));
     }
     let (i, rest) = number_at(words)?;
@@ -174,7 +176,7 @@ fn init_line(mut draft: Draft, words: &[&[u8]]) -> Result<Draft, LineEnd>
 fn tx_line(alloc: Global, mut draft: Draft, words: &[&[u8]]) -> Result<Draft, LineEnd>
     ensures { Gives (λ d. d) result (tx_line draft (map (λ w. w.now) words.now)) }
 {
-    if draft.scripts.len() >= 4096 {
+    if draft.scripts.len() >= MAX_SCRIPTS {
         return Err(LineEnd::Why(Why::Limit));
     }
     let (word, rest) = word_at(words)?;
@@ -193,7 +195,7 @@ fn tx_line(alloc: Global, mut draft: Draft, words: &[&[u8]]) -> Result<Draft, Li
 fn read_line(mut draft: Draft, mut script: ScriptDraft, words: &[&[u8]]) -> Result<Draft, LineEnd>
     ensures { Gives (λ d. d) result (read_line draft script (map (λ w. w.now) words.now)) }
 {
-    if script.len() >= 32 {
+    if script.len() >= MAX_OPS {
         return Err(LineEnd::Why(Why::Limit));
     }
     let (word, rest) = word_at(words)?;
@@ -214,7 +216,7 @@ fn write_line(
 ) -> Result<Draft, LineEnd>
     ensures { Gives (λ d. d) result (write_line draft script (map (λ w. w.now) words.now)) }
 {
-    if script.len() >= 32 {
+    if script.len() >= MAX_OPS {
         return Err(LineEnd::Why(Why::Limit));
     }
     let (word, rest) = word_at(words)?;
@@ -254,7 +256,7 @@ fn schedule_line(draft: Draft, words: &[&[u8]]) -> Result<Draft, LineEnd>
 fn begin_line(mut draft: Draft, words: &[&[u8]]) -> Result<Draft, LineEnd>
     ensures { Gives (λ d. d) result (begin_line draft (map (λ w. w.now) words.now)) }
 {
-    if draft.events >= 50000 {
+    if draft.events >= MAX_EVENTS {
         return Err(LineEnd::Why(Why::Limit));
     }
     let (word, rest) = word_at(words)?;
@@ -270,11 +272,11 @@ fn begin_line(mut draft: Draft, words: &[&[u8]]) -> Result<Draft, LineEnd>
 fn deliver_line(mut draft: Draft, words: &[&[u8]]) -> Result<Draft, LineEnd>
     ensures { Gives (λ d. d) result (deliver_line draft (map (λ w. w.now) words.now)) }
 {
-    if draft.events >= 50000 {
+    if draft.events >= MAX_EVENTS {
         return Err(LineEnd::Why(Why::Limit));
     }
     let (n, rest) = number_at(words)?;
-    let m = in_range(1, 4_294_967_295, n)?;
+    let m = in_range(1, MAX_COUNT, n)?;
     end_at(rest)?;
     draft.items.push(Item::Deliver(m as u32))?;
     draft.events += 1;
@@ -285,24 +287,24 @@ fn deliver_line(mut draft: Draft, words: &[&[u8]]) -> Result<Draft, LineEnd>
 fn drop_line(mut draft: Draft, words: &[&[u8]]) -> Result<Draft, LineEnd>
     ensures { Gives (λ d. d) result (drop_line draft (map (λ w. w.now) words.now)) }
 {
-    if draft.events >= 50000 {
+    if draft.events >= MAX_EVENTS {
         return Err(LineEnd::Why(Why::Limit));
     }
     let (n, rest) = number_at(words)?;
-    let m = in_range(1, 4_294_967_295, n)?;
+    let m = in_range(1, MAX_COUNT, n)?;
     end_at(rest)?;
     draft.items.push(Item::Drop(m as u32))?;
     draft.events += 1;
     Ok(draft)
 }
 
-fn more_events(events: u64, c: u64) -> Result<u64, LineEnd>
-    requires { c ≤ 50000 }
-    ensures value { Gives (λ n. n) result (more_events events c) }
-    ensures few { OnOk result (events + c ≤ 50000) }
+fn more_events(events: u64, c: u64) -> Result<(), LineEnd>
+    requires { c ≤ MAX_EVENTS }
+    ensures value { Gives (λ x. x) result (more_events events c) }
+    ensures few { OnOk result (events + c ≤ MAX_EVENTS) }
 {
-    if events <= 50000 - c {
-        Ok(c)
+    if events <= MAX_EVENTS - c {
+        Ok(())
     } else {
         Err(LineEnd::Why(Why::Limit))
     }
@@ -313,7 +315,7 @@ fn next_line(mut draft: Draft, words: &[&[u8]]) -> Result<Draft, LineEnd>
     ensures { Gives (λ d. d) result (next_line draft (map (λ w. w.now) words.now)) }
 {
     let (n, rest) = number_at(words)?;
-    let c = in_range(1, 50000, n)?;
+    let c = in_range(1, MAX_EVENTS, n)?;
     more_events(draft.events, c)?;
     end_at(rest)?;
     draft.items.push(Item::Next(c as u32))?;
