@@ -6,5 +6,6 @@ pub mod Reads
 pub mod Reading
 pub mod Words
 pub mod ExprWords
+pub mod Names
 pub mod Spelling
 pub mod ScriptLines

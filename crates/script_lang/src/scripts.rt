@@ -102,6 +102,13 @@ impl ScriptDraft {
         }
     }
 
+    /// Its number.
+    pub fn number(&self) -> TxId
+        ensures { result ≡ self.now.number }
+    {
+        self.number
+    }
+
     /// How many operations there are, at most 32.
     pub fn len(&self) -> usize
         ensures value { result ≡ length self.now.ops }
