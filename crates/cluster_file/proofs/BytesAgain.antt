@@ -15,7 +15,7 @@ use Rattle.script_lang.specs.declared.exprs.Atom.{Atom}
 use Rattle.script_lang.specs.declared.exprs.Atom.TheVariants as atom
 use Rattle.script_lang.specs.declared.exprs.Step.{Step}
 use Rattle.script_lang.specs.declared.exprs.Step.TheVariants as step
-use Rattle.script_lang.specs.Spelling.{atom_word, step_words, expr_words, op_words, is_plain_atom, is_plain_step, are_plain_steps, is_plain_expr, script_words}
+use Rattle.script_lang.specs.Spelling.{atom_word, step_words, expr_words, op_words, is_plain_atom, is_plain_step, are_plain_steps, is_plain_expr, is_plain_op, tx_words, script_words}
 use Rattle.script_lang.specs.declared.scripts.Op.{Op}
 use Rattle.script_lang.specs.declared.scripts.Op.TheVariants as op
 use Rattle.grid_model.specs.Documents.{DocumentData, IsDocument, events_of}
@@ -26,12 +26,11 @@ use Rattle.cluster_file.specs.declared.drafts.Part.TheVariants as part
 use Rattle.script_lang.specs.Reading.{◌>>=◌}
 use Rattle.cluster_file.specs.Lines.{words_line, line_of}
 use Rattle.cluster_file.specs.Doc.{◌>>>◌, at_line, is_whole, close, pieces_from, blank, document_of, doc}
-use Rattle.cluster_file.specs.Spelling.{IsBuilt, IsInRange, is_node, is_tx, is_init_in_range, has_key, is_script_in_range, is_item_in_range, node_word, nodes_words, partition_words, init_words, item_words, partition_lines, document_lines, spelling}
+use Rattle.cluster_file.specs.Spelling.{IsBuilt, IsInRange, is_node, is_tx, is_init_in_range, is_script_in_range, is_item_in_range, node_word, nodes_words, partition_words, init_words, item_words, partition_lines, document_lines, spelling}
 use Rattle.cluster_file.proofs.Bytes.{is_plain, are_plain, is_line, plain_decimal, plain_key, words_again, printed_words, lines_again}
-use Rattle.cluster_file.proofs.Again.{small}
+use Rattle.script_lang.proofs.WordsAgain.{small}
 use Rattle.cluster_file.proofs.ClusterAgain.{lines_from}
 use Rattle.cluster_file.proofs.LinesAgain.{running, document_again}
-use Rattle.cluster_file.proofs.LinesSoFar.{tx_words}
 use Rattle.script_lang.specs.declared.whys.Why.{Why}
 use Rattle.script_lang.specs.declared.whys.Why.TheVariants as why
 use Rattle.script_lang.specs.declared.limits.TheConstants.{MAX_NODES, MAX_OPS, MAX_TX}
@@ -99,7 +98,7 @@ plain_steps (s ∷ ss) h =
     let both = and_parts (is_plain_step s) (are_plain_steps ss) h in
     all_both (list_all is_plain) (step_words s) (flat_map step_words ss) (plain_step s both.0) (plain_steps ss both.1)
 
-op_line : (o : Op) → has_key o ≡ true → is_line (op_words o) ≡ true
+op_line : (o : Op) → is_plain_op o ≡ true → is_line (op_words o) ≡ true
 op_line (op.Read k) h = rw (plain_key k h) refl
 op_line (op.Write k e) h =
     let both = and_parts (is_key k) (is_plain_expr e) h in
@@ -109,13 +108,13 @@ op_line (op.Write k e) h =
 
 script_lines_are : (s : ScriptData) → is_script_in_range s ≡ true → list_all is_line (script_words s) ≡ true
 script_lines_are s h =
-    let z = and_parts (is_tx s.number && is_node s.home && nat_le 1 (length s.ops) && nat_le (length s.ops) MAX_OPS && list_all has_key s.ops) (are_sound [] s.ops) h in
-    let a = and_parts (is_tx s.number && is_node s.home && nat_le 1 (length s.ops) && nat_le (length s.ops) MAX_OPS) (list_all has_key s.ops) z.0 in
+    let z = and_parts (is_tx s.number && is_node s.home && nat_le 1 (length s.ops) && nat_le (length s.ops) MAX_OPS && list_all is_plain_op s.ops) (are_sound [] s.ops) h in
+    let a = and_parts (is_tx s.number && is_node s.home && nat_le 1 (length s.ops) && nat_le (length s.ops) MAX_OPS) (list_all is_plain_op s.ops) z.0 in
     let b = and_parts (is_tx s.number && is_node s.home && nat_le 1 (length s.ops)) (nat_le (length s.ops) MAX_OPS) a.0 in
     let c = and_parts (is_tx s.number && is_node s.home) (nat_le 1 (length s.ops)) b.0 in
     let e = and_parts (is_tx s.number) (is_node s.home) c.0 in
     let first : is_line (tx_words s) ≡ true = rw (plain_tx s.number e.0, plain_node s.home e.1) refl in
-    let rest : list_all is_line (map op_words s.ops ++ (codes "end" ∷ []) ∷ []) ≡ true = all_both is_line (map op_words s.ops) ((codes "end" ∷ []) ∷ []) (all_map has_key is_line op_words op_line s.ops a.1) refl in
+    let rest : list_all is_line (map op_words s.ops ++ (codes "end" ∷ []) ∷ []) ≡ true = all_both is_line (map op_words s.ops) ((codes "end" ∷ []) ∷ []) (all_map is_plain_op is_line op_words op_line s.ops a.1) refl in
     rw (first, rest) refl
 
 plain_small : (m : ℕ) → nat_le m MAX_COUNT ≡ true → list_all is_plain (decimal m) ≡ true

@@ -10,8 +10,9 @@ use Rattle.cluster_file.specs.declared.drafts.Draft.{Draft}
 use Rattle.cluster_file.specs.declared.drafts.Part.{Part}
 use Rattle.cluster_file.specs.declared.drafts.Part.TheVariants as part
 use Rattle.script_lang.specs.Reading.{is_word, word_at, end_at, number_at, in_range}
-use Rattle.cluster_file.specs.Lines.{is_taken, known_number, with_item, begin_line, deliver_line, drop_line, more_events, next_line, is_later_item, item_line, part_line, line_in, words_line, line_of}
+use Rattle.cluster_file.specs.Lines.{known_number, with_item, begin_line, deliver_line, drop_line, more_events, next_line, is_later_item, item_line, part_line, line_in, words_line, line_of}
 use Rattle.script_lang.specs.Words.{tx_of, is_printed}
+use Rattle.script_lang.specs.Names.{is_taken}
 use Rattle.cluster_file.specs.Doc.{close, is_whole, pieces_from, at_line, blank, document_of}
 use Rattle.std.proofs.lemmas.Bool.{and_parts}
 use Rattle.cluster_file.proofs.Members.{among_numbers}

@@ -21,12 +21,14 @@ use Rattle.placement.specs.Clusters.{are_keys_distinct}
 use Rattle.grid_model.specs.Documents.{script_numbers, are_numbers_distinct, events_of, keys_in, is_item, key_order, number_order}
 use Rattle.grid_model.specs.declared.items.Item.{Item}
 use Rattle.script_lang.specs.Reading.{in_range, steps}
-use Rattle.cluster_file.specs.Lines.{is_known, with_key, name_key, name_new_key, new_node, node_step, is_next}
+use Rattle.cluster_file.specs.Lines.{name_new_key, new_node, node_step, is_next}
 use Rattle.script_lang.specs.Words.{node_of}
 use Rattle.std.proofs.lemmas.Bool.{and_parts}
 use Rattle.cluster_file.proofs.Members.{among_numbers, among_keys, distinct_more}
 use Rattle.script_lang.proofs.Readings.{behind, either, weaken}
 use Rattle.script_lang.proofs.WordsRead.{node_read}
+use Rattle.script_lang.specs.Names.{has_name, name_key}
+use Rattle.script_lang.proofs.NamesRead.{name_read}
 use Rattle.cluster_file.proofs.Named.{numbers_last, key_order_last, number_order_last, keys_op, keys_begun, keys_init, all_last, all_but_last, known_in_inits}
 use Rattle.cluster_file.proofs.SoFar.{IsNamed, IsPlan, opened}
 use Rattle.script_lang.specs.declared.whys.Why.{Why}
@@ -63,20 +65,8 @@ steps_keep nodes ns (w ∷ ws) h some = behind (node_step nodes ns w) _ _ _ (nod
 pub is_next_keeps : (next i : ℕ) (ws : List (List ℕ)) → IfOk (is_next next i ws) (λ _. 1 ≤ length ws)
 is_next_keeps next i ws = either (i == next) _ _ _ (λ e. either (length ws == 0) _ _ _ (λ f. tt) (λ f. grind (arith, nat_tests, f))) (λ e. tt)
 
--- the keys named with one more
-pub record IsNamedBy (old : List Key) (k : Key) (new : BTreeSet Key) : Type 0 where
-  pub same : new.keys ≡ insert_key (slice_cmp nat_cmp) old k
-  pub few : length new.keys ≤ MAX_KEYS
-
-pub name_key_keeps : (known : BTreeSet Key) (k : Key) → IfOk (name_key known k) (IsNamedBy known.keys k)
-name_key_keeps known k = either (nat_le (length (with_key known k).keys) MAX_KEYS) _ _ _ (λ e. record { same = refl; few = grind (arith, nat_tests, e) }) (λ e. tt)
-
-pub name_new_key_keeps : (known : BTreeSet Key) (k : Key) → IfOk (name_new_key known k) (λ new. IsNamedBy known.keys k new × (list_any (same_key k) known.keys ≡ false))
-name_new_key_keeps known k = either (is_known known k) _ _ _ (λ e. tt) (λ e. also (name_key known k) (name_key_keeps known k) e)
-  where
-    also : (m : Result (BTreeSet Key) Why) → IfOk m (IsNamedBy known.keys k) → list_any (same_key k) known.keys ≡ false → IfOk m (λ new. IsNamedBy known.keys k new × (list_any (same_key k) known.keys ≡ false))
-    also (Ok x) h e = (h, e)
-    also (Err w) h e = tt
+pub name_new_key_keeps : (known : BTreeSet Key) (k : Key) → IfOk (name_new_key known k) (λ new. (new.keys ≡ insert_key (slice_cmp nat_cmp) known.keys k) × (length new.keys ≤ MAX_KEYS) × (list_any (same_key k) known.keys ≡ false))
+name_new_key_keeps known k = either (has_name known k) _ _ _ (λ e. tt) (λ e. weaken (name_key MAX_KEYS known k) _ _ (name_read MAX_KEYS known k) (λ new h. (ap (λ (b : BTreeSet Key). b.keys) h.0, h.1, e)))
 
 -- The parts with one more member.
 

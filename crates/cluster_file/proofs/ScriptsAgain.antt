@@ -13,7 +13,7 @@ use Rattle.score_base.specs.declared.ids.NodeId.{NodeId}
 use Rattle.score_base.specs.declared.ids.Value.{Value}
 use Rattle.score_base.specs.Keys.{is_key}
 use Rattle.script_lang.specs.Scripts.{ScriptData, are_sound}
-use Rattle.script_lang.specs.Spelling.{op_words, is_plain_expr, script_words}
+use Rattle.script_lang.specs.Spelling.{op_words, tx_words, is_plain_expr, is_plain_op, script_words}
 use Rattle.script_lang.specs.Reads.{keys_named, key_of}
 use Rattle.script_lang.specs.declared.scripts.Op.{Op}
 use Rattle.script_lang.specs.declared.scripts.Op.TheVariants as op
@@ -22,14 +22,13 @@ use Rattle.cluster_file.specs.declared.drafts.Draft.{Draft}
 use Rattle.cluster_file.specs.declared.drafts.Part.{Part}
 use Rattle.cluster_file.specs.declared.drafts.Part.TheVariants as part
 use Rattle.cluster_file.specs.Lines.{words_line, tx_line}
-use Rattle.cluster_file.specs.Spelling.{is_node, is_tx, has_key, is_script_in_range, node_word}
+use Rattle.cluster_file.specs.Spelling.{is_node, is_tx, is_script_in_range, node_word}
 use Rattle.std.proofs.lemmas.Bool.{and_parts}
 use Rattle.cluster_file.proofs.Members.{among_numbers, distinct_before}
 use Rattle.cluster_file.proofs.Named.{numbers_last, key_order_last, number_order_last, keys_op, keys_begun, keys_more_scripts, keys_more_ops, numbers_more}
 use Rattle.cluster_file.proofs.Known.{read_before}
 use Rattle.cluster_file.proofs.Again.{tx_line_again, read_line_again, write_line_again, end_line_again}
 use Rattle.cluster_file.proofs.ClusterAgain.{lines_from, then_lines, first_few, IsOpen, scripted}
-use Rattle.cluster_file.proofs.LinesSoFar.{tx_words}
 use Rattle.script_lang.specs.declared.whys.Why.{Why}
 use Rattle.script_lang.specs.declared.limits.TheConstants.{MAX_OPS}
 use Rattle.cluster_file.specs.declared.limits.TheConstants.{MAX_KEYS, MAX_SCRIPTS}
@@ -59,7 +58,7 @@ module _ (n : ℕ) (ps : List (List NodeId)) (xs : List (Key × Value)) where
       by part.Scripts h = refl
       by part.Items h = absurd h
 
-  op_words_again : (ss : List ScriptData) (s : ScriptData) (o : Op) (todo : List Op) → length s.ops < MAX_OPS → length (key_order (keys_in xs (ss ++ record s { ops = s.ops ++ o ∷ [] } ∷ []))) ≤ MAX_KEYS → has_key o ≡ true → are_sound [] (s.ops ++ o ∷ todo) ≡ true → words_line (reading n ps xs ss s) (op_words o) ≡ Ok (reading n ps xs ss (record s { ops = s.ops ++ o ∷ [] }))
+  op_words_again : (ss : List ScriptData) (s : ScriptData) (o : Op) (todo : List Op) → length s.ops < MAX_OPS → length (key_order (keys_in xs (ss ++ record s { ops = s.ops ++ o ∷ [] } ∷ []))) ≤ MAX_KEYS → is_plain_op o ≡ true → are_sound [] (s.ops ++ o ∷ todo) ≡ true → words_line (reading n ps xs ss s) (op_words o) ≡ Ok (reading n ps xs ss (record s { ops = s.ops ++ o ∷ [] }))
   op_words_again ss s o todo room few is sound =
       let more : ScriptData = record s { ops = s.ops ++ o ∷ [] } in
       let named : insert_key (slice_cmp nat_cmp) (key_order (keys_in xs (ss ++ s ∷ []))) (key_of o) ≡ key_order (keys_in xs (ss ++ more ∷ [])) = sym (key_order_last (keys_in xs (ss ++ s ∷ [])) (key_of o)) ∙ ap key_order (sym (keys_op xs ss s o)) in
@@ -68,17 +67,17 @@ module _ (n : ℕ) (ps : List (List NodeId)) (xs : List (Key × Value)) where
       ∙ ap (λ ks. Ok (record (reading n ps xs ss more) { known = record { keys = ks }; numbers = record { keys = number_order (script_numbers (ss ++ s ∷ [])) } })) named
       ∙ ap (λ ts. Ok (record (reading n ps xs ss more) { numbers = record { keys = ts } })) numbers
     where
-      by : (p : Op) → length (insert_key (slice_cmp nat_cmp) (key_order (keys_in xs (ss ++ s ∷ []))) (key_of p)) ≤ MAX_KEYS → has_key p ≡ true → are_sound [] (s.ops ++ p ∷ todo) ≡ true
+      by : (p : Op) → length (insert_key (slice_cmp nat_cmp) (key_order (keys_in xs (ss ++ s ∷ []))) (key_of p)) ≤ MAX_KEYS → is_plain_op p ≡ true → are_sound [] (s.ops ++ p ∷ todo) ≡ true
           → words_line (reading n ps xs ss s) (op_words p) ≡ Ok (record (reading n ps xs ss (record s { ops = s.ops ++ p ∷ [] })) { known = record { keys = insert_key (slice_cmp nat_cmp) (key_order (keys_in xs (ss ++ s ∷ []))) (key_of p) }; numbers = record { keys = number_order (script_numbers (ss ++ s ∷ [])) } })
       by (op.Read k) less one rest = read_line_again (record (reading n ps xs ss s) { script = None }) s k room less one
       by (op.Write k e) less one rest =
           let both = and_parts (is_key k) (is_plain_expr e) one in
           write_line_again (record (reading n ps xs ss s) { script = None }) s k e room less both.0 both.1 (read_before s.ops k e todo rest)
 
-  ops_again : (ss : List ScriptData) (s : ScriptData) (done todo : List Op) (tail : List (List (List ℕ))) → length (done ++ todo) ≤ MAX_OPS → length (key_order (keys_in xs (ss ++ record s { ops = done ++ todo } ∷ []))) ≤ MAX_KEYS → list_all has_key todo ≡ true → are_sound [] (done ++ todo) ≡ true → lines_from (reading n ps xs ss (record s { ops = done })) (map op_words todo ++ tail) ≡ lines_from (reading n ps xs ss (record s { ops = done ++ todo })) tail
+  ops_again : (ss : List ScriptData) (s : ScriptData) (done todo : List Op) (tail : List (List (List ℕ))) → length (done ++ todo) ≤ MAX_OPS → length (key_order (keys_in xs (ss ++ record s { ops = done ++ todo } ∷ []))) ≤ MAX_KEYS → list_all is_plain_op todo ≡ true → are_sound [] (done ++ todo) ≡ true → lines_from (reading n ps xs ss (record s { ops = done })) (map op_words todo ++ tail) ≡ lines_from (reading n ps xs ss (record s { ops = done ++ todo })) tail
   ops_again ss s done [] tail room few are sound = ap (λ l. lines_from (reading n ps xs ss (record s { ops = l })) tail) (sym (append-nil done))
   ops_again ss s done (o ∷ todo) tail room few are sound =
-      let a = and_parts (has_key o) (list_all has_key todo) are in
+      let a = and_parts (is_plain_op o) (list_all is_plain_op todo) are in
       let assoc : (done ++ o ∷ []) ++ todo ≡ done ++ o ∷ todo = append_assoc done (o ∷ []) todo in
       let all : keys_in xs (ss ++ record s { ops = done ++ o ∷ todo } ∷ []) ≡ keys_in xs (ss ++ record s { ops = done ++ o ∷ [] } ∷ []) ++ keys_named todo = ap (λ l. keys_in xs (ss ++ record s { ops = l } ∷ [])) (sym assoc) ∙ keys_more_ops xs ss s (done ++ o ∷ []) todo in
       then_lines (reading n ps xs ss (record s { ops = done })) (reading n ps xs ss (record s { ops = done ++ o ∷ [] })) (op_words o) (map op_words todo ++ tail) _
@@ -89,8 +88,8 @@ module _ (n : ℕ) (ps : List (List NodeId)) (xs : List (Key × Value)) where
   script_again : (p : Part) (ss : List ScriptData) (s : ScriptData) (more : List ScriptData) (tail : List (List (List ℕ))) → IsOpen p → are_numbers_distinct (script_numbers (ss ++ s ∷ more)) ≡ true → length (key_order (keys_in xs (ss ++ s ∷ []))) ≤ MAX_KEYS → length ss < MAX_SCRIPTS → nat_le s.home n ≡ true → is_script_in_range s ≡ true
       → lines_from (scripted p n ps xs ss) (script_words s ++ tail) ≡ lines_from (scripted part.Scripts n ps xs (ss ++ s ∷ [])) tail
   script_again p ss s more tail may distinct few room low is =
-      let z = and_parts (is_tx s.number && is_node s.home && nat_le 1 (length s.ops) && nat_le (length s.ops) MAX_OPS && list_all has_key s.ops) (are_sound [] s.ops) is in
-      let a = and_parts (is_tx s.number && is_node s.home && nat_le 1 (length s.ops) && nat_le (length s.ops) MAX_OPS) (list_all has_key s.ops) z.0 in
+      let z = and_parts (is_tx s.number && is_node s.home && nat_le 1 (length s.ops) && nat_le (length s.ops) MAX_OPS && list_all is_plain_op s.ops) (are_sound [] s.ops) is in
+      let a = and_parts (is_tx s.number && is_node s.home && nat_le 1 (length s.ops) && nat_le (length s.ops) MAX_OPS) (list_all is_plain_op s.ops) z.0 in
       let b = and_parts (is_tx s.number && is_node s.home && nat_le 1 (length s.ops)) (nat_le (length s.ops) MAX_OPS) a.0 in
       let c = and_parts (is_tx s.number && is_node s.home) (nat_le 1 (length s.ops)) b.0 in
       let e = and_parts (is_tx s.number) (is_node s.home) c.0 in

@@ -12,7 +12,7 @@ use Rattle.cluster_file.specs.declared.drafts.Draft.{Draft}
 use Rattle.cluster_file.specs.declared.drafts.Part.{Part}
 use Rattle.cluster_file.specs.declared.drafts.Part.TheVariants as part
 use Rattle.script_lang.specs.Reading.{is_word, word_at, end_at, number_at, in_range}
-use Rattle.cluster_file.specs.Lines.{known_number, nodes_line, schedule_line, with_item, begin_line, deliver_line, drop_line, more_events, next_line, script_line, later_line, init_or_later, is_later_item, item_line, part_line, line_in, words_line}
+use Rattle.cluster_file.specs.Lines.{known_number, nodes_line, schedule_line, with_item, begin_line, deliver_line, drop_line, more_events, next_line, later_line, init_or_later, is_later_item, item_line, part_line, line_in, words_line}
 use Rattle.script_lang.specs.Words.{tx_of}
 use Rattle.cluster_file.specs.Doc.{blank}
 use Rattle.cluster_file.specs.Spelling.{is_item_in_range, is_built_item, init_words, item_words, partition_lines}
@@ -21,7 +21,7 @@ use Rattle.script_lang.proofs.Readings.{behind, then, either}
 use Rattle.script_lang.proofs.WordsRead.{word_read, end_read, number_read, tx_read}
 use Rattle.cluster_file.proofs.SoFar.{IsStage, IsBegun, inside, outside, planned}
 use Rattle.cluster_file.proofs.LinesSoFar.{open_lines, schedule_lines, Adds, Begins, more_schedule}
-use Rattle.cluster_file.proofs.LinesTold.{in_range_told, one_number, first_told, partition_told, init_told, tx_lines_told, read_told, write_told, end_lines_told}
+use Rattle.cluster_file.proofs.LinesTold.{in_range_told, one_number, first_told, partition_told, init_told, tx_lines_told, script_told}
 use Rattle.script_lang.specs.Spelling.{script_words}
 use Rattle.script_lang.specs.declared.whys.Why.{Why}
 use Rattle.cluster_file.specs.declared.limits.TheConstants.{MAX_COUNT, MAX_EVENTS}
@@ -69,9 +69,6 @@ next_item_told d ws = behind (number_at ws) _ _ _ (number_read ws) (λ n words. 
 -- a line whose first word is c, or another
 word_or : (w c : List ℕ) (ws : List (List ℕ)) (d : Draft) (x y : Result Draft Why) → IfOk x (Adds d (c ∷ ws)) → IfOk y (Adds d (w ∷ ws)) → IfOk (cond (is_word w c) x y) (Adds d (w ∷ ws))
 word_or w c ws d x y h k = either (is_word w c) x y _ (λ e. subst (λ v. IfOk x (Adds d (v ∷ ws))) (sym ((bytes_decides w c).0 e)) h) (λ _. k)
-
-script_told : (d : Draft) (s : ScriptData) (w : List ℕ) (ws : List (List ℕ)) → IfOk (script_line (outside d) s w ws) (Adds (inside d s) (w ∷ ws))
-script_told d s w ws = word_or w (codes "read") ws (inside d s) _ _ (read_told d s ws) (word_or w (codes "write") ws (inside d s) _ _ (write_told d s ws) (word_or w (codes "end") ws (inside d s) _ _ (end_lines_told d s ws) tt))
 
 later_told : (d : Draft) (w : List ℕ) (ws : List (List ℕ)) → d.script ≡ None → d.items ≡ [] → schedule_lines d.part d.items ≡ [] → IfOk (later_line d w ws) (Adds d (w ∷ ws))
 later_told d w ws none items quiet = word_or w (codes "tx") ws d _ _ (tx_lines_told d ws none quiet) (word_or w (codes "schedule") ws d _ _ (schedule_told d ws items quiet) tt)

@@ -1,24 +1,22 @@
 -- What each line of a document adds to what was read before it, or its first why.
 use Rattle.std.specs.Prelude.{ℕ, ◌+◌, ◌==◌, ◌||◌, nat_le, Bool, List, [], ◌∷◌, ◌++◌, length, Option, Some, None, Result, Ok, Err, if◌then◌else◌, codes}
 use Rattle.std.specs.List.{slice_split, list_any, list_all}
-use Rattle.std.specs.Ordering.{nat_cmp}
-use Rattle.std.specs.Cmp.Lexicographic.{slice_cmp}
-use Rattle.std.specs.BTreeSet.{BTreeSet, insert_key}
+use Rattle.std.specs.BTreeSet.{BTreeSet}
 use Rattle.score_base.specs.declared.keys.Key.{Key}
 use Rattle.score_base.specs.declared.ids.NodeId.{NodeId}
 use Rattle.score_base.specs.declared.ids.TxId.{TxId}
-use Rattle.score_base.specs.Keys.{same_key}
 use Rattle.script_lang.specs.Scripts.{ScriptData}
-use Rattle.script_lang.specs.declared.scripts.Op.TheVariants as op
+use Rattle.script_lang.specs.declared.script_lines.Stage.{Stage}
+use Rattle.script_lang.specs.declared.script_lines.Stage.TheVariants as stage
+use Rattle.script_lang.specs.Names.{has_name, is_taken, with_number, name_key}
+use Rattle.script_lang.specs.ScriptLines.{first_line, body_line}
 use Rattle.grid_model.specs.declared.items.Item.{Item}
 use Rattle.grid_model.specs.declared.items.Item.TheVariants as item
 use Rattle.cluster_file.specs.declared.drafts.Draft.{Draft}
 use Rattle.cluster_file.specs.declared.drafts.Part.{Part}
 use Rattle.cluster_file.specs.declared.drafts.Part.TheVariants as part
-use Rattle.script_lang.specs.Reads.{known_keys}
 use Rattle.script_lang.specs.Reading.{◌>>=◌, is_word, word_at, end_at, number_at, in_range, steps}
 use Rattle.script_lang.specs.Words.{node_of, key_of, tx_of, is_printed}
-use Rattle.script_lang.specs.ExprWords.{expr_of}
 use Rattle.script_lang.specs.declared.whys.Why.{Why}
 use Rattle.script_lang.specs.declared.whys.Why.TheVariants as why
 use Rattle.script_lang.specs.declared.limits.TheConstants.{MAX_NODES, MAX_OPS}
@@ -26,33 +24,9 @@ use Rattle.cluster_file.specs.declared.limits.TheConstants.{MAX_COUNT, MAX_EVENT
 
 -- What was named before.
 
--- the key is among those named so far
-abbrev pub is_known : BTreeSet Key → Key → Bool
-is_known known k = list_any (same_key k) known.keys
-
--- the number is that of a script
-abbrev pub is_taken : BTreeSet TxId → TxId → Bool
-is_taken numbers t = list_any (λ u. u == t) numbers.keys
-
--- the keys named so far, and this one
-abbrev pub with_key : BTreeSet Key → Key → BTreeSet Key
-with_key known k = record { keys = insert_key (slice_cmp nat_cmp) known.keys k }
-
--- the numbers of the scripts, and this one
-abbrev pub with_number : BTreeSet TxId → TxId → BTreeSet TxId
-with_number numbers t = record { keys = insert_key nat_cmp numbers.keys t }
-
--- the keys named so far and this one, at most 4,096
-abbrev pub name_key : BTreeSet Key → Key → Result (BTreeSet Key) Why
-name_key known k = if nat_le (length (with_key known k).keys) MAX_KEYS then Ok (with_key known k) else Err why.Limit
-
--- the same, where the key was not named before
+-- the keys named so far and this one, which was not named before
 abbrev pub name_new_key : BTreeSet Key → Key → Result (BTreeSet Key) Why
-name_new_key known k = if is_known known k then Err why.Repeat else name_key known k
-
--- no script has the number
-abbrev pub new_number : BTreeSet TxId → TxId → Result (Unit {0}) Why
-new_number numbers t = if is_taken numbers t then Err why.Repeat else Ok tt
+name_new_key known k = if has_name known k then Err why.Repeat else name_key MAX_KEYS known k
 
 -- a script has the number
 abbrev pub known_number : BTreeSet TxId → TxId → Result (Unit {0}) Why
@@ -97,38 +71,23 @@ init_line d ws = do
   end ← end_at v.1
   Ok (record d { inits = d.inits ++ (k, v.0) ∷ []; known = known; part = part.Inits })
 
--- Scripts: 'tx t n', then 1 to 32 lines 'read k' or 'write k E', then 'end'.
+-- Scripts: their lines are those of 'ScriptLines', over the keys named so far.
 
 unfoldable pub tx_line : Draft → List (List ℕ) → Result Draft Why
 tx_line d ws = if nat_le MAX_SCRIPTS (length d.scripts) then Err why.Limit else (do
-  w ← word_at ws
-  t ← tx_of w.0
-  new ← new_number d.numbers t
-  v ← word_at w.1
-  n ← node_of d.nodes v.0
-  end ← end_at v.1
-  Ok (record d { script = Some (record { number = t; home = n; ops = [] }); numbers = with_number d.numbers t; part = part.Scripts }))
+  s ← first_line d.nodes d.numbers ws
+  Ok (record d { script = Some s; numbers = with_number d.numbers s.number; part = part.Scripts }))
 
-unfoldable pub read_line : Draft → ScriptData → List (List ℕ) → Result Draft Why
-read_line d s ws = if nat_le MAX_OPS (length s.ops) then Err why.Limit else (do
-  w ← word_at ws
-  k ← key_of w.0
-  known ← name_key d.known k
-  end ← end_at w.1
-  Ok (record d { script = Some (record s { ops = s.ops ++ op.Read k ∷ [] }); known = known }))
+-- the script of which a line was read
+abbrev pub with_stage : Draft → Stage → Draft
+with_stage d (stage.Open s) = record d { script = Some s }
+with_stage d (stage.Done s) = record d { scripts = d.scripts ++ s ∷ []; script = None }
 
-unfoldable pub write_line : Draft → ScriptData → List (List ℕ) → Result Draft Why
-write_line d s ws = if nat_le MAX_OPS (length s.ops) then Err why.Limit else (do
-  w ← word_at ws
-  k ← key_of w.0
-  known ← name_key d.known k
-  e ← expr_of (known_keys s.ops) w.1
-  Ok (record d { script = Some (record s { ops = s.ops ++ op.Write k e ∷ [] }); known = known }))
-
-unfoldable pub end_line : Draft → ScriptData → List (List ℕ) → Result Draft Why
-end_line d s ws = if length s.ops == 0 then Err why.Missing else (do
-  end ← end_at ws
-  Ok (record d { scripts = d.scripts ++ s ∷ []; script = None }))
+-- a line inside a script
+unfoldable pub script_line : Draft → ScriptData → List ℕ → List (List ℕ) → Result Draft Why
+script_line d s w ws = do
+  x ← body_line MAX_KEYS d.known s w ws
+  Ok (with_stage (record d { known = x.1 }) x.0)
 
 -- The schedule: 'schedule', then any number of items, of at most 50,000 events.
 
@@ -177,13 +136,6 @@ next_line d ws = do
   Ok (with_item d (item.Next c) c)
 
 -- Which lines may stand where.
-
--- a line inside a script
-abbrev pub script_line : Draft → ScriptData → List ℕ → List (List ℕ) → Result Draft Why
-script_line d s w ws =
-    if is_word w (codes "read") then read_line d s ws else
-    (if is_word w (codes "write") then write_line d s ws else
-    (if is_word w (codes "end") then end_line d s ws else Err why.Word))
 
 -- a line behind the initial values
 abbrev pub later_line : Draft → List ℕ → List (List ℕ) → Result Draft Why

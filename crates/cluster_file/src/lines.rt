@@ -1,15 +1,16 @@
 ghost use Rattle.std.specs.Prelude.{◌≡◌, ◌≤◌, ◌==◌, ◌+◌, [], map, OnOk};
 ghost use Rattle.std.specs.List.{list_any};
 ghost use Rattle.script_lang.specs.Reading.{Gives, steps};
-ghost use Rattle.cluster_file.specs.Lines.{is_known, is_taken, with_key, with_number, name_key, name_new_key, new_number, known_number, nodes_line, new_node, node_step, is_next, partition_line, init_line, tx_line, read_line, write_line, end_line, schedule_line, with_item, begin_line, deliver_line, drop_line, more_events, next_line, script_line, later_line, init_or_later, is_later_item, item_line, part_line, words_line, line_of};
+ghost use Rattle.cluster_file.specs.Lines.{name_new_key, known_number, nodes_line, new_node, node_step, is_next, partition_line, init_line, tx_line, with_stage, script_line, schedule_line, with_item, begin_line, deliver_line, drop_line, more_events, next_line, later_line, init_or_later, is_later_item, item_line, part_line, words_line, line_of};
 ghost use Rattle.script_lang.specs.Words.{is_printed};
 
 use crate::drafts::{Draft, Part};
 use crate::limits::{MAX_COUNT, MAX_EVENTS, MAX_KEYS, MAX_PARTITIONS, MAX_SCRIPTS};
 use grid_model::Item;
-use score_base::{Key, Memory, NodeId, NodeList, TxId, Value};
-use script_lang::expr_words::read_expr;
-use script_lang::limits::{MAX_NODES, MAX_OPS};
+use score_base::{Key, NodeId, NodeList, TxId, Value};
+use script_lang::limits::MAX_NODES;
+use script_lang::names::{has_name, is_taken, name_key, put_number};
+use script_lang::script_lines::{Stage, body_line, first_line};
 use script_lang::words::{
     NodeCount, are_printed, end_at, in_range, is_word, key_of, node_of, number_at, pieces, tx_of,
     word_at,
@@ -18,58 +19,13 @@ use script_lang::{LineEnd, ScriptDraft, Why};
 use std::alloc::Global;
 use std::collections::BTreeSet;
 
-fn is_known(known: &BTreeSet<Key>, key: &Key) -> bool
-    ensures { result ≡ is_known known.now key.now }
-{
-    known.contains(key)
-}
-
-fn is_taken(numbers: &BTreeSet<TxId>, t: &TxId) -> bool
-    ensures { result ≡ is_taken numbers.now t.now }
-{
-    numbers.contains(t)
-}
-
-fn put_key(known: &mut BTreeSet<Key>, key: Key) -> Result<(), Memory>
-    ensures { OnOk result (known.new ≡ with_key known.old key) }
-{
-    known.insert(key)?;
-    Ok(())
-}
-
-fn put_number(numbers: &mut BTreeSet<TxId>, t: TxId) -> Result<(), Memory>
-    ensures { OnOk result (numbers.new ≡ with_number numbers.old t) }
-{
-    numbers.insert(t)?;
-    Ok(())
-}
-
-fn name_key(known: &mut BTreeSet<Key>, key: Key) -> Result<(), LineEnd>
-    ensures { Gives (λ _. known.new) result (name_key known.old key) }
-{
-    put_key(known, key)?;
-    if known.len() > MAX_KEYS {
-        return Err(LineEnd::Why(Why::Limit));
-    }
-    Ok(())
-}
-
 fn name_new_key(known: &mut BTreeSet<Key>, key: Key) -> Result<(), LineEnd>
     ensures { Gives (λ _. known.new) result (name_new_key known.old key) }
 {
-    if is_known(known, &key) {
+    if has_name(known, &key) {
         return Err(LineEnd::Why(Why::Repeat));
     }
-    name_key(known, key)
-}
-
-fn new_number(numbers: &BTreeSet<TxId>, t: &TxId) -> Result<(), LineEnd>
-    ensures { Gives (λ x. x) result (new_number numbers.now t.now) }
-{
-    if is_taken(numbers, t) {
-        return Err(LineEnd::Why(Why::Repeat));
-    }
-    Ok(())
+    name_key(known, MAX_KEYS, key)
 }
 
 fn known_number(numbers: &BTreeSet<TxId>, t: &TxId) -> Result<(), LineEnd>
@@ -179,66 +135,39 @@ fn tx_line(alloc: Global, mut draft: Draft, words: &[&[u8]]) -> Result<Draft, Li
     if draft.scripts.len() >= MAX_SCRIPTS {
         return Err(LineEnd::Why(Why::Limit));
     }
-    let (word, rest) = word_at(words)?;
-    let number = tx_of(word)?;
-    new_number(&draft.numbers, &number)?;
-    let (word, rest) = word_at(rest)?;
-    let home = node_of(draft.nodes, word)?;
-    end_at(rest)?;
-    put_number(&mut draft.numbers, number)?;
-    draft.script = Some(ScriptDraft::new(alloc, number, home));
+    let script = first_line(alloc, draft.nodes, &draft.numbers, words)?;
+    put_number(&mut draft.numbers, script.number())?;
+    draft.script = Some(script);
     draft.part = Part::Scripts;
     Ok(draft)
 }
 
-#[tactic(auto, unfolding(crate::specs::Lines::read_line))]
-fn read_line(mut draft: Draft, mut script: ScriptDraft, words: &[&[u8]]) -> Result<Draft, LineEnd>
-    ensures { Gives (λ d. d) result (read_line draft script (map (λ w. w.now) words.now)) }
+/// The draft with what a line made of the script that it stands in.
+fn with_stage(mut draft: Draft, stage: Stage) -> Result<Draft, LineEnd>
+    ensures { Gives (λ d. d) result (Ok (with_stage draft stage)) }
 {
-    if script.len() >= MAX_OPS {
-        return Err(LineEnd::Why(Why::Limit));
+    match stage {
+        Stage::Open(script) => draft.script = Some(script),
+        Stage::Done(script) => {
+            draft.scripts.push(script)?;
+            draft.script = None;
+        }
     }
-    let (word, rest) = word_at(words)?;
-    let key = key_of(word)?;
-    name_key(&mut draft.known, key)?;
-    end_at(rest)?;
-    script.push_read(key)?;
-    draft.script = Some(script);
     Ok(draft)
 }
 
-#[tactic(auto, unfolding(crate::specs::Lines::write_line))]
-fn write_line(
+#[tactic(auto, unfolding(crate::specs::Lines::script_line))]
+fn script_line(
     alloc: Global,
     mut draft: Draft,
-    mut script: ScriptDraft,
-    words: &[&[u8]],
+    script: ScriptDraft,
+    word: &[u8],
+    rest: &[&[u8]],
 ) -> Result<Draft, LineEnd>
-    ensures { Gives (λ d. d) result (write_line draft script (map (λ w. w.now) words.now)) }
+    ensures { Gives (λ d. d) result (script_line draft script word.now (map (λ w. w.now) rest.now)) }
 {
-    if script.len() >= MAX_OPS {
-        return Err(LineEnd::Why(Why::Limit));
-    }
-    let (word, rest) = word_at(words)?;
-    let target = key_of(word)?;
-    name_key(&mut draft.known, target)?;
-    let expr = read_expr(alloc, script.ops(), rest)?;
-    script.push_write(target, expr)?;
-    draft.script = Some(script);
-    Ok(draft)
-}
-
-#[tactic(auto, unfolding(crate::specs::Lines::end_line))]
-fn end_line(mut draft: Draft, script: ScriptDraft, words: &[&[u8]]) -> Result<Draft, LineEnd>
-    ensures { Gives (λ d. d) result (end_line draft script (map (λ w. w.now) words.now)) }
-{
-    if script.len() == 0 {
-        return Err(LineEnd::Why(Why::Missing));
-    }
-    end_at(words)?;
-    draft.scripts.push(script.finish())?;
-    draft.script = None;
-    Ok(draft)
+    let stage = body_line(alloc, MAX_KEYS, &mut draft.known, script, word, rest)?;
+    with_stage(draft, stage)
 }
 
 #[tactic(auto, unfolding(crate::specs::Lines::schedule_line))]
@@ -321,26 +250,6 @@ fn next_line(mut draft: Draft, words: &[&[u8]]) -> Result<Draft, LineEnd>
     draft.items.push(Item::Next(c as u32))?;
     draft.events += c;
     Ok(draft)
-}
-
-fn script_line(
-    alloc: Global,
-    draft: Draft,
-    script: ScriptDraft,
-    word: &[u8],
-    rest: &[&[u8]],
-) -> Result<Draft, LineEnd>
-    ensures { Gives (λ d. d) result (script_line draft script word.now (map (λ w. w.now) rest.now)) }
-{
-    if is_word(word, b"read") {
-        read_line(draft, script, rest)
-    } else if is_word(word, b"write") {
-        write_line(alloc, draft, script, rest)
-    } else if is_word(word, b"end") {
-        end_line(draft, script, rest)
-    } else {
-        Err(LineEnd::Why(Why::Word))
-    }
 }
 
 fn later_line(alloc: Global, draft: Draft, word: &[u8], rest: &[&[u8]]) -> Result<Draft, LineEnd>
