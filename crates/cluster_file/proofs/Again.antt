@@ -1,5 +1,5 @@
 -- Each line of a spelling is read as what it spells.
-use Rattle.std.proofs.Common.{◌≡◌, ℕ, ◌+◌, ◌<◌, ◌≤◌, ◌^◌, true, false, ◌==◌, List, [], ◌∷◌, ◌++◌, length, nat_le, Bool, cond, Some, None, Result, Ok, refl, sym, ap, ◌∙◌, map, append_assoc, arith}
+use Rattle.std.proofs.Common.{codes, ◌≡◌, ℕ, ◌+◌, ◌<◌, ◌≤◌, ◌^◌, true, false, ◌==◌, List, [], ◌∷◌, ◌++◌, length, nat_le, Bool, cond, Some, None, Result, Ok, refl, sym, ap, ◌∙◌, map, append_assoc, arith}
 use Rattle.std.specs.Cmp.Lexicographic.{slice_cmp}
 use Rattle.std.specs.Ordering.{nat_cmp}
 use Rattle.std.specs.BTreeSet.{BTreeSet, insert_key}
@@ -28,50 +28,31 @@ use Rattle.grid_model.specs.declared.items.Item.TheVariants as item
 use Rattle.cluster_file.specs.declared.drafts.Draft.{Draft}
 use Rattle.cluster_file.specs.declared.drafts.Part.TheVariants as part
 use Rattle.script_lang.specs.Reading.{◌>>=◌, number_at, in_range, steps}
-use Rattle.cluster_file.specs.Lines.{is_known, is_taken, with_key, with_number, name_key, name_new_key, new_number, known_number, nodes_line, new_node, node_step, is_next, partition_line, init_line, tx_line, read_line, write_line, end_line, with_item, begin_line, deliver_line, drop_line, more_events, next_line}
+use Rattle.cluster_file.specs.Lines.{name_new_key, known_number, nodes_line, new_node, node_step, is_next, partition_line, init_line, tx_line, script_line, with_item, begin_line, deliver_line, drop_line, more_events, next_line}
 use Rattle.script_lang.specs.Words.{node_of, key_of, tx_of}
 use Rattle.cluster_file.specs.Doc.{blank}
 use Rattle.cluster_file.specs.Spelling.{is_node, is_tx, node_word}
 use Rattle.cluster_file.proofs.Members.{distinct_before}
+use Rattle.script_lang.specs.Names.{has_name, is_taken, with_key, with_number}
+use Rattle.script_lang.specs.ScriptLines.{first_line, body_line}
+use Rattle.script_lang.specs.declared.script_lines.Stage.TheVariants as stage
+use Rattle.script_lang.proofs.WordsAgain.{goes, passes, number_again, within_again, small, node_of_again, key_again, tx_again}
+use Rattle.script_lang.proofs.NamesRead.{name_again}
+use Rattle.script_lang.proofs.BodyAgain.{first_line_again, read_again, write_again, end_again}
+use Rattle.script_lang.specs.declared.whys.Why.{Why}
+use Rattle.script_lang.specs.declared.limits.TheConstants.{MAX_NODES, MAX_OPS, MAX_TX}
+use Rattle.cluster_file.specs.declared.limits.TheConstants.{MAX_COUNT, MAX_EVENTS, MAX_KEYS, MAX_PARTITIONS, MAX_SCRIPTS}
 
 -- The words.
 
--- one reader behind another
-pub goes : {A B : Type 0} (m : Result A ℕ) (f : A → Result B ℕ) (x : A) (r : Result B ℕ) → m ≡ Ok x → f x ≡ r → (m >>= f) ≡ r
-goes m f x r h k = ap (λ n. n >>= f) h ∙ k
-
--- a limit that is not reached
-pub passes : {A : Type 0} (b : Bool) (x y r : A) → b ≡ false → y ≡ r → cond b x y ≡ r
-passes b x y r h k = ap (λ c. cond c x y) h ∙ k
-
-pub number_again : (n : ℕ) (ws : List (List ℕ)) → n < 2 ^ 64 → number_at (decimal n ∷ ws) ≡ Ok (n, ws)
-unfolding number_at
-number_again n ws h = rw (number-decimal n h) refl
-
-pub within_again : (low high n : ℕ) → nat_le low n ≡ true → nat_le n high ≡ true → in_range low high n ≡ Ok n
-within_again low high n h k = rw (h, k) refl
-
-pub small : (n high : ℕ) → nat_le n high ≡ true → high ≤ 4294967295 → n < 2 ^ 64
-small n high h k =
-    let most : n ≤ high = grind (arith, nat_tests, h) in
-    omega (arith, most, k)
-
 pub node_again : (nodes n : ℕ) → nat_le n nodes ≡ true → is_node n ≡ true → node_of nodes (node_word n) ≡ Ok n
 node_again nodes n h k =
-    let both = and_parts (nat_le 1 n) (nat_le n 16) k in
-    rw (number-decimal n (small n 16 both.1 (omega arith)), both.0, h) refl
-
-pub key_again : (k : List ℕ) → is_key k ≡ true → key_of k ≡ Ok k
-key_again k h = rw h refl
-
-pub tx_again : (t : ℕ) → is_tx t ≡ true → tx_of (decimal t) ≡ Ok t
-tx_again t h =
-    let both = and_parts (nat_le 1 t) (nat_le t 65535) h in
-    rw (number-decimal t (small t 65535 both.1 (omega arith)), both.0, both.1) refl
+    let both = and_parts (nat_le 1 n) (nat_le n MAX_NODES) k in
+    node_of_again nodes n both.0 h (small n MAX_NODES both.1 (omega arith))
 
 node_step_again : (nodes : ℕ) (ns : List NodeId) (n : NodeId) → list_any (λ m. m == n) ns ≡ false → nat_le n nodes ≡ true → is_node n ≡ true → node_step nodes ns (node_word n) ≡ Ok (ns ++ n ∷ [])
 unfolding node_step
-node_step_again nodes ns n new low is = goes (node_of nodes (node_word n)) _ n _ (node_again nodes n low is) (goes (new_node ns n) _ 0 _ (rw new refl) refl)
+node_step_again nodes ns n new low is = goes (node_of nodes (node_word n)) _ n _ (node_again nodes n low is) (goes (new_node ns n) _ tt _ (rw new refl) refl)
 
 pub nodes_again : (nodes : ℕ) (acc ns : List NodeId) → are_distinct (acc ++ ns) ≡ true → list_all (λ n. nat_le n nodes) ns ≡ true → list_all is_node ns ≡ true → steps (node_step nodes) acc (map node_word ns) ≡ Ok (acc ++ ns)
 unfolding steps
@@ -83,99 +64,82 @@ nodes_again nodes acc (n ∷ ns) d low is =
     goes (node_step nodes acc (node_word n)) _ (acc ++ n ∷ []) _ (node_step_again nodes acc n new lows.0 are.0)
     (nodes_again nodes (acc ++ n ∷ []) ns (ap are_distinct (append_assoc acc (n ∷ []) ns) ∙ d) lows.1 are.1 ∙ ap Ok (append_assoc acc (n ∷ []) ns))
 
--- What was named before.
-
-pub name_again : (known : BTreeSet Key) (k : Key) → length (insert_key (slice_cmp nat_cmp) known.keys k) ≤ 4096 → name_key known k ≡ Ok (with_key known k)
-name_again known k h =
-    let room : nat_le (length (insert_key (slice_cmp nat_cmp) known.keys k)) 4096 ≡ true = grind (arith, nat_tests, h) in
-    rw room refl
-
 -- The lines.
 
-pub nodes_line_again : (n : ℕ) → nat_le 1 n ≡ true → nat_le n 16 ≡ true → nodes_line blank (decimal n ∷ []) ≡ Ok (record blank { nodes = n; part = part.Nodes })
+pub nodes_line_again : (n : ℕ) → nat_le 1 n ≡ true → nat_le n MAX_NODES ≡ true → nodes_line blank (decimal n ∷ []) ≡ Ok (record blank { nodes = n; part = part.Nodes })
 unfolding nodes_line
-nodes_line_again n h k = goes (number_at (decimal n ∷ [])) _ (n, []) _ (number_again n [] (small n 16 k (omega arith))) (goes (in_range 1 16 n) _ n _ (within_again 1 16 n h k) refl)
+nodes_line_again n h k = goes (number_at (decimal n ∷ [])) _ (n, []) _ (number_again n [] (small n 16 k (omega arith))) (goes (in_range 1 MAX_NODES n) _ n _ (within_again 1 MAX_NODES n h k) refl)
 
-next_again : (n : ℕ) (ns : List NodeId) → 1 ≤ length ns → is_next n n (map node_word ns) ≡ Ok 0
+next_again : (n : ℕ) (ns : List NodeId) → 1 ≤ length ns → is_next n n (map node_word ns) ≡ Ok tt
 next_again n [] h = absurd (omega (arith, h))
 next_again n (m ∷ ns) h =
     let some : (length (node_word m ∷ map node_word ns) == 0) ≡ false = ne_eqb (length (node_word m ∷ map node_word ns)) 0 (λ e. omega (arith, e)) in
     rw (eq-eqb n n refl, some) refl
 
-pub partition_line_again : (d : Draft) (ns : List NodeId) → length d.places < 64 → 1 ≤ length ns → are_distinct ns ≡ true → list_all (λ n. nat_le n d.nodes) ns ≡ true → list_all is_node ns ≡ true → partition_line d (decimal (length d.places) ∷ map node_word ns) ≡ Ok (record d { places = d.places ++ ns ∷ []; part = part.Partitions })
+pub partition_line_again : (d : Draft) (ns : List NodeId) → length d.places < MAX_PARTITIONS → 1 ≤ length ns → are_distinct ns ≡ true → list_all (λ n. nat_le n d.nodes) ns ≡ true → list_all is_node ns ≡ true → partition_line d (decimal (length d.places) ∷ map node_word ns) ≡ Ok (record d { places = d.places ++ ns ∷ []; part = part.Partitions })
 unfolding partition_line
 partition_line_again d ns room some distinct low are =
-    let less : nat_le 64 (length d.places) ≡ false = grind (arith, nat_tests, room) in
-    passes (nat_le 64 (length d.places)) _ _ _ less
+    let less : nat_le MAX_PARTITIONS (length d.places) ≡ false = grind (arith, nat_tests, room) in
+    passes (nat_le MAX_PARTITIONS (length d.places)) _ _ _ less
     (goes (number_at (decimal (length d.places) ∷ map node_word ns)) _ (length d.places, map node_word ns) _ (number_again (length d.places) (map node_word ns) (omega (arith, room)))
-    (goes (is_next (length d.places) (length d.places) (map node_word ns)) _ 0 _ (next_again (length d.places) ns some)
+    (goes (is_next (length d.places) (length d.places) (map node_word ns)) _ tt _ (next_again (length d.places) ns some)
     (goes (steps (node_step d.nodes) [] (map node_word ns)) _ ns _ (nodes_again d.nodes [] ns distinct low are) refl)))
 
-pub init_line_again : (d : Draft) (k : Key) (v : Value) → is_known d.known k ≡ false → length (insert_key (slice_cmp nat_cmp) d.known.keys k) ≤ 4096 → is_key k ≡ true → v < 2 ^ 64 → init_line d (k ∷ decimal v ∷ []) ≡ Ok (record d { inits = d.inits ++ (k, v) ∷ []; known = with_key d.known k; part = part.Inits })
+pub init_line_again : (d : Draft) (k : Key) (v : Value) → has_name d.known k ≡ false → length (insert_key (slice_cmp nat_cmp) d.known.keys k) ≤ MAX_KEYS → is_key k ≡ true → v < 2 ^ 64 → init_line d (k ∷ decimal v ∷ []) ≡ Ok (record d { inits = d.inits ++ (k, v) ∷ []; known = with_key d.known k; part = part.Inits })
 unfolding init_line
 init_line_again d k v new room is low =
     goes (key_of k) _ k _ (key_again k is)
-    (goes (name_new_key d.known k) _ (with_key d.known k) _ (passes (is_known d.known k) _ _ _ new (name_again d.known k room))
+    (goes (name_new_key d.known k) _ (with_key d.known k) _ (passes (has_name d.known k) _ _ _ new (name_again MAX_KEYS d.known k room))
     (goes (number_at (decimal v ∷ [])) _ (v, []) _ (number_again v [] low) refl))
 
-pub tx_line_again : (d : Draft) (t : TxId) (n : NodeId) → length d.scripts < 4096 → is_taken d.numbers t ≡ false → is_tx t ≡ true → nat_le n d.nodes ≡ true → is_node n ≡ true → tx_line d (decimal t ∷ node_word n ∷ []) ≡ Ok (record d { script = Some (record { number = t; home = n; ops = [] }); numbers = with_number d.numbers t; part = part.Scripts })
+pub tx_line_again : (d : Draft) (t : TxId) (n : NodeId) → length d.scripts < MAX_SCRIPTS → is_taken d.numbers t ≡ false → is_tx t ≡ true → nat_le n d.nodes ≡ true → is_node n ≡ true → tx_line d (decimal t ∷ node_word n ∷ []) ≡ Ok (record d { script = Some (record { number = t; home = n; ops = [] }); numbers = with_number d.numbers t; part = part.Scripts })
 unfolding tx_line
 tx_line_again d t n room new is low node =
-    let less : nat_le 4096 (length d.scripts) ≡ false = grind (arith, nat_tests, room) in
-    passes (nat_le 4096 (length d.scripts)) _ _ _ less
-    (goes (tx_of (decimal t)) _ t _ (tx_again t is)
-    (goes (new_number d.numbers t) _ 0 _ (rw new refl)
-    (goes (node_of d.nodes (node_word n)) _ n _ (node_again d.nodes n low node) refl)))
+    let less : nat_le MAX_SCRIPTS (length d.scripts) ≡ false = grind (arith, nat_tests, room) in
+    let both = and_parts (nat_le 1 n) (nat_le n MAX_NODES) node in
+    passes (nat_le MAX_SCRIPTS (length d.scripts)) _ _ _ less
+    (goes (first_line d.nodes d.numbers (decimal t ∷ node_word n ∷ [])) _ (record { number = t; home = n; ops = [] }) _ (first_line_again d.nodes d.numbers t n new is both.0 low (small n MAX_NODES both.1 (omega arith))) refl)
 
-pub read_line_again : (d : Draft) (s : ScriptData) (k : Key) → length s.ops < 32 → length (insert_key (slice_cmp nat_cmp) d.known.keys k) ≤ 4096 → is_key k ≡ true → read_line d s (k ∷ []) ≡ Ok (record d { script = Some (record s { ops = s.ops ++ op.Read k ∷ [] }); known = with_key d.known k })
-unfolding read_line
-read_line_again d s k room few is =
-    let less : nat_le 32 (length s.ops) ≡ false = grind (arith, nat_tests, room) in
-    passes (nat_le 32 (length s.ops)) _ _ _ less
-    (goes (key_of k) _ k _ (key_again k is)
-    (goes (name_key d.known k) _ (with_key d.known k) _ (name_again d.known k few) refl))
+pub read_line_again : (d : Draft) (s : ScriptData) (k : Key) → length s.ops < MAX_OPS → length (insert_key (slice_cmp nat_cmp) d.known.keys k) ≤ MAX_KEYS → is_key k ≡ true → script_line d s (codes "read") (k ∷ []) ≡ Ok (record d { script = Some (record s { ops = s.ops ++ op.Read k ∷ [] }); known = with_key d.known k })
+unfolding script_line
+read_line_again d s k room few is = goes (body_line MAX_KEYS d.known s (codes "read") (k ∷ [])) _ (stage.Open (record s { ops = s.ops ++ op.Read k ∷ [] }), with_key d.known k) _ (read_again MAX_KEYS d.known s k room few is) refl
 
-pub write_line_again : (d : Draft) (s : ScriptData) (k : Key) (e : Expr) → length s.ops < 32 → length (insert_key (slice_cmp nat_cmp) d.known.keys k) ≤ 4096 → is_key k ≡ true → is_plain_expr e ≡ true → is_expr_among (known_keys s.ops) e ≡ true → write_line d s (k ∷ expr_words e) ≡ Ok (record d { script = Some (record s { ops = s.ops ++ op.Write k e ∷ [] }); known = with_key d.known k })
-unfolding write_line
-write_line_again d s k e room few is plain among =
-    let less : nat_le 32 (length s.ops) ≡ false = grind (arith, nat_tests, room) in
-    passes (nat_le 32 (length s.ops)) _ _ _ less
-    (goes (key_of k) _ k _ (key_again k is)
-    (goes (name_key d.known k) _ (with_key d.known k) _ (name_again d.known k few)
-    (goes (expr_of (known_keys s.ops) (expr_words e)) _ e _ (expr_again (known_keys s.ops) e among plain) refl)))
+pub write_line_again : (d : Draft) (s : ScriptData) (k : Key) (e : Expr) → length s.ops < MAX_OPS → length (insert_key (slice_cmp nat_cmp) d.known.keys k) ≤ MAX_KEYS → is_key k ≡ true → is_plain_expr e ≡ true → is_expr_among (known_keys s.ops) e ≡ true → script_line d s (codes "write") (k ∷ expr_words e) ≡ Ok (record d { script = Some (record s { ops = s.ops ++ op.Write k e ∷ [] }); known = with_key d.known k })
+unfolding script_line
+write_line_again d s k e room few is plain among = goes (body_line MAX_KEYS d.known s (codes "write") (k ∷ expr_words e)) _ (stage.Open (record s { ops = s.ops ++ op.Write k e ∷ [] }), with_key d.known k) _ (write_again MAX_KEYS d.known s k e room few is plain among) refl
 
-pub end_line_again : (d : Draft) (s : ScriptData) → 1 ≤ length s.ops → end_line d s [] ≡ Ok (record d { scripts = d.scripts ++ s ∷ []; script = None })
-unfolding end_line
-end_line_again d s some = passes (length s.ops == 0) _ _ _ (ne_eqb (length s.ops) 0 (λ e. omega (arith, e, some))) refl
+pub end_line_again : (d : Draft) (s : ScriptData) → 1 ≤ length s.ops → script_line d s (codes "end") [] ≡ Ok (record d { scripts = d.scripts ++ s ∷ []; script = None })
+unfolding script_line
+end_line_again d s some = goes (body_line MAX_KEYS d.known s (codes "end") []) _ (stage.Done s, d.known) _ (end_again MAX_KEYS d.known s some) refl
 
-more_room : (events : ℕ) → events + 1 ≤ 50000 → nat_le 50000 events ≡ false
+more_room : (events : ℕ) → events + 1 ≤ MAX_EVENTS → nat_le MAX_EVENTS events ≡ false
 more_room events h = grind (arith, nat_tests, h)
 
-pub begin_line_again : (d : Draft) (t : TxId) → d.events + 1 ≤ 50000 → is_tx t ≡ true → is_taken d.numbers t ≡ true → begin_line d (decimal t ∷ []) ≡ Ok (with_item d (item.Begin t) 1)
+pub begin_line_again : (d : Draft) (t : TxId) → d.events + 1 ≤ MAX_EVENTS → is_tx t ≡ true → is_taken d.numbers t ≡ true → begin_line d (decimal t ∷ []) ≡ Ok (with_item d (item.Begin t) 1)
 unfolding begin_line
 begin_line_again d t room is known =
-    passes (nat_le 50000 d.events) _ _ _ (more_room d.events room)
+    passes (nat_le MAX_EVENTS d.events) _ _ _ (more_room d.events room)
     (goes (tx_of (decimal t)) _ t _ (tx_again t is)
-    (goes (known_number d.numbers t) _ 0 _ (rw known refl) refl))
+    (goes (known_number d.numbers t) _ tt _ (rw known refl) refl))
 
-pub deliver_line_again : (d : Draft) (m : ℕ) → d.events + 1 ≤ 50000 → nat_le 1 m ≡ true → nat_le m 4294967295 ≡ true → deliver_line d (decimal m ∷ []) ≡ Ok (with_item d (item.Deliver m) 1)
+pub deliver_line_again : (d : Draft) (m : ℕ) → d.events + 1 ≤ MAX_EVENTS → nat_le 1 m ≡ true → nat_le m MAX_COUNT ≡ true → deliver_line d (decimal m ∷ []) ≡ Ok (with_item d (item.Deliver m) 1)
 unfolding deliver_line
 deliver_line_again d m room low high =
-    passes (nat_le 50000 d.events) _ _ _ (more_room d.events room)
+    passes (nat_le MAX_EVENTS d.events) _ _ _ (more_room d.events room)
     (goes (number_at (decimal m ∷ [])) _ (m, []) _ (number_again m [] (small m 4294967295 high (omega arith)))
-    (goes (in_range 1 4294967295 m) _ m _ (within_again 1 4294967295 m low high) refl))
+    (goes (in_range 1 MAX_COUNT m) _ m _ (within_again 1 MAX_COUNT m low high) refl))
 
-pub drop_line_again : (d : Draft) (m : ℕ) → d.events + 1 ≤ 50000 → nat_le 1 m ≡ true → nat_le m 4294967295 ≡ true → drop_line d (decimal m ∷ []) ≡ Ok (with_item d (item.Drop m) 1)
+pub drop_line_again : (d : Draft) (m : ℕ) → d.events + 1 ≤ MAX_EVENTS → nat_le 1 m ≡ true → nat_le m MAX_COUNT ≡ true → drop_line d (decimal m ∷ []) ≡ Ok (with_item d (item.Drop m) 1)
 unfolding drop_line
 drop_line_again d m room low high =
-    passes (nat_le 50000 d.events) _ _ _ (more_room d.events room)
+    passes (nat_le MAX_EVENTS d.events) _ _ _ (more_room d.events room)
     (goes (number_at (decimal m ∷ [])) _ (m, []) _ (number_again m [] (small m 4294967295 high (omega arith)))
-    (goes (in_range 1 4294967295 m) _ m _ (within_again 1 4294967295 m low high) refl))
+    (goes (in_range 1 MAX_COUNT m) _ m _ (within_again 1 MAX_COUNT m low high) refl))
 
-pub next_line_again : (d : Draft) (c : ℕ) → d.events + c ≤ 50000 → nat_le 1 c ≡ true → nat_le c 50000 ≡ true → next_line d (decimal c ∷ []) ≡ Ok (with_item d (item.Next c) c)
+pub next_line_again : (d : Draft) (c : ℕ) → d.events + c ≤ MAX_EVENTS → nat_le 1 c ≡ true → nat_le c MAX_EVENTS ≡ true → next_line d (decimal c ∷ []) ≡ Ok (with_item d (item.Next c) c)
 unfolding next_line
 next_line_again d c room low high =
-    let few : nat_le (d.events + c) 50000 ≡ true = grind (arith, nat_tests, room) in
-    goes (number_at (decimal c ∷ [])) _ (c, []) _ (number_again c [] (small c 50000 high (omega arith)))
-    (goes (in_range 1 50000 c) _ c _ (within_again 1 50000 c low high)
-    (goes (more_events d.events c) _ c _ (rw few refl) refl))
+    let few : nat_le (d.events + c) MAX_EVENTS ≡ true = grind (arith, nat_tests, room) in
+    goes (number_at (decimal c ∷ [])) _ (c, []) _ (number_again c [] (small c MAX_EVENTS high (omega arith)))
+    (goes (in_range 1 MAX_EVENTS c) _ c _ (within_again 1 MAX_EVENTS c low high)
+    (goes (more_events d.events c) _ tt _ (rw few refl) refl))

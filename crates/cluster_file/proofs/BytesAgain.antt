@@ -15,7 +15,7 @@ use Rattle.script_lang.specs.declared.exprs.Atom.{Atom}
 use Rattle.script_lang.specs.declared.exprs.Atom.TheVariants as atom
 use Rattle.script_lang.specs.declared.exprs.Step.{Step}
 use Rattle.script_lang.specs.declared.exprs.Step.TheVariants as step
-use Rattle.script_lang.specs.Spelling.{atom_word, step_words, expr_words, op_words, is_plain_atom, is_plain_step, are_plain_steps, is_plain_expr, script_words}
+use Rattle.script_lang.specs.Spelling.{atom_word, step_words, expr_words, op_words, is_plain_atom, is_plain_step, are_plain_steps, is_plain_expr, is_plain_op, tx_words, script_words}
 use Rattle.script_lang.specs.declared.scripts.Op.{Op}
 use Rattle.script_lang.specs.declared.scripts.Op.TheVariants as op
 use Rattle.grid_model.specs.Documents.{DocumentData, IsDocument, events_of}
@@ -26,12 +26,15 @@ use Rattle.cluster_file.specs.declared.drafts.Part.TheVariants as part
 use Rattle.script_lang.specs.Reading.{◌>>=◌}
 use Rattle.cluster_file.specs.Lines.{words_line, line_of}
 use Rattle.cluster_file.specs.Doc.{◌>>>◌, at_line, is_whole, close, pieces_from, blank, document_of, doc}
-use Rattle.cluster_file.specs.Spelling.{IsBuilt, IsInRange, is_node, is_tx, is_init_in_range, has_key, is_script_in_range, is_item_in_range, node_word, nodes_words, partition_words, init_words, item_words, partition_lines, document_lines, spelling}
+use Rattle.cluster_file.specs.Spelling.{IsBuilt, IsInRange, is_node, is_tx, is_init_in_range, is_script_in_range, is_item_in_range, node_word, nodes_words, partition_words, init_words, item_words, partition_lines, document_lines, spelling}
 use Rattle.cluster_file.proofs.Bytes.{is_plain, are_plain, is_line, plain_decimal, plain_key, words_again, printed_words, lines_again}
-use Rattle.cluster_file.proofs.Again.{small}
+use Rattle.script_lang.proofs.WordsAgain.{small}
 use Rattle.cluster_file.proofs.ClusterAgain.{lines_from}
 use Rattle.cluster_file.proofs.LinesAgain.{running, document_again}
-use Rattle.cluster_file.proofs.LinesSoFar.{tx_words}
+use Rattle.script_lang.specs.declared.whys.Why.{Why}
+use Rattle.script_lang.specs.declared.whys.Why.TheVariants as why
+use Rattle.script_lang.specs.declared.limits.TheConstants.{MAX_NODES, MAX_OPS, MAX_TX}
+use Rattle.cluster_file.specs.declared.limits.TheConstants.{MAX_COUNT, MAX_PARTITIONS}
 
 -- The lines of a spelling are lines of words.
 
@@ -51,12 +54,12 @@ all_flat_map q p f each (x ∷ xs) h =
     all_both p (f x) (flat_map f xs) (each x both.0) (all_flat_map q p f each xs both.1)
 
 plain_node : (n : NodeId) → is_node n ≡ true → list_all is_plain (node_word n) ≡ true
-plain_node n h = rw (plain_decimal n (small n 16 (and_parts (nat_le 1 n) (nat_le n 16) h).1 (omega arith))) refl
+plain_node n h = rw (plain_decimal n (small n 16 (and_parts (nat_le 1 n) (nat_le n MAX_NODES) h).1 (omega arith))) refl
 
 plain_tx : (t : ℕ) → is_tx t ≡ true → list_all is_plain (decimal t) ≡ true
-plain_tx t h = plain_decimal t (small t 65535 (and_parts (nat_le 1 t) (nat_le t 65535) h).1 (omega arith))
+plain_tx t h = plain_decimal t (small t 65535 (and_parts (nat_le 1 t) (nat_le t MAX_TX) h).1 (omega arith))
 
-nodes_line : (n : ℕ) → n ≤ 16 → is_line (nodes_words n) ≡ true
+nodes_line : (n : ℕ) → n ≤ MAX_NODES → is_line (nodes_words n) ≡ true
 nodes_line n h = rw (plain_decimal n (omega (arith, h))) refl
 
 partition_line : (i : ℕ) (ns : List NodeId) → i < 2 ^ 64 → list_all is_node ns ≡ true → is_line (partition_words i ns) ≡ true
@@ -64,7 +67,7 @@ partition_line i ns h k =
     let long : nat_le 1 (length (codes "partition" ∷ decimal i ∷ map node_word ns)) ≡ true = grind (arith, nat_tests) in
     rw (long, plain_decimal i h, all_map is_node (list_all is_plain) node_word plain_node ns k) refl
 
-partition_lines_are : (i : ℕ) (ps : List (List NodeId)) → i + length ps ≤ 64 → list_all (list_all is_node) ps ≡ true → list_all is_line (partition_lines i ps) ≡ true
+partition_lines_are : (i : ℕ) (ps : List (List NodeId)) → i + length ps ≤ MAX_PARTITIONS → list_all (list_all is_node) ps ≡ true → list_all is_line (partition_lines i ps) ≡ true
 partition_lines_are i [] h k = refl
 partition_lines_are i (ns ∷ ps) h k =
     let both = and_parts (list_all is_node ns) (list_all (list_all is_node) ps) k in
@@ -95,7 +98,7 @@ plain_steps (s ∷ ss) h =
     let both = and_parts (is_plain_step s) (are_plain_steps ss) h in
     all_both (list_all is_plain) (step_words s) (flat_map step_words ss) (plain_step s both.0) (plain_steps ss both.1)
 
-op_line : (o : Op) → has_key o ≡ true → is_line (op_words o) ≡ true
+op_line : (o : Op) → is_plain_op o ≡ true → is_line (op_words o) ≡ true
 op_line (op.Read k) h = rw (plain_key k h) refl
 op_line (op.Write k e) h =
     let both = and_parts (is_key k) (is_plain_expr e) h in
@@ -105,16 +108,16 @@ op_line (op.Write k e) h =
 
 script_lines_are : (s : ScriptData) → is_script_in_range s ≡ true → list_all is_line (script_words s) ≡ true
 script_lines_are s h =
-    let z = and_parts (is_tx s.number && is_node s.home && nat_le 1 (length s.ops) && nat_le (length s.ops) 32 && list_all has_key s.ops) (are_sound [] s.ops) h in
-    let a = and_parts (is_tx s.number && is_node s.home && nat_le 1 (length s.ops) && nat_le (length s.ops) 32) (list_all has_key s.ops) z.0 in
-    let b = and_parts (is_tx s.number && is_node s.home && nat_le 1 (length s.ops)) (nat_le (length s.ops) 32) a.0 in
+    let z = and_parts (is_tx s.number && is_node s.home && nat_le 1 (length s.ops) && nat_le (length s.ops) MAX_OPS && list_all is_plain_op s.ops) (are_sound [] s.ops) h in
+    let a = and_parts (is_tx s.number && is_node s.home && nat_le 1 (length s.ops) && nat_le (length s.ops) MAX_OPS) (list_all is_plain_op s.ops) z.0 in
+    let b = and_parts (is_tx s.number && is_node s.home && nat_le 1 (length s.ops)) (nat_le (length s.ops) MAX_OPS) a.0 in
     let c = and_parts (is_tx s.number && is_node s.home) (nat_le 1 (length s.ops)) b.0 in
     let e = and_parts (is_tx s.number) (is_node s.home) c.0 in
     let first : is_line (tx_words s) ≡ true = rw (plain_tx s.number e.0, plain_node s.home e.1) refl in
-    let rest : list_all is_line (map op_words s.ops ++ (codes "end" ∷ []) ∷ []) ≡ true = all_both is_line (map op_words s.ops) ((codes "end" ∷ []) ∷ []) (all_map has_key is_line op_words op_line s.ops a.1) refl in
+    let rest : list_all is_line (map op_words s.ops ++ (codes "end" ∷ []) ∷ []) ≡ true = all_both is_line (map op_words s.ops) ((codes "end" ∷ []) ∷ []) (all_map is_plain_op is_line op_words op_line s.ops a.1) refl in
     rw (first, rest) refl
 
-plain_small : (m : ℕ) → nat_le m 4294967295 ≡ true → list_all is_plain (decimal m) ≡ true
+plain_small : (m : ℕ) → nat_le m MAX_COUNT ≡ true → list_all is_plain (decimal m) ≡ true
 plain_small m h = plain_decimal m (small m 4294967295 h (omega arith))
 
 plain_long : (m : ℕ) → nat_lt m (2 ^ 64) ≡ true → list_all is_plain (decimal m) ≡ true
@@ -153,7 +156,7 @@ unfolding line_of
 line_again d [] h = cc
 line_again d (w ∷ ws) h =
     let plain = (and_parts (nat_le 1 (length (w ∷ ws))) (are_plain (w ∷ ws)) h).1 in
-    ap (λ b. cond b (words_line d (slice_split (λ b. b == 32) (join_with_byte 32 (w ∷ ws)))) (Err 11)) (printed_words (w ∷ ws) plain) ∙ ap (words_line d) (words_again w ws plain)
+    ap (λ b. cond b (words_line d (slice_split (λ b. b == 32) (join_with_byte 32 (w ∷ ws)))) (Err why.Byte)) (printed_words (w ∷ ws) plain) ∙ ap (words_line d) (words_again w ws plain)
 
 more_behind : (xs : List (List ℕ)) → (length (xs ++ [] ∷ []) == 0) ≡ false
 more_behind xs = ne_eqb (length (xs ++ [] ∷ [])) 0 (λ e. omega (arith, e, length-append xs ([] ∷ [])))
@@ -168,7 +171,7 @@ pieces_again d e n (ws ∷ ls) h k ended =
     let both = and_parts (is_line ws) (list_all is_line ls) h in
     by (words_line d ws) refl k both.0 (λ f rest. pieces_again f e (n + 1) ls both.1 rest ended)
   where
-    by : (m : Result Draft ℕ) → words_line d ws ≡ m → (m >>= λ f. lines_from f ls) ≡ Ok e → is_line ws ≡ true → ((f : Draft) → lines_from f ls ≡ Ok e → pieces_from f (n + 1) (map (join_with_byte 32) ls ++ [] ∷ []) ≡ Ok e) → pieces_from d n (join_with_byte 32 ws ∷ (map (join_with_byte 32) ls ++ [] ∷ [])) ≡ Ok e
+    by : (m : Result Draft Why) → words_line d ws ≡ m → (m >>= λ f. lines_from f ls) ≡ Ok e → is_line ws ≡ true → ((f : Draft) → lines_from f ls ≡ Ok e → pieces_from f (n + 1) (map (join_with_byte 32) ls ++ [] ∷ []) ≡ Ok e) → pieces_from d n (join_with_byte 32 ws ∷ (map (join_with_byte 32) ls ++ [] ∷ [])) ≡ Ok e
     by (Ok f) read rest is again =
         ap (λ b. cond b (at_line n (close d (join_with_byte 32 ws))) (at_line n (line_of d (join_with_byte 32 ws)) >>> λ g. pieces_from g (n + 1) (map (join_with_byte 32) ls ++ [] ∷ []))) (more_behind (map (join_with_byte 32) ls))
         ∙ ap (λ m. at_line n m >>> λ g. pieces_from g (n + 1) (map (join_with_byte 32) ls ++ [] ∷ [])) (line_again d ws is ∙ read)

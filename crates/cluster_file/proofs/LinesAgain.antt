@@ -26,6 +26,9 @@ use Rattle.cluster_file.proofs.Again.{nodes_line_again, begin_line_again, delive
 use Rattle.cluster_file.proofs.ClusterAgain.{lines_from, then_lines, first_few, placed, places_again, IsOpen, is_open, scripted, inits_again}
 use Rattle.cluster_file.proofs.ScriptsAgain.{scripts_again}
 use Rattle.script_lang.specs.Spelling.{script_words}
+use Rattle.script_lang.specs.declared.whys.Why.{Why}
+use Rattle.script_lang.specs.declared.limits.TheConstants.{MAX_NODES}
+use Rattle.cluster_file.specs.declared.limits.TheConstants.{MAX_EVENTS, MAX_KEYS}
 
 -- a draft of these items so far
 abbrev pub running : ℕ → List (List NodeId) → List (Key × Value) → List ScriptData → List Item → ℕ → Draft
@@ -41,12 +44,12 @@ module _ (n : ℕ) (ps : List (List NodeId)) (xs : List (Key × Value)) where
   schedule_again part.Scripts ss h = refl
   schedule_again part.Items ss h = absurd h
 
-  item_words_again : (ss : List ScriptData) (items : List Item) (events : ℕ) (i : Item) → events + events_of i ≤ 50000 → is_item n (script_numbers ss) i ≡ true → is_item_in_range i ≡ true → is_built_item i ≡ true → words_line (running n ps xs ss items events) (item_words i) ≡ Ok (running n ps xs ss (items ++ i ∷ []) (events + events_of i))
+  item_words_again : (ss : List ScriptData) (items : List Item) (events : ℕ) (i : Item) → events + events_of i ≤ MAX_EVENTS → is_item n (script_numbers ss) i ≡ true → is_item_in_range i ≡ true → is_built_item i ≡ true → words_line (running n ps xs ss items events) (item_words i) ≡ Ok (running n ps xs ss (items ++ i ∷ []) (events + events_of i))
   item_words_again ss items events (item.Begin t) room is short built = begin_line_again (running n ps xs ss items events) t room short (among_numbers t (script_numbers ss) ∙ is)
   item_words_again ss items events (item.Deliver m) room is short built = deliver_line_again (running n ps xs ss items events) m room is short
   item_words_again ss items events (item.Drop m) room is short built = drop_line_again (running n ps xs ss items events) m room is short
   item_words_again ss items events (item.Next c) room is short built =
-      let both = and_parts (nat_le 1 c) (nat_le c 50000) is in
+      let both = and_parts (nat_le 1 c) (nat_le c MAX_EVENTS) is in
       next_line_again (running n ps xs ss items events) c room both.0 both.1
   item_words_again ss items events (item.Retry t) room is short built = cc
   item_words_again ss items events (item.Ask m t) room is short built = cc
@@ -54,7 +57,7 @@ module _ (n : ℕ) (ps : List (List NodeId)) (xs : List (Key × Value)) where
   item_words_again ss items events (item.Fuse m k how) room is short built = cc
   item_words_again ss items events (item.Restart m) room is short built = cc
 
-  items_again : (ss : List ScriptData) (done todo : List Item) (events : ℕ) → events + sum_by events_of todo ≤ 50000 → list_all (is_item n (script_numbers ss)) todo ≡ true → list_all is_item_in_range todo ≡ true → list_all is_built_item todo ≡ true → lines_from (running n ps xs ss done events) (map item_words todo) ≡ Ok (running n ps xs ss (done ++ todo) (events + sum_by events_of todo))
+  items_again : (ss : List ScriptData) (done todo : List Item) (events : ℕ) → events + sum_by events_of todo ≤ MAX_EVENTS → list_all (is_item n (script_numbers ss)) todo ≡ true → list_all is_item_in_range todo ≡ true → list_all is_built_item todo ≡ true → lines_from (running n ps xs ss done events) (map item_words todo) ≡ Ok (running n ps xs ss (done ++ todo) (events + sum_by events_of todo))
   unfolding lines_from
   items_again ss done [] events room is short built =
       let none : events ≡ events + sum_by events_of [] = omega arith in
@@ -81,11 +84,11 @@ document_again d h r b =
     let scripts_left : List (List (List ℕ)) = flat_map script_words d.scripts ++ ((codes "schedule" ∷ []) ∷ items_left) in
     let inits_left : List (List (List ℕ)) = map init_words xs ++ scripts_left in
     let least : nat_le 1 n ≡ true = grind (arith, nat_tests, h.cluster.least) in
-    let most : nat_le n 16 ≡ true = grind (arith, nat_tests, h.cluster.most) in
-    let end : Result Draft ℕ = Ok (running n ps xs d.scripts d.items (0 + sum_by events_of d.items)) in
+    let most : nat_le n MAX_NODES ≡ true = grind (arith, nat_tests, h.cluster.most) in
+    let end : Result Draft Why = Ok (running n ps xs d.scripts d.items (0 + sum_by events_of d.items)) in
     let last : (p : Part) → IsOpen p → lines_from (scripted p n ps xs d.scripts) ((codes "schedule" ∷ []) ∷ items_left) ≡ end =
     λ p may. then_lines (scripted p n ps xs d.scripts) (running n ps xs d.scripts [] 0) (codes "schedule" ∷ []) items_left end (schedule_again n ps xs p d.scripts may) (items_again n ps xs d.scripts [] d.items 0 (omega (arith, h.events)) h.items r.items b.items) in
-    let init_keys : length (key_order (keys_in xs [])) ≤ 4096 = first_few (keys_in xs []) (flat_map (λ s. keys_named s.ops) d.scripts) (keys_in xs d.scripts) (keys_more_scripts xs [] d.scripts) h.keys in
+    let init_keys : length (key_order (keys_in xs [])) ≤ MAX_KEYS = first_few (keys_in xs []) (flat_map (λ s. keys_named s.ops) d.scripts) (keys_in xs d.scripts) (keys_more_scripts xs [] d.scripts) h.keys in
     then_lines blank (placed part.Nodes n []) (nodes_words n) (partition_lines 0 ps ++ inits_left) end (nodes_line_again n least most)
     (places_again n ps inits_left h.cluster.places.least h.cluster.places.most h.cluster.places.each h.cluster.within r.places
     ∙ inits_again n ps part.Partitions [] xs scripts_left end tt h.cluster.inits init_keys r.inits (λ p early.

@@ -4,19 +4,16 @@ use Rattle.std.specs.List.{list_all, flat_map}
 use Rattle.std.proofs.lemmas.List.{append-nil}
 use Rattle.score_base.specs.declared.ids.NodeId.{NodeId}
 use Rattle.script_lang.specs.Scripts.{ScriptData, IsFront}
-use Rattle.script_lang.specs.Spelling.{op_words, script_words}
+use Rattle.script_lang.specs.Spelling.{op_words, tx_words, script_words, is_plain_op}
 use Rattle.grid_model.specs.declared.items.Item.{Item}
 use Rattle.cluster_file.specs.declared.drafts.Draft.{Draft}
 use Rattle.cluster_file.specs.declared.drafts.Part.{Part}
 use Rattle.cluster_file.specs.declared.drafts.Part.TheVariants as part
 use Rattle.std.specs.Fmt.{decimal}
-use Rattle.cluster_file.specs.Spelling.{is_node, is_tx, is_init_in_range, is_script_in_range, is_item_in_range, has_key, is_built_item, node_word, nodes_words, partition_words, init_words, item_words, partition_lines}
+use Rattle.cluster_file.specs.Spelling.{is_node, is_tx, is_init_in_range, is_script_in_range, is_item_in_range, is_built_item, node_word, nodes_words, partition_words, init_words, item_words, partition_lines}
+use Rattle.script_lang.specs.declared.limits.TheConstants.{MAX_NODES}
 
 -- The lines of what was read.
-
--- the words of the first line of a script
-abbrev pub tx_words : ScriptData → List (List ℕ)
-tx_words s = codes "tx" ∷ decimal s.number ∷ node_word s.home ∷ []
 
 abbrev pub open_lines : Option ScriptData → List (List (List ℕ))
 open_lines None = []
@@ -41,7 +38,7 @@ pub record IsOpened (s : ScriptData) : Type 0 where
   pub number : is_tx s.number ≡ true
   pub home : is_node s.home ≡ true
   pub front : IsFront s.ops
-  pub keys : list_all has_key s.ops ≡ true
+  pub keys : list_all is_plain_op s.ops ≡ true
 
 abbrev pub MayBeOpened : Option ScriptData → Type 0
 MayBeOpened None = Unit {0}
@@ -59,7 +56,7 @@ pub record IsInRangeSoFar (d : Draft) : Type 0 where
 -- one line more
 pub record Adds (d : Draft) (ws : List (List ℕ)) (e : Draft) : Type 0 where
   pub lines : lines_so_far e ≡ lines_so_far d ++ ws ∷ []
-  pub ranges : d.nodes ≤ 16 → IsInRangeSoFar d → IsInRangeSoFar e
+  pub ranges : d.nodes ≤ MAX_NODES → IsInRangeSoFar d → IsInRangeSoFar e
 
 -- the first line
 pub record Begins (ws : List (List ℕ)) (d : Draft) : Type 0 where

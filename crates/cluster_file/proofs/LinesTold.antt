@@ -14,47 +14,54 @@ use Rattle.script_lang.specs.declared.scripts.Op.TheVariants as op
 use Rattle.script_lang.specs.Exprs.{is_expr_among}
 use Rattle.script_lang.specs.Reads.{known_keys}
 use Rattle.script_lang.specs.ExprWords.{expr_of}
-use Rattle.script_lang.specs.Spelling.{op_words, expr_words, script_words}
+use Rattle.script_lang.specs.Spelling.{op_words, tx_words, script_words, is_plain_op}
 use Rattle.script_lang.proofs.Sound.{IsFront-read, IsFront-write}
-use Rattle.script_lang.proofs.StepsRead.{IsExprOf, expr_read}
+use Rattle.script_lang.proofs.BodyRead.{is_op_among, Follows, first_line_read, body_read}
+use Rattle.script_lang.specs.ScriptLines.{first_line, body_line}
+use Rattle.script_lang.specs.declared.script_lines.Stage.{Stage}
+use Rattle.script_lang.specs.declared.script_lines.Stage.TheVariants as stage
+use Rattle.std.specs.BTreeSet.{BTreeSet}
 use Rattle.cluster_file.specs.declared.drafts.Draft.{Draft}
 use Rattle.script_lang.specs.Reading.{word_at, end_at, number_at, in_range, steps}
-use Rattle.cluster_file.specs.Lines.{name_key, name_new_key, new_number, nodes_line, new_node, node_step, is_next, partition_line, init_line, tx_line, read_line, write_line, end_line}
+use Rattle.cluster_file.specs.Lines.{name_new_key, nodes_line, new_node, node_step, is_next, partition_line, init_line, tx_line, with_stage, script_line}
 use Rattle.script_lang.specs.Words.{node_of, key_of, tx_of}
 use Rattle.cluster_file.specs.Doc.{blank}
-use Rattle.cluster_file.specs.Spelling.{is_node, is_init_in_range, is_script_in_range, has_key, node_word, partition_words, init_words, partition_lines}
+use Rattle.cluster_file.specs.Spelling.{is_node, is_init_in_range, is_script_in_range, node_word, partition_words, init_words, partition_lines}
 use Rattle.std.proofs.lemmas.Bool.{and_parts}
 use Rattle.cluster_file.proofs.Named.{all_last}
 use Rattle.script_lang.proofs.Readings.{behind, then, either, weaken}
 use Rattle.script_lang.proofs.WordsRead.{word_read, end_read, number_read, key_read, tx_read, node_read}
 use Rattle.cluster_file.proofs.SoFar.{inside, outside}
-use Rattle.cluster_file.proofs.LinesSoFar.{open_lines, schedule_lines, lines_so_far, IsOpened, Adds, Begins, more_script, more_scripts, more_inits, more_partitions, partition_next, tx_words}
+use Rattle.cluster_file.proofs.LinesSoFar.{open_lines, schedule_lines, lines_so_far, IsOpened, Adds, Begins, more_script, more_scripts, more_inits, more_partitions, partition_next}
+use Rattle.script_lang.specs.declared.whys.Why.{Why}
+use Rattle.script_lang.specs.declared.limits.TheConstants.{MAX_NODES, MAX_OPS}
+use Rattle.cluster_file.specs.declared.limits.TheConstants.{MAX_PARTITIONS, MAX_SCRIPTS}
 
 -- The words.
 
 pub in_range_told : (low high n : ℕ) → IfOk (in_range low high n) (λ m. (m ≡ n) × (nat_le m high ≡ true))
 in_range_told low high n = either (nat_le low n && nat_le n high) _ _ _ (λ e. (refl, (and_parts (nat_le low n) (nat_le n high) e).1)) (λ e. tt)
 
-in_cluster : (nodes n : ℕ) → (nat_le 1 n && nat_le n nodes) ≡ true → nodes ≤ 16 → is_node n ≡ true
+in_cluster : (nodes n : ℕ) → (nat_le 1 n && nat_le n nodes) ≡ true → nodes ≤ MAX_NODES → is_node n ≡ true
 in_cluster nodes n h few =
     let both = and_parts (nat_le 1 n) (nat_le n nodes) h in
-    let most : nat_le n 16 ≡ true = grind (arith, nat_tests, both.1, few) in
+    let most : nat_le n MAX_NODES ≡ true = grind (arith, nat_tests, both.1, few) in
     rw (both.0, most) refl
 
-node_told : (nodes : ℕ) (w : List ℕ) → IfOk (node_of nodes w) (λ n. (w ≡ node_word n) × (nodes ≤ 16 → is_node n ≡ true))
+node_told : (nodes : ℕ) (w : List ℕ) → IfOk (node_of nodes w) (λ n. (w ≡ node_word n) × (nodes ≤ MAX_NODES → is_node n ≡ true))
 node_told nodes w = weaken (node_of nodes w) _ _ (node_read nodes w) (λ n h. (h.0, λ few. in_cluster nodes n h.1 few))
 
-node_step_told : (nodes : ℕ) (ns : List NodeId) (w : List ℕ) → IfOk (node_step nodes ns w) (λ ms. (map node_word ms ≡ map node_word ns ++ w ∷ []) × (nodes ≤ 16 → list_all is_node ns ≡ true → list_all is_node ms ≡ true))
+node_step_told : (nodes : ℕ) (ns : List NodeId) (w : List ℕ) → IfOk (node_step nodes ns w) (λ ms. (map node_word ms ≡ map node_word ns ++ w ∷ []) × (nodes ≤ MAX_NODES → list_all is_node ns ≡ true → list_all is_node ms ≡ true))
 unfolding node_step
 node_step_told nodes ns w = behind (node_of nodes w) _ _ _ (node_told nodes w) (λ n e. then (new_node ns n) _ _ (λ _. (map-append node_word ns (n ∷ []) ∙ ap (λ v. map node_word ns ++ v ∷ []) (sym e.0), λ few are. all_last is_node ns n are (e.1 few))))
 
-nodes_told : (nodes : ℕ) (ns : List NodeId) (ws : List (List ℕ)) → IfOk (steps (node_step nodes) ns ws) (λ ms. (map node_word ms ≡ map node_word ns ++ ws) × (nodes ≤ 16 → list_all is_node ns ≡ true → list_all is_node ms ≡ true))
+nodes_told : (nodes : ℕ) (ns : List NodeId) (ws : List (List ℕ)) → IfOk (steps (node_step nodes) ns ws) (λ ms. (map node_word ms ≡ map node_word ns ++ ws) × (nodes ≤ MAX_NODES → list_all is_node ns ≡ true → list_all is_node ms ≡ true))
 unfolding steps
 nodes_told nodes ns [] = (sym (append-nil (map node_word ns)), λ few are. are)
 nodes_told nodes ns (w ∷ ws) = behind (node_step nodes ns w) _ _ _ (node_step_told nodes ns w) (λ ms e. by (steps (node_step nodes) ms ws) ms (nodes_told nodes ms ws) (ap (λ l. l ++ ws) e.0 ∙ append_assoc (map node_word ns) (w ∷ []) ws) e.1)
   where
-    by : (m : Result (List NodeId) ℕ) (ms : List NodeId) → IfOk m (λ ks. (map node_word ks ≡ map node_word ms ++ ws) × (nodes ≤ 16 → list_all is_node ms ≡ true → list_all is_node ks ≡ true)) → map node_word ms ++ ws ≡ map node_word ns ++ w ∷ ws → (nodes ≤ 16 → list_all is_node ns ≡ true → list_all is_node ms ≡ true)
-        → IfOk m (λ ks. (map node_word ks ≡ map node_word ns ++ w ∷ ws) × (nodes ≤ 16 → list_all is_node ns ≡ true → list_all is_node ks ≡ true))
+    by : (m : Result (List NodeId) Why) (ms : List NodeId) → IfOk m (λ ks. (map node_word ks ≡ map node_word ms ++ ws) × (nodes ≤ MAX_NODES → list_all is_node ms ≡ true → list_all is_node ks ≡ true)) → map node_word ms ++ ws ≡ map node_word ns ++ w ∷ ws → (nodes ≤ MAX_NODES → list_all is_node ns ≡ true → list_all is_node ms ≡ true)
+        → IfOk m (λ ks. (map node_word ks ≡ map node_word ns ++ w ∷ ws) × (nodes ≤ MAX_NODES → list_all is_node ns ≡ true → list_all is_node ks ≡ true))
     by (Ok ks) ms h e are = (h.0 ∙ e, λ few is. h.1 few (are few is))
     by (Err v) ms h e are = tt
 
@@ -67,7 +74,7 @@ one_number ws n m words same none = ap (λ k. decimal k ∷ []) same ∙ ap (λ 
 -- the first line
 pub first_told : (ws : List (List ℕ)) → IfOk (nodes_line blank ws) (Begins (codes "nodes" ∷ ws))
 unfolding nodes_line
-first_told ws = behind (number_at ws) _ _ _ (number_read ws) (λ n words. behind (in_range 1 16 n.0) _ _ _ (in_range_told 1 16 n.0) (λ c same. behind (end_at n.1) _ _ _ (end_read n.1) (λ z none.
+first_told ws = behind (number_at ws) _ _ _ (number_read ws) (λ n words. behind (in_range 1 MAX_NODES n.0) _ _ _ (in_range_told 1 MAX_NODES n.0) (λ c same. behind (end_at n.1) _ _ _ (end_read n.1) (λ z none.
     record {
       lines = ap (λ l. (codes "nodes" ∷ l) ∷ []) (one_number ws n c words.0 same.0 none);
       ranges = record { places = refl; inits = refl; scripts = refl; opened = tt; items = refl; built = refl };
@@ -75,7 +82,7 @@ first_told ws = behind (number_at ws) _ _ _ (number_read ws) (λ n words. behind
 
 pub partition_told : (d : Draft) (ws : List (List ℕ)) → d.inits ≡ [] → d.scripts ≡ [] → d.script ≡ None → schedule_lines d.part d.items ≡ [] → IfOk (partition_line d ws) (Adds d (codes "partition" ∷ ws))
 unfolding partition_line
-partition_told d ws bare ss none quiet = either (nat_le 64 (length d.places)) _ _ _ (λ _. tt) (λ _. behind (number_at ws) _ _ _ (number_read ws) (λ i words. behind (is_next (length d.places) i.0 i.1) _ _ _ (next_told (length d.places) i.0 i.1) (λ z same. behind (steps (node_step d.nodes) [] i.1) _ _ _ (nodes_told d.nodes [] i.1) (λ ns nodes.
+partition_told d ws bare ss none quiet = either (nat_le MAX_PARTITIONS (length d.places)) _ _ _ (λ _. tt) (λ _. behind (number_at ws) _ _ _ (number_read ws) (λ i words. behind (is_next (length d.places) i.0 i.1) _ _ _ (next_told (length d.places) i.0 i.1) (λ z same. behind (steps (node_step d.nodes) [] i.1) _ _ _ (nodes_told d.nodes [] i.1) (λ ns nodes.
     let all : partition_words (length d.places) ns ≡ codes "partition" ∷ ws = ap (λ l. codes "partition" ∷ decimal (length d.places) ∷ l) nodes.0 ∙ ap (λ j. codes "partition" ∷ decimal j ∷ i.1) (sym same) ∙ ap (λ l. codes "partition" ∷ l) (sym words.0) in
     record {
       lines = more_partitions _ _ (partition_lines 0 d.places) (partition_lines 0 (d.places ++ ns ∷ [])) (map init_words d.inits) (flat_map script_words d.scripts) (open_lines d.script) (schedule_lines d.part d.items)
@@ -102,21 +109,17 @@ init_told d ws ss none quiet = behind (word_at ws) _ _ _ (word_read ws) (λ w wo
 
 pub tx_lines_told : (d : Draft) (ws : List (List ℕ)) → d.script ≡ None → schedule_lines d.part d.items ≡ [] → IfOk (tx_line d ws) (Adds d (codes "tx" ∷ ws))
 unfolding tx_line
-tx_lines_told d ws none quiet = either (nat_le 4096 (length d.scripts)) _ _ _ (λ _. tt) (λ _. behind (word_at ws) _ _ _ (word_read ws) (λ w words. behind (tx_of w.0) _ _ _ (tx_read w.0) (λ t number. then (new_number d.numbers t) _ _ (λ _. behind (word_at w.1) _ _ _ (word_read w.1) (λ v more. behind (node_of d.nodes v.0) _ _ _ (node_told d.nodes v.0) (λ n home. behind (end_at v.1) _ _ _ (end_read v.1) (λ z none_left.
-    let all : ws ≡ decimal t ∷ node_word n ∷ [] = words ∙ ap (λ l. l ∷ w.1) number.0 ∙ ap (λ l. decimal t ∷ l) (more ∙ ap (λ l. l ∷ v.1) home.0 ∙ ap (λ l. node_word n ∷ l) none_left) in
-    record {
-      lines = more_script _ _ (partition_lines 0 d.places) (map init_words d.inits) (flat_map script_words d.scripts) (open_lines d.script) ((codes "tx" ∷ decimal t ∷ node_word n ∷ []) ∷ []) (schedule_lines d.part d.items)
-          (ap (λ l. (codes "tx" ∷ l) ∷ []) (sym all) ∙ ap (λ l. l ++ (codes "tx" ∷ ws) ∷ []) (sym (ap open_lines none)))
-          quiet;
-      ranges = λ few r. record { places = r.places; inits = r.inits; scripts = r.scripts; opened = record { number = number.1; home = home.1 few; front = record { most = omega arith; sound = refl }; keys = refl }; items = r.items; built = r.built };
-    })))))))
+tx_lines_told d ws none quiet = either (nat_le MAX_SCRIPTS (length d.scripts)) _ _ _ (λ _. tt) (λ _. behind (first_line d.nodes d.numbers ws) _ _ _ (first_line_read d.nodes d.numbers ws) (λ s first. record {
+  lines = more_script _ _ (partition_lines 0 d.places) (map init_words d.inits) (flat_map script_words d.scripts) (open_lines d.script) (open_lines (Some s)) (schedule_lines d.part d.items)
+      (ap (λ ops. tx_words s ∷ map op_words ops) first.bare ∙ ap (λ l. l ∷ []) (sym first.spelled) ∙ ap (λ l. l ++ (codes "tx" ∷ ws) ∷ []) (sym (ap open_lines none)))
+      quiet;
+  ranges = λ few r. record { places = r.places; inits = r.inits; scripts = r.scripts; opened = record { number = first.tx; home = in_cluster d.nodes s.home first.node few; front = rw first.bare (record { most = omega arith; sound = refl }); keys = rw first.bare refl }; items = r.items; built = r.built };
+}))
 
 -- with room for one more operation, they stay a front
-front_read : (ops : List Op) (k : Key) → nat_le 32 (length ops) ≡ false → IsFront ops → IsFront (ops ++ op.Read k ∷ [])
-front_read ops k room front = IsFront-read {E = ℕ} (Ok k) ops (ops ++ op.Read k ∷ []) k front (grind (arith, nat_tests, room)) refl tt
-
-front_write : (ops : List Op) (k : Key) (e : Expr) → nat_le 32 (length ops) ≡ false → is_expr_among (known_keys ops) e ≡ true → IsFront ops → IsFront (ops ++ op.Write k e ∷ [])
-front_write ops k e room among front = IsFront-write {E = ℕ} (Ok k) ops (ops ++ op.Write k e ∷ []) k e front (grind (arith, nat_tests, room)) among refl tt
+front_more : (ops : List Op) (o : Op) → length ops < MAX_OPS → is_op_among (known_keys ops) o ≡ true → IsFront ops → IsFront (ops ++ o ∷ [])
+front_more ops (op.Read k) room among front = IsFront-read {E = ℕ} (Ok k) ops (ops ++ op.Read k ∷ []) k front room refl tt
+front_more ops (op.Write k e) room among front = IsFront-write {E = ℕ} (Ok k) ops (ops ++ op.Write k e ∷ []) k e front room among refl tt
 
 -- a line of an operation adds its words
 op_lines : (d : Draft) (s : ScriptData) (o : Op) (ws : List (List ℕ)) → ws ≡ op_words o → lines_so_far (inside d (record s { ops = s.ops ++ o ∷ [] })) ≡ lines_so_far (inside d s) ++ ws ∷ []
@@ -125,38 +128,27 @@ op_lines d s o ws e =
     (ap (λ l. tx_words s ∷ l) (map-append op_words s.ops (o ∷ []) ∙ ap (λ l. map op_words s.ops ++ l ∷ []) (sym e)))
     refl
 
-pub read_told : (d : Draft) (s : ScriptData) (ws : List (List ℕ)) → IfOk (read_line (outside d) s ws) (Adds (inside d s) (codes "read" ∷ ws))
-unfolding read_line
-read_told d s ws = either (nat_le 32 (length s.ops)) _ _ _ (λ _. tt) (λ room. behind (word_at ws) _ _ _ (word_read ws) (λ w words. behind (key_of w.0) _ _ _ (key_read w.0) (λ k key. then (name_key d.known k) _ _ (λ known. behind (end_at w.1) _ _ _ (end_read w.1) (λ z none_left.
-    let all : ws ≡ k ∷ [] = words ∙ ap (λ l. l ∷ w.1) key.0 ∙ ap (λ l. k ∷ l) none_left in
-    record {
-      lines = op_lines d s (op.Read k) (codes "read" ∷ ws) (ap (λ l. codes "read" ∷ l) all);
-      ranges = λ few r. record { places = r.places; inits = r.inits; scripts = r.scripts; opened = record { number = r.opened.number; home = r.opened.home; front = front_read s.ops k room r.opened.front; keys = all_last has_key s.ops (op.Read k) r.opened.keys key.1 }; items = r.items; built = r.built };
-    })))))
-
-pub write_told : (d : Draft) (s : ScriptData) (ws : List (List ℕ)) → IfOk (write_line (outside d) s ws) (Adds (inside d s) (codes "write" ∷ ws))
-unfolding write_line
-write_told d s ws = either (nat_le 32 (length s.ops)) _ _ _ (λ _. tt) (λ room. behind (word_at ws) _ _ _ (word_read ws) (λ w words. behind (key_of w.0) _ _ _ (key_read w.0) (λ k key. then (name_key d.known k) _ _ (λ known. behind (expr_of (known_keys s.ops) w.1) _ (IsExprOf (known_keys s.ops) w.1) _ (expr_read (known_keys s.ops) w.1) (λ e read.
-    let all : ws ≡ k ∷ expr_words e = words ∙ ap (λ l. l ∷ w.1) key.0 ∙ ap (λ l. k ∷ l) read.spelled in
-    let one : has_key (op.Write k e) ≡ true = rw (key.1, read.plain) refl in
-    record {
-      lines = op_lines d s (op.Write k e) (codes "write" ∷ ws) (ap (λ l. codes "write" ∷ l) all);
-      ranges = λ few r. record { places = r.places; inits = r.inits; scripts = r.scripts; opened = record { number = r.opened.number; home = r.opened.home; front = front_write s.ops k e room read.among r.opened.front; keys = all_last has_key s.ops (op.Write k e) r.opened.keys one }; items = r.items; built = r.built };
-    })))))
-
 -- a script that was read to its end
 script_ranges : (s : ScriptData) → IsOpened s → nat_le 1 (length s.ops) ≡ true → is_script_in_range s ≡ true
 script_ranges s h least =
-    let most : nat_le (length s.ops) 32 ≡ true = grind (arith, nat_tests, h.front.most) in
+    let most : nat_le (length s.ops) MAX_OPS ≡ true = grind (arith, nat_tests, h.front.most) in
     let sound : are_sound [] s.ops ≡ true = h.front.sound in
     rw (h.number, h.home, least, most, h.keys, sound) refl
 
-pub end_lines_told : (d : Draft) (s : ScriptData) (ws : List (List ℕ)) → IfOk (end_line (outside d) s ws) (Adds (inside d s) (codes "end" ∷ ws))
-unfolding end_line
-end_lines_told d s ws = either (length s.ops == 0) _ _ _ (λ _. tt) (λ some. behind (end_at ws) _ _ _ (end_read ws) (λ z none_left.
-    let least : nat_le 1 (length s.ops) ≡ true = grind (arith, nat_tests, some) in
+-- what a line inside a script makes of it
+follows_told : (d : Draft) (s : ScriptData) (line : List (List ℕ)) (x : Stage) (more : BTreeSet Key) → Follows MAX_KEYS d.known s line x more → Adds (inside d s) line (with_stage (record (outside d) { known = more }) x)
+follows_told d s line (stage.Open t) more f = subst (λ (u : ScriptData). Adds (inside d s) line (inside (record d { known = more }) u)) (sym f.added) (record {
+  lines = op_lines d s f.last line f.spelled;
+  ranges = λ few r. record { places = r.places; inits = r.inits; scripts = r.scripts; opened = record { number = r.opened.number; home = r.opened.home; front = front_more s.ops f.last f.room f.among r.opened.front; keys = all_last is_plain_op s.ops f.last r.opened.keys f.plain }; items = r.items; built = r.built };
+})
+follows_told d s line (stage.Done t) more f = rw f.same (
+    let least : nat_le 1 (length s.ops) ≡ true = grind (arith, nat_tests, f.some) in
     record {
       lines = more_scripts _ _ (partition_lines 0 d.places) (map init_words d.inits) (flat_map script_words d.scripts) (flat_map script_words (d.scripts ++ s ∷ [])) (tx_words s ∷ map op_words s.ops)
-          (flat_map-append script_words d.scripts (s ∷ []) ∙ ap (λ l. flat_map script_words d.scripts ++ l) (append-nil (script_words s) ∙ ap (λ l. tx_words s ∷ (map op_words s.ops ++ (codes "end" ∷ l) ∷ [])) (sym none_left)));
+          (flat_map-append script_words d.scripts (s ∷ []) ∙ ap (λ l. flat_map script_words d.scripts ++ l) (append-nil (script_words s) ∙ ap (λ l. tx_words s ∷ (map op_words s.ops ++ l ∷ [])) (sym f.spelled)));
       ranges = λ few r. record { places = r.places; inits = r.inits; scripts = all_last is_script_in_range d.scripts s r.scripts (script_ranges s r.opened least); opened = tt; items = r.items; built = r.built };
-    }))
+    })
+
+pub script_told : (d : Draft) (s : ScriptData) (w : List ℕ) (ws : List (List ℕ)) → IfOk (script_line (outside d) s w ws) (Adds (inside d s) (w ∷ ws))
+unfolding script_line
+script_told d s w ws = behind (body_line MAX_KEYS d.known s w ws) _ _ _ (body_read MAX_KEYS d.known s w ws) (λ x f. follows_told d s (w ∷ ws) x.0 x.1 f)

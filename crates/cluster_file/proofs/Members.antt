@@ -19,10 +19,6 @@ use Rattle.grid_model.specs.Documents.{key_order, number_order}
 use Rattle.script_lang.proofs.Seen.{or_swap}
 use Rattle.cluster_file.proofs.Bools.{or_twice, or_turn}
 
-pub list_any_same : {X : Type 0} (p q : X → Bool) → ((x : X) → p x ≡ q x) → (xs : List X) → list_any p xs ≡ list_any q xs
-list_any_same p q h [] = refl
-list_any_same p q h (x ∷ xs) = rw (h x, list_any_same p q h xs) refl
-
 module _ {K : Type 0} (cmp : K → K → Ordering) (p : K → Bool) (same : (k x : K) → cmp k x ≡ Equal → p x ≡ p k) where
   list_any_insert : (k : K) (ks : List K) → list_any p (insert_key cmp ks k) ≡ (p k || list_any p ks)
   list_any_insert k [] = refl

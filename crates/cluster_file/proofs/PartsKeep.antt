@@ -21,14 +21,18 @@ use Rattle.placement.specs.Clusters.{are_keys_distinct}
 use Rattle.grid_model.specs.Documents.{script_numbers, are_numbers_distinct, events_of, keys_in, is_item, key_order, number_order}
 use Rattle.grid_model.specs.declared.items.Item.{Item}
 use Rattle.script_lang.specs.Reading.{in_range, steps}
-use Rattle.cluster_file.specs.Lines.{is_known, with_key, name_key, name_new_key, new_node, node_step, is_next}
+use Rattle.cluster_file.specs.Lines.{name_new_key, new_node, node_step, is_next}
 use Rattle.script_lang.specs.Words.{node_of}
 use Rattle.std.proofs.lemmas.Bool.{and_parts}
 use Rattle.cluster_file.proofs.Members.{among_numbers, among_keys, distinct_more}
 use Rattle.script_lang.proofs.Readings.{behind, either, weaken}
 use Rattle.script_lang.proofs.WordsRead.{node_read}
+use Rattle.script_lang.specs.Names.{has_name, name_key}
+use Rattle.script_lang.proofs.NamesRead.{name_read}
 use Rattle.cluster_file.proofs.Named.{numbers_last, key_order_last, number_order_last, keys_op, keys_begun, keys_init, all_last, all_but_last, known_in_inits}
 use Rattle.cluster_file.proofs.SoFar.{IsNamed, IsPlan, opened}
+use Rattle.script_lang.specs.declared.whys.Why.{Why}
+use Rattle.cluster_file.specs.declared.limits.TheConstants.{MAX_EVENTS, MAX_KEYS, MAX_SCRIPTS}
 
 -- The words.
 
@@ -61,24 +65,12 @@ steps_keep nodes ns (w ∷ ws) h some = behind (node_step nodes ns w) _ _ _ (nod
 pub is_next_keeps : (next i : ℕ) (ws : List (List ℕ)) → IfOk (is_next next i ws) (λ _. 1 ≤ length ws)
 is_next_keeps next i ws = either (i == next) _ _ _ (λ e. either (length ws == 0) _ _ _ (λ f. tt) (λ f. grind (arith, nat_tests, f))) (λ e. tt)
 
--- the keys named with one more
-pub record IsNamedBy (old : List Key) (k : Key) (new : BTreeSet Key) : Type 0 where
-  pub same : new.keys ≡ insert_key (slice_cmp nat_cmp) old k
-  pub few : length new.keys ≤ 4096
-
-pub name_key_keeps : (known : BTreeSet Key) (k : Key) → IfOk (name_key known k) (IsNamedBy known.keys k)
-name_key_keeps known k = either (nat_le (length (with_key known k).keys) 4096) _ _ _ (λ e. record { same = refl; few = grind (arith, nat_tests, e) }) (λ e. tt)
-
-pub name_new_key_keeps : (known : BTreeSet Key) (k : Key) → IfOk (name_new_key known k) (λ new. IsNamedBy known.keys k new × (list_any (same_key k) known.keys ≡ false))
-name_new_key_keeps known k = either (is_known known k) _ _ _ (λ e. tt) (λ e. also (name_key known k) (name_key_keeps known k) e)
-  where
-    also : (m : Result (BTreeSet Key) ℕ) → IfOk m (IsNamedBy known.keys k) → list_any (same_key k) known.keys ≡ false → IfOk m (λ new. IsNamedBy known.keys k new × (list_any (same_key k) known.keys ≡ false))
-    also (Ok x) h e = (h, e)
-    also (Err w) h e = tt
+pub name_new_key_keeps : (known : BTreeSet Key) (k : Key) → IfOk (name_new_key known k) (λ new. (new.keys ≡ insert_key (slice_cmp nat_cmp) known.keys k) × (length new.keys ≤ MAX_KEYS) × (list_any (same_key k) known.keys ≡ false))
+name_new_key_keeps known k = either (has_name known k) _ _ _ (λ e. tt) (λ e. weaken (name_key MAX_KEYS known k) _ _ (name_read MAX_KEYS known k) (λ new h. (ap (λ (b : BTreeSet Key). b.keys) h.0, h.1, e)))
 
 -- The parts with one more member.
 
-pub named_init : (nodes : ℕ) (inits : List (Key × Value)) (known ks : List Key) (numbers : List TxId) (k : Key) (v : Value) → IsNamed nodes inits [] known numbers → list_any (same_key k) known ≡ false → ks ≡ insert_key (slice_cmp nat_cmp) known k → length ks ≤ 4096 → IsNamed nodes (inits ++ (k, v) ∷ []) [] ks numbers
+pub named_init : (nodes : ℕ) (inits : List (Key × Value)) (known ks : List Key) (numbers : List TxId) (k : Key) (v : Value) → IsNamed nodes inits [] known numbers → list_any (same_key k) known ≡ false → ks ≡ insert_key (slice_cmp nat_cmp) known k → length ks ≤ MAX_KEYS → IsNamed nodes (inits ++ (k, v) ∷ []) [] ks numbers
 named_init nodes inits known ks numbers k v h new same few = record {
   fresh = distinct_more (λ (a b : Key × Value). same_key a.0 b.0) (λ a b. nat_list_eq_equiv.symm a.0 b.0) are_keys_distinct refl (λ x xs. refl) inits (k, v) h.fresh (known_in_inits inits k ∙ sym (among_keys k (keys_in inits [])) ∙ ap (list_any (same_key k)) (sym h.ordered) ∙ new);
   few = h.few;
@@ -89,7 +81,7 @@ named_init nodes inits known ks numbers k v h new same few = record {
   taken = h.taken;
 }
 
-pub named_tx : (nodes : ℕ) (inits : List (Key × Value)) (ss : List ScriptData) (known : List Key) (numbers : List TxId) (s : ScriptData) → IsNamed nodes inits ss known numbers → length ss < 4096 → nat_le s.home nodes ≡ true → list_any (λ u. u == s.number) numbers ≡ false → s.ops ≡ [] → IsNamed nodes inits (ss ++ s ∷ []) known (insert_key nat_cmp numbers s.number)
+pub named_tx : (nodes : ℕ) (inits : List (Key × Value)) (ss : List ScriptData) (known : List Key) (numbers : List TxId) (s : ScriptData) → IsNamed nodes inits ss known numbers → length ss < MAX_SCRIPTS → nat_le s.home nodes ≡ true → list_any (λ u. u == s.number) numbers ≡ false → s.ops ≡ [] → IsNamed nodes inits (ss ++ s ∷ []) known (insert_key nat_cmp numbers s.number)
 named_tx nodes inits ss known numbers s h room home new none = record {
   fresh = h.fresh;
   few = omega (arith, length-append ss (s ∷ []), room);
@@ -100,7 +92,7 @@ named_tx nodes inits ss known numbers s h room home new none = record {
   taken = ap (λ l. insert_key nat_cmp l s.number) h.taken ∙ sym (number_order_last (script_numbers ss) s.number) ∙ ap number_order (sym (numbers_last ss s));
 }
 
-pub named_op : (nodes : ℕ) (inits : List (Key × Value)) (ss : List ScriptData) (known ks : List Key) (numbers : List TxId) (s : ScriptData) (o : Op) → IsNamed nodes inits (ss ++ s ∷ []) known numbers → ks ≡ insert_key (slice_cmp nat_cmp) known (reads.key_of o) → length ks ≤ 4096 → IsNamed nodes inits (ss ++ record s { ops = s.ops ++ o ∷ [] } ∷ []) ks numbers
+pub named_op : (nodes : ℕ) (inits : List (Key × Value)) (ss : List ScriptData) (known ks : List Key) (numbers : List TxId) (s : ScriptData) (o : Op) → IsNamed nodes inits (ss ++ s ∷ []) known numbers → ks ≡ insert_key (slice_cmp nat_cmp) known (reads.key_of o) → length ks ≤ MAX_KEYS → IsNamed nodes inits (ss ++ record s { ops = s.ops ++ o ∷ [] } ∷ []) ks numbers
 named_op nodes inits ss known ks numbers s o h same few =
     let t : ScriptData = record s { ops = s.ops ++ o ∷ [] } in
     let ts : script_numbers (ss ++ t ∷ []) ≡ script_numbers (ss ++ s ∷ []) = numbers_last ss t ∙ sym (numbers_last ss s) in
@@ -122,7 +114,7 @@ plan_none nodes ts us items events none h = record {
   few = h.few;
 }
 
-pub plan_item : (nodes : ℕ) (ts : List TxId) (items : List Item) (events : ℕ) (i : Item) → IsPlan nodes ts items events → is_item nodes ts i ≡ true → events + events_of i ≤ 50000 → IsPlan nodes ts (items ++ i ∷ []) (events + events_of i)
+pub plan_item : (nodes : ℕ) (ts : List TxId) (items : List Item) (events : ℕ) (i : Item) → IsPlan nodes ts items events → is_item nodes ts i ≡ true → events + events_of i ≤ MAX_EVENTS → IsPlan nodes ts (items ++ i ∷ []) (events + events_of i)
 plan_item nodes ts items events i h ok room = record {
   each = all_last (is_item nodes ts) items i h.each ok;
   counted = omega (arith, h.counted, sum_by_push events_of items i);

@@ -14,6 +14,8 @@ use Rattle.grid_model.specs.declared.items.Item.{Item}
 use Rattle.cluster_file.specs.declared.drafts.Draft.{Draft}
 use Rattle.cluster_file.specs.declared.drafts.Part.{Part}
 use Rattle.cluster_file.specs.declared.drafts.Part.TheVariants as part
+use Rattle.script_lang.specs.declared.limits.TheConstants.{MAX_NODES}
+use Rattle.cluster_file.specs.declared.limits.TheConstants.{MAX_EVENTS, MAX_KEYS, MAX_PARTITIONS, MAX_SCRIPTS}
 
 -- the script that is being read, if any
 abbrev pub opened : Option ScriptData → List ScriptData
@@ -27,26 +29,26 @@ all_scripts d = d.scripts ++ opened d.script
 -- the cluster so far
 pub record IsHead (nodes : ℕ) (places : List (List NodeId)) : Type 0 where
   pub least : 1 ≤ nodes
-  pub most : nodes ≤ 16
-  pub few : length places ≤ 64
+  pub most : nodes ≤ MAX_NODES
+  pub few : length places ≤ MAX_PARTITIONS
   pub each : list_all is_partition places ≡ true
   pub within : list_all (list_all (λ n. nat_le n nodes)) places ≡ true
 
 -- the scripts so far, and what was named
 pub record IsNamed (nodes : ℕ) (inits : List (Key × Value)) (scripts : List ScriptData) (known : List Key) (numbers : List TxId) : Type 0 where
   pub fresh : are_keys_distinct inits ≡ true
-  pub few : length scripts ≤ 4096
+  pub few : length scripts ≤ MAX_SCRIPTS
   pub distinct : are_numbers_distinct (script_numbers scripts) ≡ true
   pub homes : list_all (λ s. nat_le s.home nodes) scripts ≡ true
   pub ordered : known ≡ key_order (keys_in inits scripts)
-  pub few_keys : length known ≤ 4096
+  pub few_keys : length known ≤ MAX_KEYS
   pub taken : numbers ≡ number_order (script_numbers scripts)
 
 -- the schedule so far
 pub record IsPlan (nodes : ℕ) (numbers : List TxId) (items : List Item) (events : ℕ) : Type 0 where
   pub each : list_all (is_item nodes numbers) items ≡ true
   pub counted : events ≡ sum_by events_of items
-  pub few : events ≤ 50000
+  pub few : events ≤ MAX_EVENTS
 
 -- what each part of the document says of the later ones
 abbrev pub IsStage : Part → List (List NodeId) → List (Key × Value) → List ScriptData → Option ScriptData → List Item → Type 0

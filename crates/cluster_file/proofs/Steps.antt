@@ -2,9 +2,10 @@
 use Rattle.std.proofs.Common.{ℕ, Result, Ok, Err, IfOk}
 use Rattle.cluster_file.specs.Doc.{◌>>>◌, at_line}
 use Rattle.cluster_file.specs.declared.whys.Refusal.{Refusal}
+use Rattle.script_lang.specs.declared.whys.Why.{Why}
 
 -- a reading with a line number
-pub numbered : {A : Type 0} (n : ℕ) (m : Result A ℕ) (P : A → Type 0) → IfOk m P → IfOk (at_line n m) P
+pub numbered : {A : Type 0} (n : ℕ) (m : Result A Why) (P : A → Type 0) → IfOk m P → IfOk (at_line n m) P
 numbered n (Ok x) P h = h
 numbered n (Err w) P h = tt
 

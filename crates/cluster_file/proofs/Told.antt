@@ -12,7 +12,7 @@ use Rattle.cluster_file.specs.declared.drafts.Draft.{Draft}
 use Rattle.cluster_file.specs.declared.drafts.Part.{Part}
 use Rattle.cluster_file.specs.declared.drafts.Part.TheVariants as part
 use Rattle.script_lang.specs.Reading.{is_word, word_at, end_at, number_at, in_range}
-use Rattle.cluster_file.specs.Lines.{known_number, nodes_line, schedule_line, with_item, begin_line, deliver_line, drop_line, more_events, next_line, script_line, later_line, init_or_later, is_later_item, item_line, part_line, line_in, words_line}
+use Rattle.cluster_file.specs.Lines.{known_number, nodes_line, schedule_line, with_item, begin_line, deliver_line, drop_line, more_events, next_line, later_line, init_or_later, is_later_item, item_line, part_line, line_in, words_line}
 use Rattle.script_lang.specs.Words.{tx_of}
 use Rattle.cluster_file.specs.Doc.{blank}
 use Rattle.cluster_file.specs.Spelling.{is_item_in_range, is_built_item, init_words, item_words, partition_lines}
@@ -21,8 +21,10 @@ use Rattle.script_lang.proofs.Readings.{behind, then, either}
 use Rattle.script_lang.proofs.WordsRead.{word_read, end_read, number_read, tx_read}
 use Rattle.cluster_file.proofs.SoFar.{IsStage, IsBegun, inside, outside, planned}
 use Rattle.cluster_file.proofs.LinesSoFar.{open_lines, schedule_lines, Adds, Begins, more_schedule}
-use Rattle.cluster_file.proofs.LinesTold.{in_range_told, one_number, first_told, partition_told, init_told, tx_lines_told, read_told, write_told, end_lines_told}
+use Rattle.cluster_file.proofs.LinesTold.{in_range_told, one_number, first_told, partition_told, init_told, tx_lines_told, script_told}
 use Rattle.script_lang.specs.Spelling.{script_words}
+use Rattle.script_lang.specs.declared.whys.Why.{Why}
+use Rattle.cluster_file.specs.declared.limits.TheConstants.{MAX_COUNT, MAX_EVENTS}
 
 schedule_told : (d : Draft) (ws : List (List ℕ)) → d.items ≡ [] → schedule_lines d.part d.items ≡ [] → IfOk (schedule_line d ws) (Adds d (codes "schedule" ∷ ws))
 unfolding schedule_line
@@ -42,34 +44,31 @@ item_told d i c ws e is built = record {
 
 begin_told : (d : Draft) (ws : List (List ℕ)) → IfOk (begin_line (planned d) ws) (Adds (planned d) (codes "begin" ∷ ws))
 unfolding begin_line
-begin_told d ws = either (nat_le 50000 d.events) _ _ _ (λ _. tt) (λ _. behind (word_at ws) _ _ _ (word_read ws) (λ w words. behind (tx_of w.0) _ _ _ (tx_read w.0) (λ t number. then (known_number d.numbers t) _ _ (λ _. behind (end_at w.1) _ _ _ (end_read w.1) (λ z none_left.
+begin_told d ws = either (nat_le MAX_EVENTS d.events) _ _ _ (λ _. tt) (λ _. behind (word_at ws) _ _ _ (word_read ws) (λ w words. behind (tx_of w.0) _ _ _ (tx_read w.0) (λ t number. then (known_number d.numbers t) _ _ (λ _. behind (end_at w.1) _ _ _ (end_read w.1) (λ z none_left.
     let all : decimal t ∷ [] ≡ ws = ap (λ l. l ∷ []) (sym number.0) ∙ ap (λ l. w.0 ∷ l) (sym none_left) ∙ sym words in
     item_told d (item.Begin t) 1 _ (ap (λ l. codes "begin" ∷ l) all) number.1 refl)))))
 
 deliver_told : (d : Draft) (ws : List (List ℕ)) → IfOk (deliver_line (planned d) ws) (Adds (planned d) (codes "deliver" ∷ ws))
 unfolding deliver_line
-deliver_told d ws = either (nat_le 50000 d.events) _ _ _ (λ _. tt) (λ _. behind (number_at ws) _ _ _ (number_read ws) (λ n words. behind (in_range 1 4294967295 n.0) _ _ _ (in_range_told 1 4294967295 n.0) (λ m same. behind (end_at n.1) _ _ _ (end_read n.1) (λ z none_left.
+deliver_told d ws = either (nat_le MAX_EVENTS d.events) _ _ _ (λ _. tt) (λ _. behind (number_at ws) _ _ _ (number_read ws) (λ n words. behind (in_range 1 MAX_COUNT n.0) _ _ _ (in_range_told 1 MAX_COUNT n.0) (λ m same. behind (end_at n.1) _ _ _ (end_read n.1) (λ z none_left.
     item_told d (item.Deliver m) 1 _ (ap (λ l. codes "deliver" ∷ l) (one_number ws n m words.0 same.0 none_left)) same.1 refl))))
 
 drop_told : (d : Draft) (ws : List (List ℕ)) → IfOk (drop_line (planned d) ws) (Adds (planned d) (codes "drop" ∷ ws))
 unfolding drop_line
-drop_told d ws = either (nat_le 50000 d.events) _ _ _ (λ _. tt) (λ _. behind (number_at ws) _ _ _ (number_read ws) (λ n words. behind (in_range 1 4294967295 n.0) _ _ _ (in_range_told 1 4294967295 n.0) (λ m same. behind (end_at n.1) _ _ _ (end_read n.1) (λ z none_left.
+drop_told d ws = either (nat_le MAX_EVENTS d.events) _ _ _ (λ _. tt) (λ _. behind (number_at ws) _ _ _ (number_read ws) (λ n words. behind (in_range 1 MAX_COUNT n.0) _ _ _ (in_range_told 1 MAX_COUNT n.0) (λ m same. behind (end_at n.1) _ _ _ (end_read n.1) (λ z none_left.
     item_told d (item.Drop m) 1 _ (ap (λ l. codes "drop" ∷ l) (one_number ws n m words.0 same.0 none_left)) same.1 refl))))
 
 next_item_told : (d : Draft) (ws : List (List ℕ)) → IfOk (next_line (planned d) ws) (Adds (planned d) (codes "next" ∷ ws))
 unfolding next_line
-next_item_told d ws = behind (number_at ws) _ _ _ (number_read ws) (λ n words. behind (in_range 1 50000 n.0) _ _ _ (in_range_told 1 50000 n.0) (λ c same. then (more_events d.events c) _ _ (λ _. behind (end_at n.1) _ _ _ (end_read n.1) (λ z none_left.
-    let low : nat_le c 4294967295 ≡ true = grind (arith, nat_tests, same.1) in
+next_item_told d ws = behind (number_at ws) _ _ _ (number_read ws) (λ n words. behind (in_range 1 MAX_EVENTS n.0) _ _ _ (in_range_told 1 MAX_EVENTS n.0) (λ c same. then (more_events d.events c) _ _ (λ _. behind (end_at n.1) _ _ _ (end_read n.1) (λ z none_left.
+    let low : nat_le c MAX_COUNT ≡ true = grind (arith, nat_tests, same.1) in
     item_told d (item.Next c) c _ (ap (λ l. codes "next" ∷ l) (one_number ws n c words.0 same.0 none_left)) low refl))))
 
 -- Which lines may stand where.
 
 -- a line whose first word is c, or another
-word_or : (w c : List ℕ) (ws : List (List ℕ)) (d : Draft) (x y : Result Draft ℕ) → IfOk x (Adds d (c ∷ ws)) → IfOk y (Adds d (w ∷ ws)) → IfOk (cond (is_word w c) x y) (Adds d (w ∷ ws))
+word_or : (w c : List ℕ) (ws : List (List ℕ)) (d : Draft) (x y : Result Draft Why) → IfOk x (Adds d (c ∷ ws)) → IfOk y (Adds d (w ∷ ws)) → IfOk (cond (is_word w c) x y) (Adds d (w ∷ ws))
 word_or w c ws d x y h k = either (is_word w c) x y _ (λ e. subst (λ v. IfOk x (Adds d (v ∷ ws))) (sym ((bytes_decides w c).0 e)) h) (λ _. k)
-
-script_told : (d : Draft) (s : ScriptData) (w : List ℕ) (ws : List (List ℕ)) → IfOk (script_line (outside d) s w ws) (Adds (inside d s) (w ∷ ws))
-script_told d s w ws = word_or w (codes "read") ws (inside d s) _ _ (read_told d s ws) (word_or w (codes "write") ws (inside d s) _ _ (write_told d s ws) (word_or w (codes "end") ws (inside d s) _ _ (end_lines_told d s ws) tt))
 
 later_told : (d : Draft) (w : List ℕ) (ws : List (List ℕ)) → d.script ≡ None → d.items ≡ [] → schedule_lines d.part d.items ≡ [] → IfOk (later_line d w ws) (Adds d (w ∷ ws))
 later_told d w ws none items quiet = word_or w (codes "tx") ws d _ _ (tx_lines_told d ws none quiet) (word_or w (codes "schedule") ws d _ _ (schedule_told d ws items quiet) tt)

@@ -2,6 +2,7 @@
 use Rattle.std.specs.Prelude.{◌≡◌, ℕ, true, false, ◌+◌, ◌==◌, ◌&&◌, Bool, List, [], ◌∷◌, length, None, Result, Ok, Err, if◌then◌else◌}
 use Rattle.std.specs.List.{slice_split}
 use Rattle.grid_model.specs.Documents.{DocumentData}
+use Rattle.script_lang.specs.Whys.{number_of}
 use Rattle.cluster_file.specs.declared.drafts.Draft.{Draft}
 use Rattle.cluster_file.specs.declared.drafts.Part.{Part}
 use Rattle.cluster_file.specs.declared.drafts.Part.TheVariants as part
@@ -9,11 +10,13 @@ use Rattle.cluster_file.specs.declared.whys.Refusal.{Refusal}
 use Rattle.cluster_file.specs.declared.whys.DocEnd.{DocEnd}
 use Rattle.cluster_file.specs.declared.whys.DocEnd.TheVariants as ends
 use Rattle.cluster_file.specs.Lines.{line_of}
+use Rattle.script_lang.specs.declared.whys.Why.{Why}
+use Rattle.script_lang.specs.declared.whys.Why.TheVariants as why
 
 -- what was read, or the refusal of the line of this number
-abbrev pub at_line : {A : Type 0} → ℕ → Result A ℕ → Result A Refusal
+abbrev pub at_line : {A : Type 0} → ℕ → Result A Why → Result A Refusal
 at_line n (Ok x) = Ok x
-at_line n (Err why) = Err (record { line = n; why = why })
+at_line n (Err w) = Err (record { line = n; why = number_of w })
 
 -- one line behind another: the first at fault decides
 infixl 10 ◌>>>◌
@@ -31,12 +34,12 @@ is_whole part.Inits = false
 is_whole part.Scripts = false
 
 -- the end of the input: nothing stands behind the last line feed, and the schedule was reached
-abbrev pub close : Draft → List ℕ → Result Draft ℕ
-close d tail = if (length tail == 0) && is_whole d.part then Ok d else Err 10
+abbrev pub close : Draft → List ℕ → Result Draft Why
+close d tail = if (length tail == 0) && is_whole d.part then Ok d else Err why.Missing
 
 -- The pieces between line feeds, the first of them with this number. The last has no line feed.
 unfoldable pub pieces_from : Draft → ℕ → List (List ℕ) → Result Draft Refusal
-pieces_from d n [] = at_line n (Err 10)
+pieces_from d n [] = at_line n (Err why.Missing)
 pieces_from d n (x ∷ rest) = if length rest == 0 then at_line n (close d x) else (at_line n (line_of d x) >>> λ e. pieces_from e (n + 1) rest)
 
 -- nothing is read yet

@@ -9,12 +9,12 @@ use Rattle.score_base.specs.declared.ids.TxId.{TxId}
 use Rattle.score_base.specs.declared.ids.Value.{Value}
 use Rattle.score_base.specs.Keys.{is_key}
 use Rattle.script_lang.specs.Scripts.{ScriptData, are_sound}
-use Rattle.script_lang.specs.Spelling.{script_words, is_plain_expr}
-use Rattle.script_lang.specs.declared.scripts.Op.{Op}
-use Rattle.script_lang.specs.declared.scripts.Op.TheVariants as op
+use Rattle.script_lang.specs.Spelling.{script_words, is_plain_op}
 use Rattle.grid_model.specs.Documents.{DocumentData}
 use Rattle.grid_model.specs.declared.items.Item.{Item}
 use Rattle.grid_model.specs.declared.items.Item.TheVariants as item
+use Rattle.script_lang.specs.declared.limits.TheConstants.{MAX_NODES, MAX_OPS, MAX_TX}
+use Rattle.cluster_file.specs.declared.limits.TheConstants.{MAX_COUNT}
 
 -- The words of each line.
 
@@ -84,29 +84,24 @@ pub record IsBuilt (d : DocumentData) : Type 0 where
 -- The ranges that the types of a document's parts have in the code.
 
 abbrev pub is_node : NodeId → Bool
-is_node n = nat_le 1 n && nat_le n 16
+is_node n = nat_le 1 n && nat_le n MAX_NODES
 
 abbrev pub is_tx : TxId → Bool
-is_tx t = nat_le 1 t && nat_le t 65535
+is_tx t = nat_le 1 t && nat_le t MAX_TX
 
 abbrev pub is_init_in_range : Key × Value → Bool
 is_init_in_range x = is_key x.0 && nat_lt x.1 (2 ^ 64)
 
--- the key is one, and so is each key of the expression, whose numbers are below 2^64
-abbrev pub has_key : Op → Bool
-has_key (op.Read k) = is_key k
-has_key (op.Write k e) = is_key k && is_plain_expr e
-
 -- a script of 1 to 32 operations, whose expressions have at most 16 steps and name only keys that were
 -- read before
 abbrev pub is_script_in_range : ScriptData → Bool
-is_script_in_range s = is_tx s.number && is_node s.home && nat_le 1 (length s.ops) && nat_le (length s.ops) 32 && list_all has_key s.ops && are_sound [] s.ops
+is_script_in_range s = is_tx s.number && is_node s.home && nat_le 1 (length s.ops) && nat_le (length s.ops) MAX_OPS && list_all is_plain_op s.ops && are_sound [] s.ops
 
 abbrev pub is_item_in_range : Item → Bool
 is_item_in_range (item.Begin t) = is_tx t
-is_item_in_range (item.Deliver m) = nat_le m 4294967295
-is_item_in_range (item.Drop m) = nat_le m 4294967295
-is_item_in_range (item.Next c) = nat_le c 4294967295
+is_item_in_range (item.Deliver m) = nat_le m MAX_COUNT
+is_item_in_range (item.Drop m) = nat_le m MAX_COUNT
+is_item_in_range (item.Next c) = nat_le c MAX_COUNT
 is_item_in_range (item.Retry t) = is_tx t
 is_item_in_range (item.Ask n t) = is_node n && is_tx t
 is_item_in_range (item.Crash n how) = is_node n && nat_lt how (2 ^ 64)

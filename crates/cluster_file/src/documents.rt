@@ -1,5 +1,6 @@
 ghost use Rattle.std.specs.Prelude.{◌≡◌, [], map};
 ghost use Rattle.grid_model.specs.Documents.{IsOne};
+ghost use Rattle.script_lang.specs.Whys.{number_of};
 ghost use Rattle.cluster_file.specs.Lines.{line_of};
 ghost use Rattle.cluster_file.specs.Doc.{at_line, is_whole, close, pieces_from, blank, document_of, doc, GivesDoc};
 
@@ -9,10 +10,20 @@ use crate::whys::{DocEnd, Refusal};
 use grid_model::{Document, ItemList, ScriptList};
 use placement::{Cluster, Places};
 use score_base::{Members, WriteList};
-use script_lang::LineEnd;
 use script_lang::words::{NodeCount, pieces};
+use script_lang::{LineEnd, Why};
 use std::alloc::Global;
 use std::collections::BTreeSet;
+
+/// The refusal of the line of this number.
+fn refused(n: usize, why: Why) -> DocEnd
+    ensures { result ≡ DocEnd.Refused (record { line = n; why = number_of why }) }
+{
+    DocEnd::Refused(Refusal {
+        line: n,
+        why: why.number(),
+    })
+}
 
 fn line_at(alloc: Global, draft: Draft, n: usize, line: &[u8]) -> Result<Draft, DocEnd>
     ensures { GivesDoc result (at_line n (line_of draft line.now)) }
@@ -20,7 +31,7 @@ fn line_at(alloc: Global, draft: Draft, n: usize, line: &[u8]) -> Result<Draft, 
     match line_of(alloc, draft, line) {
         Ok(next) => Ok(next),
         Err(LineEnd::Memory) => Err(DocEnd::Memory),
-        Err(LineEnd::Why(why)) => Err(DocEnd::Refused(Refusal { line: n, why })),
+        Err(LineEnd::Why(why)) => Err(refused(n, why)),
     }
 }
 
@@ -30,7 +41,7 @@ fn close(draft: Draft, n: usize, tail: &[u8]) -> Result<Draft, DocEnd>
     if tail.is_empty() && draft.part == Part::Items {
         Ok(draft)
     } else {
-        Err(DocEnd::Refused(Refusal { line: n, why: 10 }))
+        Err(refused(n, Why::Missing))
     }
 }
 
@@ -66,7 +77,7 @@ fn read_pieces(alloc: Global, pieces: &[&[u8]]) -> Result<Draft, DocEnd>
         n += 1;
         lines = rest;
     }
-    Err(DocEnd::Refused(Refusal { line: n, why: 10 }))
+    Err(refused(n, Why::Missing))
 }
 
 fn document_of(draft: Draft) -> Document

@@ -11,6 +11,7 @@
 mod documents;
 mod drafts;
 mod laws;
+mod limits;
 mod lines;
 #[cfg(test)]
 mod tests;

@@ -1,82 +1,40 @@
 ghost use Rattle.std.specs.Prelude.{◌≡◌, ◌≤◌, ◌==◌, ◌+◌, [], map, OnOk};
 ghost use Rattle.std.specs.List.{list_any};
 ghost use Rattle.script_lang.specs.Reading.{Gives, steps};
-ghost use Rattle.cluster_file.specs.Lines.{is_known, is_taken, with_key, with_number, name_key, name_new_key, new_number, known_number, nodes_line, new_node, node_step, is_next, partition_line, init_line, tx_line, read_line, write_line, end_line, schedule_line, with_item, begin_line, deliver_line, drop_line, more_events, next_line, script_line, later_line, init_or_later, is_later_item, item_line, part_line, words_line, line_of};
+ghost use Rattle.cluster_file.specs.Lines.{name_new_key, known_number, nodes_line, new_node, node_step, is_next, partition_line, init_line, tx_line, with_stage, script_line, schedule_line, with_item, begin_line, deliver_line, drop_line, more_events, next_line, later_line, init_or_later, is_later_item, item_line, part_line, words_line, line_of};
 ghost use Rattle.script_lang.specs.Words.{is_printed};
 
 use crate::drafts::{Draft, Part};
+use crate::limits::{MAX_COUNT, MAX_EVENTS, MAX_KEYS, MAX_PARTITIONS, MAX_SCRIPTS};
 use grid_model::Item;
-use score_base::{Key, Memory, NodeId, NodeList, TxId, Value};
-use script_lang::expr_words::read_expr;
+use score_base::{Key, NodeId, NodeList, TxId, Value};
+use script_lang::limits::MAX_NODES;
+use script_lang::names::{has_name, is_taken, name_key, put_number};
+use script_lang::script_lines::{Stage, body_line, first_line};
 use script_lang::words::{
     NodeCount, are_printed, end_at, in_range, is_word, key_of, node_of, number_at, pieces, tx_of,
     word_at,
 };
-use script_lang::{LineEnd, ScriptDraft};
+use script_lang::{LineEnd, ScriptDraft, Why};
 use std::alloc::Global;
 use std::collections::BTreeSet;
 
-fn is_known(known: &BTreeSet<Key>, key: &Key) -> bool
-    ensures { result ≡ is_known known.now key.now }
-{
-    known.contains(key)
-}
-
-fn is_taken(numbers: &BTreeSet<TxId>, t: &TxId) -> bool
-    ensures { result ≡ is_taken numbers.now t.now }
-{
-    numbers.contains(t)
-}
-
-fn put_key(known: &mut BTreeSet<Key>, key: Key) -> Result<(), Memory>
-    ensures { OnOk result (known.new ≡ with_key known.old key) }
-{
-    known.insert(key)?;
-    Ok(())
-}
-
-fn put_number(numbers: &mut BTreeSet<TxId>, t: TxId) -> Result<(), Memory>
-    ensures { OnOk result (numbers.new ≡ with_number numbers.old t) }
-{
-    numbers.insert(t)?;
-    Ok(())
-}
-
-fn name_key(known: &mut BTreeSet<Key>, key: Key) -> Result<u64, LineEnd>
-    ensures { Gives (λ _. known.new) result (name_key known.old key) }
-{
-    put_key(known, key)?;
-    if known.len() > 4096 {
-        return Err(LineEnd::Why(9));
-    }
-    Ok(0)
-}
-
-fn name_new_key(known: &mut BTreeSet<Key>, key: Key) -> Result<u64, LineEnd>
+fn name_new_key(known: &mut BTreeSet<Key>, key: Key) -> Result<(), LineEnd>
     ensures { Gives (λ _. known.new) result (name_new_key known.old key) }
 {
-    if is_known(known, &key) {
-        return Err(LineEnd::Why(8));
+    if has_name(known, &key) {
+        return Err(LineEnd::Why(Why::Repeat));
     }
-    name_key(known, key)
+    name_key(known, MAX_KEYS, key)
 }
 
-fn new_number(numbers: &BTreeSet<TxId>, t: &TxId) -> Result<u64, LineEnd>
-    ensures { Gives (λ n. n) result (new_number numbers.now t.now) }
+fn known_number(numbers: &BTreeSet<TxId>, t: &TxId) -> Result<(), LineEnd>
+    ensures { Gives (λ x. x) result (known_number numbers.now t.now) }
 {
     if is_taken(numbers, t) {
-        return Err(LineEnd::Why(8));
+        return Ok(());
     }
-    Ok(0)
-}
-
-fn known_number(numbers: &BTreeSet<TxId>, t: &TxId) -> Result<u64, LineEnd>
-    ensures { Gives (λ n. n) result (known_number numbers.now t.now) }
-{
-    if is_taken(numbers, t) {
-        return Ok(0);
-    }
-    Err(LineEnd::Why(6))
+    Err(LineEnd::Why(Why::Transaction))
 }
 
 #[tactic(auto, unfolding(crate::specs::Lines::nodes_line))]
@@ -84,7 +42,7 @@ fn nodes_line(draft: Draft, words: &[&[u8]]) -> Result<Draft, LineEnd>
     ensures { Gives (λ d. d) result (nodes_line draft (map (λ w. w.now) words.now)) }
 {
     let (n, rest) = number_at(words)?;
-    let count = in_range(1, 16, n)?;
+    let count = in_range(1, MAX_NODES as u64, n)?;
     end_at(rest)?;
     Ok(Draft {
         nodes: NodeCount::new(count),
@@ -99,13 +57,13 @@ fn has_node(nodes: &[NodeId], node: NodeId) -> bool
     nodes.iter().any(|m| *m == node)
 }
 
-fn new_node(nodes: &[NodeId], node: NodeId) -> Result<u64, LineEnd>
-    ensures { Gives (λ n. n) result (new_node nodes.now node) }
+fn new_node(nodes: &[NodeId], node: NodeId) -> Result<(), LineEnd>
+    ensures { Gives (λ x. x) result (new_node nodes.now node) }
 {
     if has_node(nodes, node) {
-        return Err(LineEnd::Why(8));
+        return Err(LineEnd::Why(Why::Repeat));
     }
-    Ok(0)
+    Ok(())
 }
 
 #[tactic(auto, unfolding(crate::specs::Lines::node_step))]
@@ -129,24 +87,24 @@ fn nodes_at(alloc: Global, count: NodeCount, words: &[&[u8]]) -> Result<NodeList
     Ok(nodes)
 }
 
-fn is_next(next: usize, i: u64, words: &[&[u8]]) -> Result<u64, LineEnd>
-    ensures { Gives (λ n. n) result (is_next next i (map (λ w. w.now) words.now)) }
+fn is_next(next: usize, i: u64, words: &[&[u8]]) -> Result<(), LineEnd>
+    ensures { Gives (λ x. x) result (is_next next i (map (λ w. w.now) words.now)) }
 {
     if i != next as u64 {
-        return Err(LineEnd::Why(4));
+        return Err(LineEnd::Why(Why::Partition));
     }
     if words.is_empty() {
-        return Err(LineEnd::Why(10));
+        return Err(LineEnd::Why(Why::Missing));
     }
-    Ok(0)
+    Ok(())
 }
 
 #[tactic(auto, unfolding(crate::specs::Lines::partition_line))]
 fn partition_line(alloc: Global, mut draft: Draft, words: &[&[u8]]) -> Result<Draft, LineEnd>
     ensures { Gives (λ d. d) result (partition_line draft (map (λ w. w.now) words.now)) }
 {
-    if draft.places.len() >= 64 {
-        return Err(LineEnd::Why(9));
+    if draft.places.len() >= MAX_PARTITIONS {
+        return Err(LineEnd::Why(Why::Limit));
     }
     let (i, rest) = number_at(words)?;
     is_next(draft.places.len(), i, rest)?;
@@ -174,69 +132,42 @@ fn init_line(mut draft: Draft, words: &[&[u8]]) -> Result<Draft, LineEnd>
 fn tx_line(alloc: Global, mut draft: Draft, words: &[&[u8]]) -> Result<Draft, LineEnd>
     ensures { Gives (λ d. d) result (tx_line draft (map (λ w. w.now) words.now)) }
 {
-    if draft.scripts.len() >= 4096 {
-        return Err(LineEnd::Why(9));
+    if draft.scripts.len() >= MAX_SCRIPTS {
+        return Err(LineEnd::Why(Why::Limit));
     }
-    let (word, rest) = word_at(words)?;
-    let number = tx_of(word)?;
-    new_number(&draft.numbers, &number)?;
-    let (word, rest) = word_at(rest)?;
-    let home = node_of(draft.nodes, word)?;
-    end_at(rest)?;
-    put_number(&mut draft.numbers, number)?;
-    draft.script = Some(ScriptDraft::new(alloc, number, home));
+    let script = first_line(alloc, draft.nodes, &draft.numbers, words)?;
+    put_number(&mut draft.numbers, script.number())?;
+    draft.script = Some(script);
     draft.part = Part::Scripts;
     Ok(draft)
 }
 
-#[tactic(auto, unfolding(crate::specs::Lines::read_line))]
-fn read_line(mut draft: Draft, mut script: ScriptDraft, words: &[&[u8]]) -> Result<Draft, LineEnd>
-    ensures { Gives (λ d. d) result (read_line draft script (map (λ w. w.now) words.now)) }
+/// The draft with what a line made of the script that it stands in.
+fn with_stage(mut draft: Draft, stage: Stage) -> Result<Draft, LineEnd>
+    ensures { Gives (λ d. d) result (Ok (with_stage draft stage)) }
 {
-    if script.len() >= 32 {
-        return Err(LineEnd::Why(9));
+    match stage {
+        Stage::Open(script) => draft.script = Some(script),
+        Stage::Done(script) => {
+            draft.scripts.push(script)?;
+            draft.script = None;
+        }
     }
-    let (word, rest) = word_at(words)?;
-    let key = key_of(word)?;
-    name_key(&mut draft.known, key)?;
-    end_at(rest)?;
-    script.push_read(key)?;
-    draft.script = Some(script);
     Ok(draft)
 }
 
-#[tactic(auto, unfolding(crate::specs::Lines::write_line))]
-fn write_line(
+#[tactic(auto, unfolding(crate::specs::Lines::script_line))]
+fn script_line(
     alloc: Global,
     mut draft: Draft,
-    mut script: ScriptDraft,
-    words: &[&[u8]],
+    script: ScriptDraft,
+    word: &[u8],
+    rest: &[&[u8]],
 ) -> Result<Draft, LineEnd>
-    ensures { Gives (λ d. d) result (write_line draft script (map (λ w. w.now) words.now)) }
+    ensures { Gives (λ d. d) result (script_line draft script word.now (map (λ w. w.now) rest.now)) }
 {
-    if script.len() >= 32 {
-        return Err(LineEnd::Why(9));
-    }
-    let (word, rest) = word_at(words)?;
-    let target = key_of(word)?;
-    name_key(&mut draft.known, target)?;
-    let expr = read_expr(alloc, script.ops(), rest)?;
-    script.push_write(target, expr)?;
-    draft.script = Some(script);
-    Ok(draft)
-}
-
-#[tactic(auto, unfolding(crate::specs::Lines::end_line))]
-fn end_line(mut draft: Draft, script: ScriptDraft, words: &[&[u8]]) -> Result<Draft, LineEnd>
-    ensures { Gives (λ d. d) result (end_line draft script (map (λ w. w.now) words.now)) }
-{
-    if script.len() == 0 {
-        return Err(LineEnd::Why(10));
-    }
-    end_at(words)?;
-    draft.scripts.push(script.finish())?;
-    draft.script = None;
-    Ok(draft)
+    let stage = body_line(alloc, MAX_KEYS, &mut draft.known, script, word, rest)?;
+    with_stage(draft, stage)
 }
 
 #[tactic(auto, unfolding(crate::specs::Lines::schedule_line))]
@@ -254,8 +185,8 @@ fn schedule_line(draft: Draft, words: &[&[u8]]) -> Result<Draft, LineEnd>
 fn begin_line(mut draft: Draft, words: &[&[u8]]) -> Result<Draft, LineEnd>
     ensures { Gives (λ d. d) result (begin_line draft (map (λ w. w.now) words.now)) }
 {
-    if draft.events >= 50000 {
-        return Err(LineEnd::Why(9));
+    if draft.events >= MAX_EVENTS {
+        return Err(LineEnd::Why(Why::Limit));
     }
     let (word, rest) = word_at(words)?;
     let t = tx_of(word)?;
@@ -270,11 +201,11 @@ fn begin_line(mut draft: Draft, words: &[&[u8]]) -> Result<Draft, LineEnd>
 fn deliver_line(mut draft: Draft, words: &[&[u8]]) -> Result<Draft, LineEnd>
     ensures { Gives (λ d. d) result (deliver_line draft (map (λ w. w.now) words.now)) }
 {
-    if draft.events >= 50000 {
-        return Err(LineEnd::Why(9));
+    if draft.events >= MAX_EVENTS {
+        return Err(LineEnd::Why(Why::Limit));
     }
     let (n, rest) = number_at(words)?;
-    let m = in_range(1, 4_294_967_295, n)?;
+    let m = in_range(1, MAX_COUNT, n)?;
     end_at(rest)?;
     draft.items.push(Item::Deliver(m as u32))?;
     draft.events += 1;
@@ -285,26 +216,26 @@ fn deliver_line(mut draft: Draft, words: &[&[u8]]) -> Result<Draft, LineEnd>
 fn drop_line(mut draft: Draft, words: &[&[u8]]) -> Result<Draft, LineEnd>
     ensures { Gives (λ d. d) result (drop_line draft (map (λ w. w.now) words.now)) }
 {
-    if draft.events >= 50000 {
-        return Err(LineEnd::Why(9));
+    if draft.events >= MAX_EVENTS {
+        return Err(LineEnd::Why(Why::Limit));
     }
     let (n, rest) = number_at(words)?;
-    let m = in_range(1, 4_294_967_295, n)?;
+    let m = in_range(1, MAX_COUNT, n)?;
     end_at(rest)?;
     draft.items.push(Item::Drop(m as u32))?;
     draft.events += 1;
     Ok(draft)
 }
 
-fn more_events(events: u64, c: u64) -> Result<u64, LineEnd>
-    requires { c ≤ 50000 }
-    ensures value { Gives (λ n. n) result (more_events events c) }
-    ensures few { OnOk result (events + c ≤ 50000) }
+fn more_events(events: u64, c: u64) -> Result<(), LineEnd>
+    requires { c ≤ MAX_EVENTS }
+    ensures value { Gives (λ x. x) result (more_events events c) }
+    ensures few { OnOk result (events + c ≤ MAX_EVENTS) }
 {
-    if events <= 50000 - c {
-        Ok(c)
+    if events <= MAX_EVENTS - c {
+        Ok(())
     } else {
-        Err(LineEnd::Why(9))
+        Err(LineEnd::Why(Why::Limit))
     }
 }
 
@@ -313,32 +244,12 @@ fn next_line(mut draft: Draft, words: &[&[u8]]) -> Result<Draft, LineEnd>
     ensures { Gives (λ d. d) result (next_line draft (map (λ w. w.now) words.now)) }
 {
     let (n, rest) = number_at(words)?;
-    let c = in_range(1, 50000, n)?;
+    let c = in_range(1, MAX_EVENTS, n)?;
     more_events(draft.events, c)?;
     end_at(rest)?;
     draft.items.push(Item::Next(c as u32))?;
     draft.events += c;
     Ok(draft)
-}
-
-fn script_line(
-    alloc: Global,
-    draft: Draft,
-    script: ScriptDraft,
-    word: &[u8],
-    rest: &[&[u8]],
-) -> Result<Draft, LineEnd>
-    ensures { Gives (λ d. d) result (script_line draft script word.now (map (λ w. w.now) rest.now)) }
-{
-    if is_word(word, b"read") {
-        read_line(draft, script, rest)
-    } else if is_word(word, b"write") {
-        write_line(alloc, draft, script, rest)
-    } else if is_word(word, b"end") {
-        end_line(draft, script, rest)
-    } else {
-        Err(LineEnd::Why(1))
-    }
 }
 
 fn later_line(alloc: Global, draft: Draft, word: &[u8], rest: &[&[u8]]) -> Result<Draft, LineEnd>
@@ -349,7 +260,7 @@ fn later_line(alloc: Global, draft: Draft, word: &[u8], rest: &[&[u8]]) -> Resul
     } else if is_word(word, b"schedule") {
         schedule_line(draft, rest)
     } else {
-        Err(LineEnd::Why(1))
+        Err(LineEnd::Why(Why::Word))
     }
 }
 
@@ -385,9 +296,9 @@ fn item_line(draft: Draft, word: &[u8], rest: &[&[u8]]) -> Result<Draft, LineEnd
     } else if is_word(word, b"next") {
         next_line(draft, rest)
     } else if is_later_item(word) {
-        Err(LineEnd::Why(12))
+        Err(LineEnd::Why(Why::Unbuilt))
     } else {
-        Err(LineEnd::Why(1))
+        Err(LineEnd::Why(Why::Word))
     }
 }
 
@@ -399,14 +310,14 @@ fn part_line(alloc: Global, draft: Draft, word: &[u8], rest: &[&[u8]]) -> Result
             if is_word(word, b"nodes") {
                 nodes_line(draft, rest)
             } else {
-                Err(LineEnd::Why(1))
+                Err(LineEnd::Why(Why::Word))
             }
         }
         Part::Nodes => {
             if is_word(word, b"partition") {
                 partition_line(alloc, draft, rest)
             } else {
-                Err(LineEnd::Why(1))
+                Err(LineEnd::Why(Why::Word))
             }
         }
         Part::Partitions => {
@@ -426,7 +337,7 @@ fn words_line(alloc: Global, mut draft: Draft, words: &[&[u8]]) -> Result<Draft,
     ensures { Gives (λ d. d) result (words_line draft (map (λ w. w.now) words.now)) }
 {
     let [word, rest @ ..] = words else {
-        return Err(LineEnd::Why(1));
+        return Err(LineEnd::Why(Why::Word));
     };
     match draft.script.take() {
         Some(script) => script_line(alloc, draft, script, word, rest),
@@ -440,7 +351,7 @@ pub fn line_of(alloc: Global, draft: Draft, line: &[u8]) -> Result<Draft, LineEn
     ensures { Gives (λ d. d) result (line_of draft line.now) }
 {
     if !are_printed(line) {
-        return Err(LineEnd::Why(11));
+        return Err(LineEnd::Why(Why::Byte));
     }
     let words = pieces(alloc, line, b' ')?;
     words_line(alloc, draft, words.as_slice())

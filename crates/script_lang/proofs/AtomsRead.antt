@@ -19,6 +19,7 @@ use Rattle.script_lang.specs.ExprWords.{number_atom, known_atom, key_atom, atom_
 use Rattle.script_lang.specs.Spelling.{atom_word, is_plain_atom}
 use Rattle.script_lang.proofs.Readings.{behind, either}
 use Rattle.script_lang.proofs.WordsRead.{number_small}
+use Rattle.script_lang.specs.declared.whys.Why.TheVariants as why
 
 -- the word spells the atom, over the known keys
 pub record IsAtomOf (known : List Key) (w : List ℕ) (a : Atom) : Type 0 where
@@ -30,13 +31,13 @@ number_read : (known : List Key) (w : List ℕ) → IfOk (number_atom w) (IsAtom
 unfolding number_atom
 number_read known w = by (number w) refl
   where
-    by : (o : Option ℕ) → number w ≡ o → IfOk (or_why 2 o >>= λ n. Ok (atom.Number n)) (IsAtomOf known w)
+    by : (o : Option ℕ) → number w ≡ o → IfOk (or_why why.Number o >>= λ n. Ok (atom.Number n)) (IsAtomOf known w)
     by None e = tt
     by (Some n) e = record { spelled = decimal-number w n e; among = refl; plain = grind (arith, nat_tests, number_small w n e) }
 
 key_read : (known : List Key) (w : List ℕ) → IfOk (key_atom known w) (IsAtomOf known w)
 unfolding key_atom
-key_read known w = behind (key_of w) (known_atom known) (λ k. (k ≡ w) × (is_key w ≡ true)) (IsAtomOf known w) (either (is_key w) (Ok w) (Err 5) (λ k. (k ≡ w) × (is_key w ≡ true)) (λ e. (refl, e)) (λ e. tt)) (λ k h. either (is_key_among k known) (Ok (atom.Key k)) (Err 7) (IsAtomOf known w) (λ e. record { spelled = sym h.0; among = e; plain = ap is_key h.0 ∙ h.1 }) (λ e. tt))
+key_read known w = behind (key_of w) (known_atom known) (λ k. (k ≡ w) × (is_key w ≡ true)) (IsAtomOf known w) (either (is_key w) (Ok w) (Err why.Key) (λ k. (k ≡ w) × (is_key w ≡ true)) (λ e. (refl, e)) (λ e. tt)) (λ k h. either (is_key_among k known) (Ok (atom.Key k)) (Err why.Unread) (IsAtomOf known w) (λ e. record { spelled = sym h.0; among = e; plain = ap is_key h.0 ∙ h.1 }) (λ e. tt))
 
 pub atom_read : (known : List Key) (w : List ℕ) → IfOk (atom_of known w) (IsAtomOf known w)
 unfolding atom_of

@@ -12,6 +12,7 @@ use Rattle.script_lang.specs.declared.exprs.Step.TheVariants as step
 use Rattle.script_lang.specs.declared.exprs.Expr.{Expr}
 use Rattle.script_lang.specs.Reads.{is_key_among}
 use Rattle.script_lang.specs.Exprs.{is_atom_among, is_step_among, are_steps_among, is_expr_among, all_in_atom, all_in_step, all_in_steps, all_in_expr}
+use Rattle.script_lang.specs.declared.limits.TheConstants.{MAX_STEPS}
 
 module _ (p : Key → Bool) where
   key_passes : (known : List Key) (k : Key) → list_all p known ≡ true → is_key_among k known ≡ true → p k ≡ true
@@ -47,6 +48,6 @@ module _ (p : Key → Bool) where
 
   pub expr_passes : (known : List Key) (e : Expr) → list_all p known ≡ true → is_expr_among known e ≡ true → all_in_expr p e ≡ true
   expr_passes known e all among =
-      let two = and_parts (is_atom_among known e.first && nat_le (length e.steps) 16) (are_steps_among known e.steps) among in
-      let head = and_parts (is_atom_among known e.first) (nat_le (length e.steps) 16) two.0 in
+      let two = and_parts (is_atom_among known e.first && nat_le (length e.steps) MAX_STEPS) (are_steps_among known e.steps) among in
+      let head = and_parts (is_atom_among known e.first) (nat_le (length e.steps) MAX_STEPS) two.0 in
       rw (atom_passes known e.first all head.0, steps_pass known e.steps all two.1) refl

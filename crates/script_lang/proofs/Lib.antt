@@ -7,5 +7,10 @@ pub mod Readings
 pub mod WordsRead
 pub mod AtomsRead
 pub mod StepsRead
+pub mod WordsAgain
+pub mod NamesRead
+pub mod BodyRead
+pub mod BodyAgain
 pub mod ScriptRead
+pub mod KeyLimit
 pub mod Known

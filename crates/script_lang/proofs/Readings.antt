@@ -1,14 +1,15 @@
 -- What holds of whatever a reading gives.
 use Rattle.std.proofs.Common.{◌≡◌, ℕ, Bool, true, false, cond, Result, Ok, Err, IfOk, refl, subst}
 use Rattle.script_lang.specs.Reading.{◌>>=◌}
+use Rattle.script_lang.specs.declared.whys.Why.{Why}
 
 -- one reader behind another
-pub behind : {A B : Type 0} (m : Result A ℕ) (f : A → Result B ℕ) (Q : A → Type 0) (P : B → Type 0) → IfOk m Q → ((x : A) → Q x → IfOk (f x) P) → IfOk (m >>= f) P
+pub behind : {A B : Type 0} (m : Result A Why) (f : A → Result B Why) (Q : A → Type 0) (P : B → Type 0) → IfOk m Q → ((x : A) → Q x → IfOk (f x) P) → IfOk (m >>= f) P
 behind (Ok x) f Q P h k = k x h
 behind (Err e) f Q P h k = tt
 
 -- the same where nothing is said of the first
-pub then : {A B : Type 0} (m : Result A ℕ) (f : A → Result B ℕ) (P : B → Type 0) → ((x : A) → IfOk (f x) P) → IfOk (m >>= f) P
+pub then : {A B : Type 0} (m : Result A Why) (f : A → Result B Why) (P : B → Type 0) → ((x : A) → IfOk (f x) P) → IfOk (m >>= f) P
 then (Ok x) f P k = k x
 then (Err e) f P k = tt
 

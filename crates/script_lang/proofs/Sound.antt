@@ -14,6 +14,7 @@ use Rattle.script_lang.specs.Exprs.{is_atom_among, is_step_among, are_steps_amon
 use Rattle.script_lang.specs.Reads.{known_keys}
 use Rattle.script_lang.specs.Scripts.{are_sound, IsFront}
 use Rattle.script_lang.proofs.Seen.{SameKeys, in_middle}
+use Rattle.script_lang.specs.declared.limits.TheConstants.{MAX_OPS}
 
 -- a read behind them leaves them sound
 are_sound-read : (known : List Key) (ops : List Op) (k : Key) → are_sound known (ops ++ op.Read k ∷ []) ≡ are_sound known ops
@@ -49,14 +50,14 @@ are_sound-write known (op.Write x f ∷ ops) k e among sound =
     let both = and_parts (is_expr_among known f) (are_sound known ops) sound in
     rw (both.0, are_sound-write known ops k e among both.1) refl
 
-pub IsFront-read : {T E : Type 0} (r : Result T E) (old new : List Op) (k : Key) → IsFront old → length old < 32 → OnOk r (new ≡ old ++ op.Read k ∷ []) → OnErr r (new ≡ old) → IsFront new
+pub IsFront-read : {T E : Type 0} (r : Result T E) (old new : List Op) (k : Key) → IsFront old → length old < MAX_OPS → OnOk r (new ≡ old ++ op.Read k ∷ []) → OnErr r (new ≡ old) → IsFront new
 IsFront-read (Ok x) old new k front short ok err = rw ok (record {
   most = omega (arith, length-append old (op.Read k ∷ []));
   sound = rw (are_sound-read [] old k) front.sound;
 })
 IsFront-read (Err e) old new k front short ok err = rw err front
 
-pub IsFront-write : {T E : Type 0} (r : Result T E) (old new : List Op) (k : Key) (e : Expr) → IsFront old → length old < 32 → is_expr_among (known_keys old) e ≡ true → OnOk r (new ≡ old ++ op.Write k e ∷ []) → OnErr r (new ≡ old) → IsFront new
+pub IsFront-write : {T E : Type 0} (r : Result T E) (old new : List Op) (k : Key) (e : Expr) → IsFront old → length old < MAX_OPS → is_expr_among (known_keys old) e ≡ true → OnOk r (new ≡ old ++ op.Write k e ∷ []) → OnErr r (new ≡ old) → IsFront new
 IsFront-write (Ok x) old new k e front short among ok err = rw ok (record {
   most = omega (arith, length-append old (op.Write k e ∷ []));
   sound = are_sound-write [] old k e (ap (λ ks. is_expr_among ks e) (append-nil (known_keys old)) ∙ among) front.sound;

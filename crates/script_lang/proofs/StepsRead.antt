@@ -17,6 +17,8 @@ use Rattle.script_lang.specs.ExprWords.{atom_of, operator_of, atoms_behind, firs
 use Rattle.script_lang.specs.Spelling.{atom_word, step_words, expr_words, is_plain_atom, is_plain_step, are_plain_steps, is_plain_expr}
 use Rattle.script_lang.proofs.Readings.{behind, then, either, at_ok}
 use Rattle.script_lang.proofs.AtomsRead.{IsAtomOf, atom_read, atom_again}
+use Rattle.script_lang.specs.declared.whys.Why.{Why}
+use Rattle.script_lang.specs.declared.limits.TheConstants.{MAX_STEPS}
 
 -- the word of an operator
 abbrev operator_word : Operator → List ℕ
@@ -42,7 +44,7 @@ unfolding first_atom
 first_read known [] = tt
 first_read known (w ∷ ws) = more (atom_of known w) (atom_read known w)
   where
-    more : (m : Result Atom ℕ) → IfOk m (IsAtomOf known w) → IfOk m (IsFirstAtom known (w ∷ ws))
+    more : (m : Result Atom Why) → IfOk m (IsAtomOf known w) → IfOk m (IsFirstAtom known (w ∷ ws))
     more (Ok a) h = record { spelled = ap (λ v. v ∷ ws) h.spelled; among = h.among; plain = h.plain }
     more (Err e) h = tt
 
@@ -89,11 +91,11 @@ steps_read known (suc room) (w ∷ ws) = behind (operator_of w) _ (λ o. w ≡ o
 })))
 
 -- an expression of an atom and steps that were read is over the known keys
-pub parts_among : (known : List Key) (w : List ℕ) (ws : List (List ℕ)) (a : Atom) (ss : List Step) → atom_of known w ≡ Ok a → steps_of known 16 ws ≡ Ok ss → is_expr_among known (record { first = a; steps = ss }) ≡ true
+pub parts_among : (known : List Key) (w : List ℕ) (ws : List (List ℕ)) (a : Atom) (ss : List Step) → atom_of known w ≡ Ok a → steps_of known MAX_STEPS ws ≡ Ok ss → is_expr_among known (record { first = a; steps = ss }) ≡ true
 parts_among known w ws a ss one more =
     let h = at_ok (atom_of known w) (IsAtomOf known w) a (atom_read known w) one in
-    let k = at_ok (steps_of known 16 ws) (AreStepsOf known 16 ws) ss (steps_read known 16 ws) more in
-    let few : nat_le (length ss) 16 ≡ true = grind (arith, nat_tests, k.few) in
+    let k = at_ok (steps_of known MAX_STEPS ws) (AreStepsOf known MAX_STEPS ws) ss (steps_read known MAX_STEPS ws) more in
+    let few : nat_le (length ss) MAX_STEPS ≡ true = grind (arith, nat_tests, k.few) in
     rw (h.among, few, k.among) refl
 
 -- the words spell the expression, over the known keys
@@ -105,8 +107,8 @@ pub record IsExprOf (known : List Key) (ws : List (List ℕ)) (e : Expr) : Type 
 pub expr_read : (known : List Key) (ws : List (List ℕ)) → IfOk (expr_of known ws) (IsExprOf known ws)
 unfolding expr_of
 expr_read known [] = tt
-expr_read known (w ∷ ws) = behind (atom_of known w) _ (IsAtomOf known w) (IsExprOf known (w ∷ ws)) (atom_read known w) (λ a h. behind (steps_of known 16 ws) _ (AreStepsOf known 16 ws) (IsExprOf known (w ∷ ws)) (steps_read known 16 ws) (λ ss k.
-    let few : nat_le (length ss) 16 ≡ true = grind (arith, nat_tests, k.few) in
+expr_read known (w ∷ ws) = behind (atom_of known w) _ (IsAtomOf known w) (IsExprOf known (w ∷ ws)) (atom_read known w) (λ a h. behind (steps_of known MAX_STEPS ws) _ (AreStepsOf known MAX_STEPS ws) (IsExprOf known (w ∷ ws)) (steps_read known MAX_STEPS ws) (λ ss k.
+    let few : nat_le (length ss) MAX_STEPS ≡ true = grind (arith, nat_tests, k.few) in
     record {
       spelled = ap (λ v. v ∷ ws) h.spelled ∙ ap (λ l. atom_word a ∷ l) k.spelled;
       among = rw (h.among, few, k.among) refl;
@@ -181,7 +183,7 @@ steps_again known (suc room) (s ∷ ss) among plain few =
 pub expr_again : (known : List Key) (e : Expr) → is_expr_among known e ≡ true → is_plain_expr e ≡ true → expr_of known (expr_words e) ≡ Ok e
 unfolding expr_of
 expr_again known e among plain =
-    let all = and_parts (is_atom_among known e.first && nat_le (length e.steps) 16) (are_steps_among known e.steps) among in
-    let head = and_parts (is_atom_among known e.first) (nat_le (length e.steps) 16) all.0 in
+    let all = and_parts (is_atom_among known e.first && nat_le (length e.steps) MAX_STEPS) (are_steps_among known e.steps) among in
+    let head = and_parts (is_atom_among known e.first) (nat_le (length e.steps) MAX_STEPS) all.0 in
     let plains = and_parts (is_plain_atom e.first) (are_plain_steps e.steps) plain in
-    rw (atom_again known e.first head.0 plains.0, steps_again known 16 e.steps all.1 plains.1 (grind (arith, nat_tests, head.1))) refl
+    rw (atom_again known e.first head.0 plains.0, steps_again known MAX_STEPS e.steps all.1 plains.1 (grind (arith, nat_tests, head.1))) refl

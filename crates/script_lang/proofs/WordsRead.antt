@@ -8,6 +8,8 @@ use Rattle.score_base.proofs.Spelling.{decimal-number, plain, said}
 use Rattle.script_lang.specs.Reading.{◌>>=◌, word_at, end_at, or_why, number_at}
 use Rattle.script_lang.specs.Words.{node_in, node_of, key_of, tx_in, tx_of}
 use Rattle.script_lang.proofs.Readings.{either}
+use Rattle.script_lang.specs.declared.whys.Why.TheVariants as why
+use Rattle.script_lang.specs.declared.limits.TheConstants.{MAX_TX}
 
 -- a number that was read is one of 64 bits
 pub number_small : (w : List ℕ) (n : ℕ) → number w ≡ Some n → n < 2 ^ 64
@@ -27,19 +29,19 @@ unfolding number_at
 number_read [] = tt
 number_read (w ∷ ws) = by (number w) refl
   where
-    by : (o : Option ℕ) → number w ≡ o → IfOk {T = ℕ × List (List ℕ)} (or_why 2 o >>= λ n. Ok (n, ws)) (λ x. (w ∷ ws ≡ decimal x.0 ∷ x.1) × (x.0 < 2 ^ 64))
+    by : (o : Option ℕ) → number w ≡ o → IfOk {T = ℕ × List (List ℕ)} (or_why why.Number o >>= λ n. Ok (n, ws)) (λ x. (w ∷ ws ≡ decimal x.0 ∷ x.1) × (x.0 < 2 ^ 64))
     by None e = tt
     by (Some n) e = (ap (λ v. v ∷ ws) (decimal-number w n e), number_small w n e)
 
 pub key_read : (w : List ℕ) → IfOk (key_of w) (λ k. (w ≡ k) × (is_key k ≡ true))
 key_read w = either (is_key w) _ _ _ (λ e. (refl, e)) (λ _. tt)
 
-pub tx_read : (w : List ℕ) → IfOk (tx_of w) (λ t. (w ≡ decimal t) × ((nat_le 1 t && nat_le t 65535) ≡ true))
+pub tx_read : (w : List ℕ) → IfOk (tx_of w) (λ t. (w ≡ decimal t) × ((nat_le 1 t && nat_le t MAX_TX) ≡ true))
 tx_read w = by (number w) refl
   where
-    by : (o : Option ℕ) → number w ≡ o → IfOk (tx_in o) (λ t. (w ≡ decimal t) × ((nat_le 1 t && nat_le t 65535) ≡ true))
+    by : (o : Option ℕ) → number w ≡ o → IfOk (tx_in o) (λ t. (w ≡ decimal t) × ((nat_le 1 t && nat_le t MAX_TX) ≡ true))
     by None e = tt
-    by (Some t) e = either (nat_le 1 t && nat_le t 65535) _ _ _ (λ g. (decimal-number w t e, g)) (λ _. tt)
+    by (Some t) e = either (nat_le 1 t && nat_le t MAX_TX) _ _ _ (λ g. (decimal-number w t e, g)) (λ _. tt)
 
 pub node_read : (nodes : ℕ) (w : List ℕ) → IfOk (node_of nodes w) (λ n. (w ≡ 110 ∷ decimal n) × ((nat_le 1 n && nat_le n nodes) ≡ true))
 node_read nodes [] = tt

@@ -9,6 +9,7 @@ use Rattle.script_lang.specs.declared.exprs.Atom.TheVariants as atom
 use Rattle.script_lang.specs.declared.exprs.Step.{Step}
 use Rattle.script_lang.specs.declared.exprs.Step.TheVariants as step
 use Rattle.script_lang.specs.declared.exprs.Expr.{Expr}
+use Rattle.script_lang.specs.declared.limits.TheConstants.{MAX_STEPS}
 
 -- the value of an atom, where env gives the value of each key
 abbrev pub atom_value : (Key → Value) → Atom → Value
@@ -73,4 +74,4 @@ are_steps_among ks (s ∷ ss) = is_step_among ks s && are_steps_among ks ss
 
 -- an expression of at most 16 steps, all of whose keys are among these
 abbrev pub is_expr_among : List Key → Expr → Bool
-is_expr_among ks e = is_atom_among ks e.first && nat_le (length e.steps) 16 && are_steps_among ks e.steps
+is_expr_among ks e = is_atom_among ks e.first && nat_le (length e.steps) MAX_STEPS && are_steps_among ks e.steps

@@ -1,3 +1,4 @@
+pub mod Whys
 pub mod Exprs
 pub mod Values
 pub mod Scripts
@@ -5,5 +6,6 @@ pub mod Reads
 pub mod Reading
 pub mod Words
 pub mod ExprWords
+pub mod Names
 pub mod Spelling
 pub mod ScriptLines

@@ -6,6 +6,7 @@ use Rattle.score_base.specs.declared.keys.Key.{Key}
 use Rattle.script_lang.specs.declared.scripts.Op.{Op}
 use Rattle.script_lang.specs.declared.scripts.Op.TheVariants as op
 use Rattle.script_lang.specs.Exprs.{is_expr_among}
+use Rattle.script_lang.specs.declared.limits.TheConstants.{MAX_OPS}
 
 -- a script: its number, its home, its operations in order
 pub record ScriptData : Type 0 where
@@ -21,11 +22,11 @@ are_sound known (op.Write k e ∷ ops) = is_expr_among known e && are_sound know
 
 -- the operations of a script so far
 pub record IsFront (ops : List Op) : Type 0 where
-  pub most : length ops ≤ 32
+  pub most : length ops ≤ MAX_OPS
   pub sound : IsTrue (are_sound [] ops)
 
 -- the operations of a script
 pub record IsBody (ops : List Op) : Type 0 where
   pub least : 1 ≤ length ops
-  pub most : length ops ≤ 32
+  pub most : length ops ≤ MAX_OPS
   pub sound : IsTrue (are_sound [] ops)

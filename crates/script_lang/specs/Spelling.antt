@@ -35,9 +35,13 @@ abbrev pub op_words : Op → List (List ℕ)
 op_words (op.Read k) = codes "read" ∷ k ∷ []
 op_words (op.Write k e) = codes "write" ∷ k ∷ expr_words e
 
+-- the words of the first line of a script
+abbrev pub tx_words : ScriptData → List (List ℕ)
+tx_words s = codes "tx" ∷ decimal s.number ∷ (110 ∷ decimal s.home) ∷ []
+
 -- the words of each line of a script
 abbrev pub script_words : ScriptData → List (List (List ℕ))
-script_words s = (codes "tx" ∷ decimal s.number ∷ (110 ∷ decimal s.home) ∷ []) ∷ (map op_words s.ops ++ (codes "end" ∷ []) ∷ [])
+script_words s = tx_words s ∷ (map op_words s.ops ++ (codes "end" ∷ []) ∷ [])
 
 -- the lines of a script: the words of each, with single spaces between them
 abbrev pub script_lines : ScriptData → List (List ℕ)
@@ -67,3 +71,8 @@ are_plain_steps (s ∷ ss) = is_plain_step s && are_plain_steps ss
 -- each number of an expression is below 2^64, and each key is a key
 abbrev pub is_plain_expr : Expr → Bool
 is_plain_expr e = is_plain_atom e.first && are_plain_steps e.steps
+
+-- the key is one, and so is each key of the expression, whose numbers are below 2^64
+abbrev pub is_plain_op : Op → Bool
+is_plain_op (op.Read k) = is_key k
+is_plain_op (op.Write k e) = is_key k && is_plain_expr e

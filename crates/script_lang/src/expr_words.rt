@@ -6,9 +6,10 @@ ghost use Rattle.script_lang.specs.Reads.{known_keys};
 ghost use Rattle.script_lang.specs.ExprWords.{number_atom, known_atom, key_atom, atom_of, operator_of, atoms_behind, first_atom, two_atoms, step_of, steps_of, expr_of};
 
 use crate::exprs::{Atom, Expr, Step, StepList};
+use crate::limits::MAX_STEPS;
 use crate::reads::is_known;
 use crate::scripts::Op;
-use crate::whys::LineEnd;
+use crate::whys::{LineEnd, Why};
 use crate::words::{begins_with_digit, is_word, key_of, word_at};
 use score_base::{Key, Value, number};
 use std::alloc::Global;
@@ -30,7 +31,7 @@ fn number_atom(word: &[u8]) -> Result<Atom, LineEnd>
 {
     match number(word) {
         Some(n) => Ok(Atom::Number(Value(n))),
-        None => Err(LineEnd::Why(2)),
+        None => Err(LineEnd::Why(Why::Number)),
     }
 }
 
@@ -40,7 +41,7 @@ fn known_atom(before: &[Op], key: Key) -> Result<Atom, LineEnd>
     if is_known(key, before) {
         Ok(Atom::Key(key))
     } else {
-        Err(LineEnd::Why(7))
+        Err(LineEnd::Why(Why::Unread))
     }
 }
 
@@ -80,7 +81,7 @@ fn operator_of(word: &[u8]) -> Result<Operator, LineEnd>
     } else if is_word(word, b"pick") {
         Ok(Operator::Pick)
     } else {
-        Err(LineEnd::Why(1))
+        Err(LineEnd::Why(Why::Word))
     }
 }
 
@@ -130,15 +131,15 @@ fn behind_atoms<'a, 'b>(operator: Operator, words: &'a [&'b [u8]]) -> &'a [&'b [
 
 #[tactic(auto, unfolding(crate::specs::ExprWords::steps_of))]
 fn read_steps(alloc: Global, before: &[Op], words: &[&[u8]]) -> Result<StepList, LineEnd>
-    ensures { Gives (λ ss. ss) result (steps_of (known_keys before.now) 16 (map (λ w. w.now) words.now)) }
+    ensures { Gives (λ ss. ss) result (steps_of (known_keys before.now) MAX_STEPS (map (λ w. w.now) words.now)) }
 {
     let mut steps = StepList::new(alloc);
-    let mut room = 16u8;
+    let mut room = MAX_STEPS;
     let mut words = words;
     while let [word, rest @ ..] = words {
         let operator = operator_of(word)?;
         if room == 0 {
-            return Err(LineEnd::Why(9));
+            return Err(LineEnd::Why(Why::Limit));
         }
         let step = step_of(before, operator, rest)?;
         steps.push(step)?;

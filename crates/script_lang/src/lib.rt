@@ -12,8 +12,11 @@
 pub mod expr_words;
 mod exprs;
 mod laws;
+pub mod limits;
+pub mod names;
 mod reads;
 pub mod script_lines;
+mod script_texts;
 mod scripts;
 #[cfg(test)]
 mod tests;
@@ -22,9 +25,9 @@ mod whys;
 pub mod words;
 
 pub use exprs::{Atom, Expr, Step, StepList};
-pub use laws::{law_expr_spelling, law_known_keys, law_script_spelling};
+pub use laws::{law_expr_spelling, law_key_limit, law_known_keys, law_script_spelling};
 pub use reads::{is_known, is_named, is_update, key_of, keys, read_keys, write_keys};
-pub use script_lines::read_script;
+pub use script_texts::read_script;
 pub use scripts::{Op, OpList, Script, ScriptDraft};
 pub use values::{Reads, eval, has_each_key};
-pub use whys::{At, LineEnd, ScriptEnd};
+pub use whys::{At, LineEnd, ScriptEnd, Why};

@@ -1,197 +1,117 @@
-//! A script, read from the lines of a text.
-ghost use Rattle.std.specs.Prelude.{◌≡◌, ◌≤◌, map};
-ghost use Rattle.script_lang.specs.declared.script_lines.Stage.TheVariants as stage;
+//! The lines of a script, as each reader of scripts meets them.
+ghost use Rattle.std.specs.Prelude.{◌≡◌, map};
 ghost use Rattle.script_lang.specs.Reading.{Gives};
-ghost use Rattle.script_lang.specs.ScriptLines.{tx_line, read_line, write_line, end_line, begin_line, body_line, stage_line, words_line, line_of, at_line, whole, close, lines_from, script_of_text, GivesScript};
+ghost use Rattle.script_lang.specs.ScriptLines.{first_line, read_line, write_line, end_line, body_line};
 
 use crate::expr_words::read_expr;
+use crate::limits::MAX_OPS;
+use crate::names::{name_key, new_number};
 use crate::scripts::{Script, ScriptDraft};
-use crate::whys::{At, LineEnd, ScriptEnd};
-use crate::words::{
-    NodeCount, are_printed, end_at, is_word, key_of, node_of, pieces, tx_of, word_at,
-};
+use crate::whys::{LineEnd, Why};
+use crate::words::{NodeCount, end_at, is_word, key_of, node_of, tx_of, word_at};
+use score_base::{Key, TxId};
 use std::alloc::Global;
+use std::collections::BTreeSet;
 
-/// How far a script was read.
+/// How far the lines of a script were read.
 #[derive(Drop)]
 pub enum Stage {
-    /// Nothing was read.
-    Start,
     /// The first line, and some operations.
-    Body(ScriptDraft),
-    /// All of it.
+    Open(ScriptDraft),
+    /// All of them.
     Done(Script),
 }
 
-#[tactic(auto, unfolding(crate::specs::ScriptLines::tx_line))]
-fn tx_line(alloc: Global, nodes: NodeCount, words: &[&[u8]]) -> Result<Stage, LineEnd>
-    ensures { Gives (λ s. s) result (tx_line nodes (map (λ w. w.now) words.now)) }
+/// The first line, behind its word `tx`: a number that no other script has, and the home.
+#[tactic(auto, unfolding(crate::specs::ScriptLines::first_line))]
+pub fn first_line(
+    alloc: Global,
+    nodes: NodeCount,
+    numbers: &BTreeSet<TxId>,
+    words: &[&[u8]],
+) -> Result<ScriptDraft, LineEnd>
+    ensures { Gives (λ s. s) result (first_line nodes numbers.now (map (λ w. w.now) words.now)) }
 {
     let (word, rest) = word_at(words)?;
     let number = tx_of(word)?;
+    new_number(numbers, &number)?;
     let (word, rest) = word_at(rest)?;
     let home = node_of(nodes, word)?;
     end_at(rest)?;
-    Ok(Stage::Body(ScriptDraft::new(alloc, number, home)))
+    Ok(ScriptDraft::new(alloc, number, home))
 }
 
 #[tactic(auto, unfolding(crate::specs::ScriptLines::read_line))]
-fn read_line(mut draft: ScriptDraft, words: &[&[u8]]) -> Result<Stage, LineEnd>
-    ensures { Gives (λ s. s) result (read_line draft (map (λ w. w.now) words.now)) }
+fn read_line(
+    most: usize,
+    named: &mut BTreeSet<Key>,
+    mut draft: ScriptDraft,
+    words: &[&[u8]],
+) -> Result<Stage, LineEnd>
+    ensures { Gives (λ s. (s, named.new)) result (read_line most named.old draft (map (λ w. w.now) words.now)) }
 {
-    if draft.len() >= 32 {
-        return Err(LineEnd::Why(9));
+    if draft.len() >= MAX_OPS {
+        return Err(LineEnd::Why(Why::Limit));
     }
     let (word, rest) = word_at(words)?;
     let key = key_of(word)?;
+    name_key(named, most, key)?;
     end_at(rest)?;
     draft.push_read(key)?;
-    Ok(Stage::Body(draft))
+    Ok(Stage::Open(draft))
 }
 
 #[tactic(auto, unfolding(crate::specs::ScriptLines::write_line))]
-fn write_line(alloc: Global, mut draft: ScriptDraft, words: &[&[u8]]) -> Result<Stage, LineEnd>
-    ensures { Gives (λ s. s) result (write_line draft (map (λ w. w.now) words.now)) }
+fn write_line(
+    alloc: Global,
+    most: usize,
+    named: &mut BTreeSet<Key>,
+    mut draft: ScriptDraft,
+    words: &[&[u8]],
+) -> Result<Stage, LineEnd>
+    ensures { Gives (λ s. (s, named.new)) result (write_line most named.old draft (map (λ w. w.now) words.now)) }
 {
-    if draft.len() >= 32 {
-        return Err(LineEnd::Why(9));
+    if draft.len() >= MAX_OPS {
+        return Err(LineEnd::Why(Why::Limit));
     }
     let (word, rest) = word_at(words)?;
     let key = key_of(word)?;
+    name_key(named, most, key)?;
     let expr = read_expr(alloc, draft.ops(), rest)?;
     draft.push_write(key, expr)?;
-    Ok(Stage::Body(draft))
+    Ok(Stage::Open(draft))
 }
 
 #[tactic(auto, unfolding(crate::specs::ScriptLines::end_line))]
-fn end_line(draft: ScriptDraft, words: &[&[u8]]) -> Result<Stage, LineEnd>
-    ensures { Gives (λ s. s) result (end_line draft (map (λ w. w.now) words.now)) }
+fn end_line(named: &BTreeSet<Key>, draft: ScriptDraft, words: &[&[u8]]) -> Result<Stage, LineEnd>
+    ensures { Gives (λ s. (s, named.now)) result (end_line named.now draft (map (λ w. w.now) words.now)) }
 {
     if draft.len() == 0 {
-        return Err(LineEnd::Why(10));
+        return Err(LineEnd::Why(Why::Missing));
     }
     end_at(words)?;
     Ok(Stage::Done(draft.finish()))
 }
 
-fn begin_line(
+/// A line behind the first, by its first word: what it makes of the script. The key that it names is
+/// put among those named so far, which are at most so many.
+pub fn body_line(
     alloc: Global,
-    nodes: NodeCount,
-    word: &[u8],
-    rest: &[&[u8]],
-) -> Result<Stage, LineEnd>
-    ensures { Gives (λ s. s) result (begin_line nodes word.now (map (λ w. w.now) rest.now)) }
-{
-    if is_word(word, b"tx") {
-        tx_line(alloc, nodes, rest)
-    } else {
-        Err(LineEnd::Why(1))
-    }
-}
-
-fn body_line(
-    alloc: Global,
+    most: usize,
+    named: &mut BTreeSet<Key>,
     draft: ScriptDraft,
     word: &[u8],
     rest: &[&[u8]],
 ) -> Result<Stage, LineEnd>
-    ensures { Gives (λ s. s) result (body_line draft word.now (map (λ w. w.now) rest.now)) }
+    ensures { Gives (λ s. (s, named.new)) result (body_line most named.old draft word.now (map (λ w. w.now) rest.now)) }
 {
     if is_word(word, b"read") {
-        read_line(draft, rest)
+        read_line(most, named, draft, rest)
     } else if is_word(word, b"write") {
-        write_line(alloc, draft, rest)
+        write_line(alloc, most, named, draft, rest)
     } else if is_word(word, b"end") {
-        end_line(draft, rest)
+        end_line(named, draft, rest)
     } else {
-        Err(LineEnd::Why(1))
+        Err(LineEnd::Why(Why::Word))
     }
-}
-
-fn words_line(
-    alloc: Global,
-    nodes: NodeCount,
-    stage: Stage,
-    words: &[&[u8]],
-) -> Result<Stage, LineEnd>
-    ensures { Gives (λ s. s) result (words_line nodes stage (map (λ w. w.now) words.now)) }
-{
-    let [word, rest @ ..] = words else {
-        return Err(LineEnd::Why(1));
-    };
-    match stage {
-        Stage::Start => begin_line(alloc, nodes, word, rest),
-        Stage::Body(draft) => body_line(alloc, draft, word, rest),
-        Stage::Done(_) => Err(LineEnd::Why(1)),
-    }
-}
-
-#[tactic(auto, unfolding(crate::specs::ScriptLines::line_of))]
-fn line_of(alloc: Global, nodes: NodeCount, stage: Stage, line: &[u8]) -> Result<Stage, LineEnd>
-    ensures { Gives (λ s. s) result (line_of nodes stage line.now) }
-{
-    if !are_printed(line) {
-        return Err(LineEnd::Why(11));
-    }
-    let words = pieces(alloc, line, b' ')?;
-    words_line(alloc, nodes, stage, words.as_slice())
-}
-
-fn line_at(
-    alloc: Global,
-    nodes: NodeCount,
-    stage: Stage,
-    n: usize,
-    line: &[u8],
-) -> Result<Stage, ScriptEnd>
-    ensures { GivesScript result (at_line n (line_of nodes stage line.now)) }
-{
-    match line_of(alloc, nodes, stage, line) {
-        Ok(next) => Ok(next),
-        Err(LineEnd::Memory) => Err(ScriptEnd::Memory),
-        Err(LineEnd::Why(why)) => Err(ScriptEnd::Bad(At { line: n, why })),
-    }
-}
-
-fn close(stage: Stage, n: usize, tail: &[u8]) -> Result<Script, ScriptEnd>
-    ensures { GivesScript result (at_line n (close stage tail.now)) }
-{
-    if !tail.is_empty() {
-        return Err(ScriptEnd::Bad(At { line: n, why: 10 }));
-    }
-    match stage {
-        Stage::Done(script) => Ok(script),
-        _ => Err(ScriptEnd::Bad(At { line: n, why: 10 })),
-    }
-}
-
-#[tactic(auto, unfolding(crate::specs::ScriptLines::lines_from))]
-fn read_pieces(alloc: Global, nodes: NodeCount, pieces: &[&[u8]]) -> Result<Script, ScriptEnd>
-    ensures { GivesScript result (lines_from nodes stage.Start 1 (map (λ w. w.now) pieces.now)) }
-{
-    let mut stage = Stage::Start;
-    let mut n = 1;
-    let mut lines = pieces;
-    while let [line, rest @ ..] = lines {
-        if rest.is_empty() {
-            return close(stage, n, line);
-        }
-        stage = line_at(alloc, nodes, stage, n, line)?;
-        n += 1;
-        lines = rest;
-    }
-    Err(ScriptEnd::Bad(At { line: n, why: 10 }))
-}
-
-/// The script that a text spells, in a cluster of so many nodes: the lines from `tx` to `end`. `Bad`
-/// exactly where it spells none, with the first line at fault and why.
-#[tactic(auto, unfolding(crate::specs::ScriptLines::script_of_text))]
-pub fn read_script(alloc: Global, text: &[u8], nodes: u8) -> Result<Script, ScriptEnd>
-    requires { nodes ≤ 16 }
-    ensures { GivesScript result (script_of_text nodes text.now) }
-{
-    let Ok(pieces) = pieces(alloc, text, b'\n') else {
-        return Err(ScriptEnd::Memory);
-    };
-    read_pieces(alloc, NodeCount::new(nodes as u64), pieces.as_slice())
 }

@@ -1,6 +1,7 @@
 ghost use Rattle.std.specs.Prelude.{◌≡◌, ◌<◌, ◌≤◌, ◌∷◌, ◌++◌, [], length, IsTrue, OnOk, OnErr};
 
 use crate::exprs::Expr;
+use crate::limits::MAX_OPS;
 use score_base::{Key, Members, Memory, NodeId, TryCopy, TxId};
 use std::alloc::Global;
 use std::marker::Model;
@@ -101,10 +102,17 @@ impl ScriptDraft {
         }
     }
 
+    /// Its number.
+    pub fn number(&self) -> TxId
+        ensures { result ≡ self.now.number }
+    {
+        self.number
+    }
+
     /// How many operations there are, at most 32.
     pub fn len(&self) -> usize
         ensures value { result ≡ length self.now.ops }
-        ensures most { result ≤ 32 }
+        ensures most { result ≤ MAX_OPS }
     {
         self.ops.len()
     }
@@ -119,7 +127,7 @@ impl ScriptDraft {
 
     /// Adds a read as the last operation. After [`Memory`] the draft is as before.
     pub fn push_read(&mut self, key: Key) -> Result<(), Memory>
-        requires { length self.old.ops < 32 }
+        requires { length self.old.ops < MAX_OPS }
         ensures ok { OnOk result (self.new ≡ record self.old { ops = self.old.ops ++ Op.Read key ∷ [] }) }
         ensures err { OnErr result (self.new ≡ self.old) }
     {
@@ -129,7 +137,7 @@ impl ScriptDraft {
     /// Adds a write as the last operation, of an expression over the keys that the operations before
     /// it have read. After [`Memory`] the draft is as before.
     pub fn push_write(&mut self, key: Key, expr: Expr) -> Result<(), Memory>
-        requires room { length self.old.ops < 32 }
+        requires room { length self.old.ops < MAX_OPS }
         requires known { IsTrue (is_expr_among (known_keys self.old.ops) expr) }
         ensures ok { OnOk result (self.new ≡ record self.old { ops = self.old.ops ++ Op.Write key expr ∷ [] }) }
         ensures err { OnErr result (self.new ≡ self.old) }

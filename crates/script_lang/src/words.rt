@@ -4,7 +4,8 @@ ghost use Rattle.std.specs.List.{slice_split, list_all};
 ghost use Rattle.script_lang.specs.Reading.{Gives, is_word, word_at, end_at, number_at, in_range};
 ghost use Rattle.script_lang.specs.Words.{node_of, key_of, tx_of, begins_with_digit, is_printed};
 
-use crate::whys::LineEnd;
+use crate::limits::{MAX_NODES, MAX_TX};
+use crate::whys::{LineEnd, Why};
 use score_base::{Key, NodeId, TxId, number};
 use std::alloc::{AllocError, Global};
 use std::marker::Model;
@@ -17,12 +18,13 @@ pub struct NodeCount {
 
 impl Model for NodeCount {
     ghost use Rattle.std.specs.Prelude.{ℕ, ◌≤◌};
+    ghost use Rattle.script_lang.specs.declared.limits.TheConstants.{MAX_NODES};
 
     ghost Value = { ℕ };
 
     ghost view = { λ c. c.number };
 
-    ghost invariant = { λ c. c.number ≤ 16 };
+    ghost invariant = { λ c. c.number ≤ MAX_NODES };
 
     ghost inverse = { λ n. record { number = n } };
 }
@@ -30,7 +32,7 @@ impl Model for NodeCount {
 impl NodeCount {
     /// So many nodes.
     pub fn new(number: u64) -> NodeCount
-        requires { number ≤ 16 }
+        requires { number ≤ MAX_NODES }
         ensures { result ≡ number }
     {
         NodeCount {
@@ -41,7 +43,7 @@ impl NodeCount {
     /// How many.
     pub fn get(self) -> u8
         ensures value { result ≡ self }
-        ensures most { result ≤ 16 }
+        ensures most { result ≤ MAX_NODES }
     {
         self.number
     }
@@ -66,19 +68,19 @@ pub fn word_at<'a, 'b>(words: &'a [&'b [u8]]) -> Result<(&'b [u8], &'a [&'b [u8]
     ensures { Gives (λ x. (x.0.now, map (λ w. w.now) x.1.now)) result (word_at (map (λ w. w.now) words.now)) }
 {
     match words {
-        [] => Err(LineEnd::Why(10)),
+        [] => Err(LineEnd::Why(Why::Missing)),
         [first, rest @ ..] => Ok((first, rest)),
     }
 }
 
 /// The end of the line; why 1 where a word is left.
-pub fn end_at(words: &[&[u8]]) -> Result<u64, LineEnd>
-    ensures { Gives (λ n. n) result (end_at (map (λ w. w.now) words.now)) }
+pub fn end_at(words: &[&[u8]]) -> Result<(), LineEnd>
+    ensures { Gives (λ x. x) result (end_at (map (λ w. w.now) words.now)) }
 {
     if words.is_empty() {
-        Ok(0)
+        Ok(())
     } else {
-        Err(LineEnd::Why(1))
+        Err(LineEnd::Why(Why::Word))
     }
 }
 
@@ -89,7 +91,7 @@ pub fn number_at<'a, 'b>(words: &'a [&'b [u8]]) -> Result<(u64, &'a [&'b [u8]]),
 {
     let (word, rest) = word_at(words)?;
     match number(word) {
-        None => Err(LineEnd::Why(2)),
+        None => Err(LineEnd::Why(Why::Number)),
         Some(n) => Ok((n, rest)),
     }
 }
@@ -102,7 +104,7 @@ pub fn in_range(low: u64, high: u64, n: u64) -> Result<u64, LineEnd>
     if low <= n && n <= high {
         Ok(n)
     } else {
-        Err(LineEnd::Why(9))
+        Err(LineEnd::Why(Why::Limit))
     }
 }
 
@@ -116,12 +118,12 @@ pub fn node_of(nodes: NodeCount, word: &[u8]) -> Result<NodeId, LineEnd>
                 if 1 <= n && n <= nodes.get() as u64 {
                     Ok(NodeId { number: n as u8 })
                 } else {
-                    Err(LineEnd::Why(3))
+                    Err(LineEnd::Why(Why::Node))
                 }
             }
-            None => Err(LineEnd::Why(3)),
+            None => Err(LineEnd::Why(Why::Node)),
         },
-        _ => Err(LineEnd::Why(3)),
+        _ => Err(LineEnd::Why(Why::Node)),
     }
 }
 
@@ -131,7 +133,7 @@ pub fn key_of(word: &[u8]) -> Result<Key, LineEnd>
 {
     match Key::new(word) {
         Some(key) => Ok(key),
-        None => Err(LineEnd::Why(5)),
+        None => Err(LineEnd::Why(Why::Key)),
     }
 }
 
@@ -141,13 +143,13 @@ pub fn tx_of(word: &[u8]) -> Result<TxId, LineEnd>
 {
     match number(word) {
         Some(t) => {
-            if 1 <= t && t <= 65535 {
+            if 1 <= t && t <= MAX_TX as u64 {
                 Ok(TxId { number: t as u16 })
             } else {
-                Err(LineEnd::Why(6))
+                Err(LineEnd::Why(Why::Transaction))
             }
         }
-        None => Err(LineEnd::Why(6)),
+        None => Err(LineEnd::Why(Why::Transaction)),
     }
 }
 
