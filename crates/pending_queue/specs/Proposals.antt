@@ -1,6 +1,7 @@
 -- Pending transactions and their proposals.
-use Rattle.std.specs.Prelude.{◌≡◌, ℕ, ◌≤◌, List, [], ◌∷◌, Some, None, refl}
-use Rattle.std.specs.Ordering.{nat_cmp}
+use Rattle.std.specs.Prelude.{◌≡◌, ℕ, ◌≤◌, Bool, false, ◌==◌, List, Option, Some, None, is_some, refl}
+use Rattle.std.specs.declared.cmp.Ordering.{Ordering}
+use Rattle.std.specs.Ordering.{nat_cmp, ordering_then}
 use Rattle.std.specs.FinMap as map
 use Rattle.std.specs.Coded.{Coded, code_by, coded×, coded_ℕ}
 
@@ -23,7 +24,19 @@ pub record IsLeast (proposals : Proposals) (p : ℕ) : Type 0 where
   pub pending : (t : ℕ) × (map.get proposals t ≡ Some p)
   pub least : (t q : ℕ) → map.get proposals t ≡ Some q → p ≤ q
 
--- no transaction stands twice in a list of entries
-abbrev pub AreApart : List (ℕ × ℕ) → Type 0
-AreApart [] = Unit {0}
-AreApart (e ∷ es) = (map.find nat_cmp e.0 es ≡ None) × AreApart es
+-- by proposal, then by transaction
+abbrev pub by_proposal : ℕ × ℕ → ℕ × ℕ → Ordering
+by_proposal a b = ordering_then (nat_cmp a.0 b.0) (nat_cmp a.1 b.1)
+
+-- whether a table has this pair of a proposal and a transaction
+abbrev pub has : List ((ℕ × ℕ) × Unit {0}) → ℕ × ℕ → Bool
+has ps q = is_some (map.find by_proposal q ps)
+
+-- whether what was found is this proposal
+abbrev pub is_proposal : Option ℕ → ℕ → Bool
+is_proposal None p = false
+is_proposal (Some q) p = p == q
+
+-- a table by transaction and one by proposal have the same
+abbrev pub AreAlike : List (ℕ × ℕ) → List ((ℕ × ℕ) × Unit {0}) → Type 0
+AreAlike es ps = (t p : ℕ) → has ps (p, t) ≡ is_proposal (map.find nat_cmp t es) p

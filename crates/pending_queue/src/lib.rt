@@ -5,36 +5,43 @@
 //! there is room. A read at or above the least proposal has to wait, and what was committed at or
 //! above it cannot be applied yet.
 //!
+//! The transactions stand in two tables: in order, each with its proposal, and by proposal. An `add`
+//! and an `end` look up a transaction by halving, so that among n they compare at most p keys in each
+//! table, where 2^p is at most 2n + 1, and move what stands behind its place by one. The least
+//! proposal is the first of the second table.
+//!
 //! Only `reserve` takes memory.
 #![tactic(auto)]
 
-ghost use Rattle.std.specs.Prelude.{◌≡◌, ◌+◌, ◌≤◌, ◌↔◌, min, IsNone, IfSome, MatchOption, OnOk};
+ghost use Rattle.std.specs.Prelude.{◌≡◌, ℕ, ◌+◌, ◌≤◌, ◌↔◌, ◌==◌, ◌&&◌, not, IsNone, IfSome, OnOk};
 ghost use Rattle.std.specs.Ordering.{nat_cmp};
 ghost use Rattle.std.specs.FinMap as map;
-ghost use Rattle.pending_queue.specs.Proposals.{IsLeast};
+ghost use Rattle.pending_queue.specs.Proposals.{IsLeast, has};
+ghost use Rattle.score_base.specs.Tables.{IsGap};
 
-use score_base::{Ident, Memory, TxId};
+use score_base::{Ident, Memory, Ordered, TxId};
 use std::alloc::Global;
 use std::marker::Model;
 
 /// Pending transactions with their proposals.
 #[derive(Drop, Debug)]
 pub struct Pending {
-    entries: Vec<(TxId, Ident)>,
+    proposals: Ordered<TxId, Ident>,
+    order: Ordered<(Ident, TxId), ()>,
 }
 
 impl Model for Pending {
-    ghost use Rattle.std.specs.Prelude.{◌-◌, vec_len, vec_capacity};
+    ghost use Rattle.std.specs.Prelude.{min};
     ghost use Rattle.std.specs.FinMap as map;
-    ghost use Rattle.pending_queue.specs.Proposals.{Queue, queue_code, AreApart};
+    ghost use Rattle.pending_queue.specs.Proposals.{Queue, queue_code, AreAlike};
 
     ghost Value = { Queue };
 
     ghost coded = { queue_code };
 
-    ghost view = { λ q. record { proposals = map.from_entries q.entries.items; spare = vec_capacity q.entries - vec_len q.entries } };
+    ghost view = { λ q. record { proposals = map.from_entries q.proposals.pairs; spare = min q.proposals.spare q.order.spare } };
 
-    ghost invariant = { λ q. AreApart q.entries.items };
+    ghost invariant = { λ q. AreAlike q.proposals.pairs q.order.pairs };
 }
 
 impl Pending {
@@ -43,7 +50,8 @@ impl Pending {
         ensures { result.proposals ≡ map.empty }
     {
         Pending {
-            entries: Vec::new(alloc),
+            proposals: Ordered::new(alloc),
+            order: Ordered::new(alloc),
         }
     }
 
@@ -54,8 +62,8 @@ impl Pending {
         ensures kept { self.old.spare ≤ self.new.spare }
         ensures proposals { self.new.proposals ≡ self.old.proposals }
     {
-        self.entries.reserve(n)?;
-        Ok(())
+        self.proposals.reserve(n)?;
+        self.order.reserve(n)
     }
 
     /// `t` is pending from now on, with the proposal `p`.
@@ -65,7 +73,10 @@ impl Pending {
         ensures added { self.new.proposals ≡ map.insert self.old.proposals t p }
         ensures spare { self.old.spare ≤ self.new.spare + 1 }
     {
-        self.entries.push_reserved((t, p));
+        let i = place_of_new(&self.proposals, &t);
+        let j = place_of_new(&self.order, &(p, t));
+        self.proposals.insert(i, t, p);
+        self.order.insert(j, (p, t), ());
     }
 
     /// `t` is not pending any more. Gives its proposal; `None` exactly where it was not pending.
@@ -74,21 +85,24 @@ impl Pending {
         ensures ended { self.new.proposals ≡ map.remove self.old.proposals t }
         ensures spare { self.old.spare ≤ self.new.spare }
     {
-        let proposal = self.proposal(t);
-        self.entries.retain(|entry| entry.0 != t);
-        proposal
+        match self.proposals.place(&t) {
+            Ok(i) => {
+                let p = self.proposals.remove(i).1;
+                drop_proposal(&mut self.order, (p, t));
+                Some(p)
+            }
+            Err(_) => None,
+        }
     }
 
     /// The proposal of `t`; `None` exactly where it is not pending.
     pub fn proposal(&self, t: TxId) -> Option<Ident>
         ensures { result ≡ map.get self.now.proposals t }
     {
-        for entry in &self.entries {
-            if entry.0 == t {
-                return Some(entry.1);
-            }
+        match self.proposals.place(&t) {
+            Ok(i) => Some(self.proposals.pair(i).1),
+            Err(_) => None,
         }
-        None
     }
 
     /// The least proposal; `None` exactly where nothing is pending.
@@ -96,21 +110,31 @@ impl Pending {
         ensures none { IsNone result ↔ (self.now.proposals ≡ map.empty) }
         ensures least { IfSome result (IsLeast self.now.proposals) }
     {
-        let mut least = None;
-        for entry in &self.entries {
-            least = Some(lesser(least, entry.1));
+        match self.order.len() {
+            0 => None,
+            _ => Some((self.order.pair(0).0).0),
         }
-        least
     }
 }
 
-/// The lesser of two proposals, of which the first may be missing.
-fn lesser(least: Option<Ident>, p: Ident) -> Ident
-    ensures { MatchOption least (result ≡ p) (λ q. result ≡ min q p) }
+/// Where a key that is not there has its place.
+fn place_of_new<K: Copy + Ord, V: Copy>(table: &Ordered<K, V>, key: &K) -> usize
+    requires { map.find K.cmp key.now table.now.pairs ≡ None }
+    ensures { IsGap K.cmp table.now.pairs key.now result }
 {
-    match least {
-        Some(q) if q < p => q,
-        _ => p,
+    match table.place(key) {
+        Ok(i) => i,
+        Err(i) => i,
+    }
+}
+
+/// Takes out this proposal, if it is there.
+fn drop_proposal(order: &mut Ordered<(Ident, TxId), ()>, proposal: (Ident, TxId))
+    ensures dropped { (q : ℕ × ℕ) → has order.new.pairs q ≡ (not (q.0 == proposal.0 && q.1 == proposal.1) && has order.old.pairs q) }
+    ensures spare { order.old.spare ≤ order.new.spare }
+{
+    if let Ok(i) = order.place(&proposal) {
+        order.remove(i);
     }
 }
 

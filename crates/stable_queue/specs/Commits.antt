@@ -1,5 +1,5 @@
 -- Commits that wait to be applied: pairs of a final identifier and a transaction.
-use Rattle.std.specs.Prelude.{◌≡◌, ℕ, ◌<◌, ◌≤◌, Bool, true, nat_lt, ◌==◌, ◌&&◌, ◌||◌, IsTrue, Option, Some, None, ◌⊎◌, if◌then◌else◌, refl}
+use Rattle.std.specs.Prelude.{◌≡◌, ℕ, ◌<◌, ◌≤◌, Bool, true, nat_lt, IsTrue, List, map, Option, Some, None, ◌⊎◌, refl}
 use Rattle.std.specs.declared.cmp.Ordering.{Ordering}
 use Rattle.std.specs.Ordering.{nat_cmp, ordering_then}
 use Rattle.std.specs.FinSet as set
@@ -38,7 +38,6 @@ pub record IsLeastBelow (commits : Commits) (limit : Option ℕ) (m : ℕ × ℕ
   pub below : IsTrue (is_below limit m.0)
   pub least : (n : ℕ × ℕ) → IsTrue (set.contains commits n) → IsTrue (is_below limit n.0) → IsAtMost m n
 
--- the lesser of two commits, of which the first may be missing
-abbrev pub lesser : Option (ℕ × ℕ) → ℕ × ℕ → ℕ × ℕ
-lesser None n = n
-lesser (Some m) n = if nat_lt m.0 n.0 || (m.0 == n.0 && nat_lt m.1 n.1) then m else n
+-- the commits of a table that has nothing but them
+abbrev pub commits_of : List ((ℕ × ℕ) × Unit {0}) → Commits
+commits_of ps = set.from_list (map (λ p. p.0) ps)

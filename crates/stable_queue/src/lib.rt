@@ -5,33 +5,35 @@
 //! In contracts a queue is the record of a set of pairs of a final identifier and a transaction, and
 //! of `spare`, the number of pairs for which there is room.
 //!
+//! The commits stand in order. An `add` compares at most p of n commits, where 2^p is at most 2n + 1,
+//! and moves those behind its place by one: none, where its final identifier is the greatest. The
+//! least commit is the first, and taking it out moves all others by one, in one pass.
+//!
 //! Only `reserve` takes memory.
 #![tactic(auto)]
 
 ghost use Rattle.std.specs.Prelude.{◌≡◌, ℕ, ◌+◌, ◌≤◌, ◌↔◌, IsTrue, IsNone, IfSome, MatchOption, OnOk};
 ghost use Rattle.std.specs.FinSet as set;
-ghost use Rattle.stable_queue.specs.Commits.{is_below, lesser, IsLeastBelow};
+ghost use Rattle.stable_queue.specs.Commits.{is_below, IsLeastBelow};
 
-use score_base::{Ident, Memory, TxId};
+use score_base::{Ident, Memory, Ordered, TxId};
 use std::alloc::Global;
 use std::marker::Model;
 
 /// Commits that wait to be applied.
 #[derive(Drop, Debug)]
 pub struct Stable {
-    commits: Vec<(Ident, TxId)>,
+    commits: Ordered<(Ident, TxId), ()>,
 }
 
 impl Model for Stable {
-    ghost use Rattle.std.specs.Prelude.{◌-◌, vec_len, vec_capacity};
-    ghost use Rattle.std.specs.FinSet as set;
-    ghost use Rattle.stable_queue.specs.Commits.{Queue, queue_code};
+    ghost use Rattle.stable_queue.specs.Commits.{Queue, queue_code, commits_of};
 
     ghost Value = { Queue };
 
     ghost coded = { queue_code };
 
-    ghost view = { λ q. record { commits = set.from_list q.commits.items; spare = vec_capacity q.commits - vec_len q.commits } };
+    ghost view = { λ q. record { commits = commits_of q.commits.pairs; spare = q.commits.spare } };
 }
 
 impl Stable {
@@ -40,7 +42,7 @@ impl Stable {
         ensures { result.commits ≡ set.empty }
     {
         Stable {
-            commits: Vec::new(alloc),
+            commits: Ordered::new(alloc),
         }
     }
 
@@ -51,8 +53,7 @@ impl Stable {
         ensures kept { self.old.spare ≤ self.new.spare }
         ensures commits { self.new.commits ≡ self.old.commits }
     {
-        self.commits.reserve(n)?;
-        Ok(())
+        self.commits.reserve(n)
     }
 
     /// `t`, committed with the final identifier `f`, waits from now on.
@@ -62,7 +63,9 @@ impl Stable {
         ensures added { self.new.commits ≡ set.insert self.old.commits (f, t) }
         ensures spare { self.old.spare ≤ self.new.spare + 1 }
     {
-        self.commits.push_reserved((f, t));
+        if let Err(i) = self.commits.place(&(f, t)) {
+            self.commits.insert(i, (f, t), ());
+        }
     }
 
     /// Takes out the least commit whose final identifier is below the limit, or the least of all
@@ -73,24 +76,15 @@ impl Stable {
         ensures rest { MatchOption result (self.new.commits ≡ self.old.commits) (λ m. self.new.commits ≡ set.remove self.old.commits m) }
         ensures spare { self.old.spare ≤ self.new.spare }
     {
-        let least = self.least()?;
+        if self.commits.len() == 0 {
+            return None;
+        }
+        let least = self.commits.pair(0).0;
         if !is_below(limit, least.0) {
             return None;
         }
-        self.commits.retain(|commit| *commit != least);
+        self.commits.remove(0);
         Some(least)
-    }
-
-    /// The least commit.
-    fn least(&self) -> Option<(Ident, TxId)>
-        ensures none { IsNone result → self.now.commits ≡ set.empty }
-        ensures least { IfSome result (IsLeastBelow self.now.commits None) }
-    {
-        let mut least = None;
-        for commit in &self.commits {
-            least = Some(lesser(least, *commit));
-        }
-        least
     }
 }
 
@@ -100,15 +94,6 @@ fn is_below(limit: Option<Ident>, f: Ident) -> bool
     match limit {
         Some(limit) => f < limit,
         None => true,
-    }
-}
-
-fn lesser(least: Option<(Ident, TxId)>, commit: (Ident, TxId)) -> (Ident, TxId)
-    ensures { result ≡ lesser least commit }
-{
-    match least {
-        Some(m) if m.0 < commit.0 || (m.0 == commit.0 && m.1 < commit.1) => m,
-        _ => commit,
     }
 }
 

@@ -1,0 +1,7 @@
+use Rattle.pending_queue.proofs.Alike.{there_is_no_key}
+use Rattle.pending_queue.proofs.place_of_new.Goals as goal
+
+pub returns-in-Ok : goal.returns-in-Ok
+returns-in-Ok g c =
+    let found = c.in-Ok.ensures.found in
+    absurd (there_is_no_key g.met.K.Ord.total c.args.table.now.pairs c.in-Ok.i c.args.key.now c.in-Ok.ensures.rising found.0 found.1 c.requires)
