@@ -1,8 +1,8 @@
 -- Advance asks for what its transaction waits: the read, or the votes of all parts.
+use Rattle.grid_laws.proofs.StoryClaims.{is_untaking}
 use Rattle.cause_laws.proofs.UntakingTurns.{advance-untaking, untaking-later}
 use Rattle.grid_laws.proofs.AnsweredRows.{advance-kept}
 use Rattle.cause_laws.proofs.KeyHolders.{preferred-some}
-use Rattle.grid_laws.proofs.Answered.{is_untaking}
 use Rattle.grid_laws.proofs.Frames.{same-number}
 use Rattle.grid_laws.proofs.Snapshots.{OfStory}
 use Rattle.script_runs.proofs.Walks.{waiting-read}

@@ -1,29 +1,28 @@
 -- Between events each open transaction asked for what it waits: the read, or the votes of all parts.
+use Rattle.grid_laws.proofs.AnsweredRuns.{answer-reply}
+use Rattle.grid_laws.proofs.StoryClaims.{is_untaking}
+use Rattle.grid_laws.proofs.RowOuts.{kept-first}
 use Rattle.cause_laws.proofs.AdvanceAsks.{AllAsked, IsAsked, asked-later, untaking-asked, self-asked}
 use Rattle.cause_laws.proofs.UntakingTurns.{IsTurn, advance-untaking, answered_by, begun_by, untaking_turn, event-turn}
 use Rattle.cause_laws.proofs.Events.{Event, run-holds}
 use Rattle.grid_laws.proofs.UntakingActs.{untaking-starts}
-use Rattle.grid_laws.proofs.AnsweredRuns.{numbered-taken}
-use Rattle.grid_laws.proofs.Answered.{is_untaking}
 use Rattle.grid_laws.proofs.DueAnswers.{stage-quiet, story-taken, with_reply}
 use Rattle.grid_laws.proofs.DueHomes.{story-began}
 use Rattle.grid_laws.proofs.Stages.{Opens, opens-reads}
 use Rattle.grid_model.proofs.Undecided.{script-number}
 use Rattle.grid_model.specs.Advances.{advance}
 use Rattle.grid_model.specs.Documents.{DocumentData, IsOne}
-use Rattle.grid_model.specs.Fitness.{is_fit_at}
 use Rattle.grid_model.specs.Histories.{after, sent, sent_at}
 use Rattle.journal_words.specs.Journals.{commit_id}
 use Rattle.grid_model.specs.Nodes.{journal, script_of}
-use Rattle.grid_model.specs.Rows.{answer, begin_outs, reply_row}
+use Rattle.grid_model.specs.Rows.{answer, begin_outs}
 use Rattle.grid_model.specs.Runs.{IsRun}
 use Rattle.grid_model.specs.Schedules.{kept, next_number, numbered, start_row}
 use Rattle.grid_model.specs.Stories.{begun, if_told, story, with_value, progressed}
-use Rattle.grid_model.specs.Views.{Apart, Collects, Commits, Open, Reads, Stage, open_of, stage, view, participant}
+use Rattle.grid_model.specs.Views.{Open, open_of, stage, view, participant}
 use Rattle.grid_model.specs.declared.acts.Act.TheVariants as act
 use Rattle.grid_model.specs.declared.acts.Act.{Act}
 use Rattle.grid_model.specs.declared.events.Out.TheVariants as out
-use Rattle.grid_model.specs.declared.events.Out.{Out}
 use Rattle.grid_model.specs.declared.messages.Message.TheVariants as message
 use Rattle.grid_model.specs.declared.messages.ReadRep.{ReadRep}
 use Rattle.grid_model.specs.declared.stories.Story.{Story}
@@ -78,15 +77,6 @@ asked-begin d past acts u b one is k all =
     began true = refl
     began false = refl
 
-asked-if : (d : DocumentData) (now : List Act) (m : ℕ) (n : NodeId) (b c : Bool) (os : List Out) → AllAsked d now → (c ≡ true → AllAsked d (after now (numbered m n (kept b n os)))) → AllAsked d (after now (numbered m n (kept b n (if c then os else []))))
-asked-if d now m n b true os all go = go refl
-asked-if d now m n true false os all go = all
-asked-if d now m n false false os all go = all
-
-asked-none : (d : DocumentData) (now : List Act) (m : ℕ) (n : NodeId) (b : Bool) → AllAsked d now → AllAsked d (after now (numbered m n (kept b n [])))
-asked-none d now m n true all = all
-asked-none d now m n false all = all
-
 asked-taken : (d : DocumentData) (past : List Act) (m : ℕ) (n : NodeId) (b : Bool) (q : ReadRep) (o : Open) (w : Option ℕ) → IsOne d → Opens d past n q.t o w → AllAsked d past → AllAsked d (after past (numbered m n (kept b n (out.Act (act.Taken q.t q.op q.sid q.value) ∷ advance d.cluster (with_reply q o) q.op))))
 asked-taken d past m n b q o w one h all =
     let u : ScriptData = h.script in
@@ -99,13 +89,7 @@ asked-taken d past m n b q o w one h all =
     let S : Open → Type 0 = λ z. AllAsked d (after now (numbered m n (kept b n (advance d.cluster (with_reply q z) q.op)))) in
     let T : List Act → Type 0 = λ acts. AllAsked d (after past acts) in
     let more : AllAsked d (after now rest) = all-but d past now rest u (subst P (sym number) h.at.script) (λ s other script. other-if d now s (q.t == s.number) (progressed (with_value q.op q.sid q.value)) (story d past s.number) (let ne : q.t ≢ s.number = (λ e. other (number ∙ e)) in grind (arith, nat_tests, ne)) (asked-later d past (act.Taken q.t q.op q.sid q.value ∷ []) s (story d past s.number) (all s script))) (advance-untaking d.cluster (open_of u y) q.op b m n) (self-asked d now m n b u y q.op one (subst Q (sym number) (story-taken d past q h.story h.at.story))) in
-    subst T (sym (numbered-taken m n b q.t q.op q.sid q.value (advance d.cluster (with_reply q o) q.op))) (subst S (sym h.is) more)
-
-asked-reply : (d : DocumentData) (past : List Act) (m : ℕ) (n : NodeId) (b : Bool) (q : ReadRep) (g : Stage) → IsOne d → stage (view d past n) q.t ≡ g → AllAsked d past → AllAsked d (after past (numbered m n (kept b n (reply_row d.cluster q g))))
-asked-reply d past m n b q (Reads o j) one e all = asked-if d past m n b (j == q.op) (out.Act (act.Taken q.t q.op q.sid q.value) ∷ advance d.cluster (with_reply q o) q.op) all (λ same. asked-taken d past m n b q o (Some j) one (opens-reads d past n q.t o j e) all)
-asked-reply d past m n b q (Collects o) one e all = asked-none d past m n b all
-asked-reply d past m n b q (Commits y acks) one e all = asked-none d past m n b all
-asked-reply d past m n b q Apart one e all = asked-none d past m n b all
+    subst T (sym (kept-first m n b (act.Taken q.t q.op q.sid q.value) (advance d.cluster (with_reply q o) q.op) refl)) (subst S (sym h.is) more)
 
 asked-answered : (d : DocumentData) (past acts : List Act) (k : ℕ) (n x : NodeId) (q : ReadRep) (b : Bool) → IsOne d → sent_at k (sent past) ≡ Some (record { from = x; to = n; message = message.ReadRep q }) → acts ≡ act.Got k ∷ numbered (next_number past) n (kept b n (answer n (view d past n) x (message.ReadRep q))) → AllAsked d past → AllAsked d (after past acts)
 asked-answered d past acts k n x q b one is e all =
@@ -113,7 +97,9 @@ asked-answered d past acts k n x q b one is e all =
     let same : stage (view d now n) q.t ≡ stage (view d past n) q.t = stage-quiet d past k x n (message.ReadRep q) q.t is refl in
     let here : AllAsked d now = (λ s script. untaking-asked d past (act.Got k ∷ []) s refl (all s script)) in
     let P : List Act → Type 0 = λ z. AllAsked d (after past z) in
-    subst P (sym e) (asked-if d now (next_number past) n b (is_fit_at n (participant (view d past n)) (stage (view d past n) q.t) x (message.ReadRep q)) (reply_row d.cluster q (stage (view d past n) q.t)) here (λ fit. asked-reply d now (next_number past) n b q (stage (view d past n) q.t) one same here))
+    subst P (sym e)
+    (answer-reply (λ z. AllAsked d (after now z)) (next_number past) n x b (view d past n) q here
+    (λ y reads. asked-taken d now (next_number past) n b q y (Some q.op) one (opens-reads d now n q.t y q.op (same ∙ reads)) here))
 
 asked-event : (d : DocumentData) (past acts : List Act) → IsOne d → Event d past acts → AllAsked d past → AllAsked d (after past acts)
 asked-event d past acts one event all = go (event-turn d past acts event.is)

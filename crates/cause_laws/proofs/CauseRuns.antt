@@ -92,20 +92,20 @@ pub reader_aborted-refuted : Caused first_read (first_read_acts ++ act.Refused 2
 reader_aborted-refuted caused = let is : false ≡ true = caused.0 in false≢true is
 
 -- is this act one that needs no cause?
-abbrev is_plain : Act → Bool
-is_plain (act.Aborted t n why) = false
-is_plain (act.Refused n t why) = false
-is_plain (act.Lost t) = false
-is_plain a = true
+abbrev needs_no_cause : Act → Bool
+needs_no_cause (act.Aborted t n why) = false
+needs_no_cause (act.Refused n t why) = false
+needs_no_cause (act.Lost t) = false
+needs_no_cause a = true
 
 -- acts that need no cause keep the claim
-pub plain-caused : (d : DocumentData) (later past : List Act) → IsTrue (list_all is_plain later) → EachBehind (IsCausedAct d) past → EachBehind (IsCausedAct d) (later ++ past)
-plain-caused d [] past are rest = rest
-plain-caused d (x ∷ later) past are rest = (
-    let both : IsTrue (is_plain x) × IsTrue (list_all is_plain later) = and_parts (is_plain x) (list_all is_plain later) are in
-    (one x both.0, plain-caused d later past both.1 rest))
+pub uncaused-kept : (d : DocumentData) (later past : List Act) → IsTrue (list_all needs_no_cause later) → EachBehind (IsCausedAct d) past → EachBehind (IsCausedAct d) (later ++ past)
+uncaused-kept d [] past are rest = rest
+uncaused-kept d (x ∷ later) past are rest = (
+    let both : IsTrue (needs_no_cause x) × IsTrue (list_all needs_no_cause later) = and_parts (needs_no_cause x) (list_all needs_no_cause later) are in
+    (one x both.0, uncaused-kept d later past both.1 rest))
   where
-    one : (x : Act) → IsTrue (is_plain x) → IsCausedAct d x (later ++ past)
+    one : (x : Act) → IsTrue (needs_no_cause x) → IsCausedAct d x (later ++ past)
     one (act.Aborted t n why) is = absurd (false≢true is)
     one (act.Refused n t why) is = absurd (false≢true is)
     one (act.Lost t) is = absurd (false≢true is)
@@ -117,11 +117,11 @@ crashed = after [] presumed_abort_acts
 
 -- the transaction that it loses was collecting when its home was opened
 pub crash-caused : Caused presumed_abort presumed_abort_acts
-crash-caused = plain-caused presumed_abort (take 11 crashed) (drop 11 crashed) refl (refl, plain-caused presumed_abort (drop 12 crashed) [] refl tt)
+crash-caused = uncaused-kept presumed_abort (take 11 crashed) (drop 11 crashed) refl (refl, uncaused-kept presumed_abort (drop 12 crashed) [] refl tt)
 
 -- where no act needs a cause, there is none to show
 pub bystander-caused : Caused bystander_gets_nothing bystander_gets_nothing_acts
-bystander-caused = plain-caused bystander_gets_nothing (after [] bystander_gets_nothing_acts) [] refl tt
+bystander-caused = uncaused-kept bystander_gets_nothing (after [] bystander_gets_nothing_acts) [] refl tt
 
 -- ---- a newer version
 
@@ -131,7 +131,7 @@ stale = after [] stale_read_refused_acts
 
 -- the refusal names the newer version, and the abort the refusal
 pub stale-caused : Caused stale_read_refused stale_read_refused_acts
-stale-caused = plain-caused stale_read_refused (take 6 stale) (drop 6 stale) refl (refl, plain-caused stale_read_refused (take 2 (drop 7 stale)) (drop 9 stale) refl (refl, plain-caused stale_read_refused (drop 10 stale) [] refl tt))
+stale-caused = uncaused-kept stale_read_refused (take 6 stale) (drop 6 stale) refl (refl, uncaused-kept stale_read_refused (take 2 (drop 7 stale)) (drop 9 stale) refl (refl, uncaused-kept stale_read_refused (drop 10 stale) [] refl tt))
 
 -- the acts before the refusal, and a refusal for this version of `a`
 abbrev pub refused_by : Ident → List Act

@@ -66,12 +66,7 @@ RequestEnds d x y said = Unit {0}
 
 requests-due : (d : DocumentData) (past : List Act) (n y : NodeId) (said : Message) → IsOne d → SendDue d past n y said → RequestEnds d n y said
 requests-due d past n y (message.ReadReq q) one due = request-ends d past n y q one due
-requests-due d past n y (message.ReadRep q) one due = tt
-requests-due d past n y (message.Prepare q) one due = tt
-requests-due d past n y (message.Vote t b) one due = tt
-requests-due d past n y (message.Tell t o) one due = tt
-requests-due d past n y (message.Ack t) one due = tt
-requests-due d past n y (message.Ask t) one due = tt
+requests-due d past n y said one due = tt
 
 -- the request of a read
 requested-ends : (d : DocumentData) (past : List Act) (n : NodeId) (h : HeldRead) → IsOne d → AllDue d past → Requested d past n h → HomeAndPart d h.t h.from n

@@ -1,4 +1,5 @@
 -- The events of a run, one by one: what is left true by each event holds at the end.
+use Rattle.grid_laws.proofs.DueActs.{due-before}
 use Rattle.grid_laws.proofs.UntakingActs.{untaking-starts}
 use Rattle.grid_laws.proofs.Answered.{AllTold, untaking-all}
 use Rattle.grid_laws.proofs.AnsweredRuns.{told-row}
@@ -12,10 +13,8 @@ use Rattle.grid_model.specs.Documents.{DocumentData, IsOne}
 use Rattle.grid_model.specs.Facts.{AllFit, GotIsFit}
 use Rattle.grid_model.specs.Histories.{after}
 use Rattle.grid_model.specs.Runs.{IsRun, Rows}
-use Rattle.grid_model.specs.Schedules.{Choice, events_in, row, start_row, acts_of, begin_row, deliver_row, drop_row, flag_of, kept, next_left, next_number, next_row, numbered, opened_row, or_void, retry_at}
-use Rattle.grid_model.specs.Stories.{told, story}
-use Rattle.grid_model.specs.Views.{stage, view, participant}
-use Rattle.grid_model.specs.declared.acts.Act.TheVariants as act
+use Rattle.grid_model.specs.Schedules.{Choice, events_in, row, start_row}
+use Rattle.grid_model.specs.Stories.{told}
 use Rattle.grid_model.specs.declared.acts.Act.{Act}
 use Rattle.grid_model.specs.declared.items.Item.{Item}
 use Rattle.score_base.specs.declared.ids.NodeId.{NodeId}
@@ -53,11 +52,6 @@ pub record Event (d : DocumentData) (past acts : List Act) : Type 0 where
 pub fit-before : (P : Act → List Act → Type 0) (past acts : List Act) → EachBehind P (after past acts) → EachBehind P past
 fit-before P past [] h = h
 fit-before P past (a ∷ acts) h = (fit-before P (a ∷ past) acts h).1
-
--- what was due before
-pub due-before : (d : DocumentData) (past acts : List Act) → AllDue d (after past acts) → AllDue d past
-due-before d past [] due = due
-due-before d past (a ∷ acts) due = (due-before d (a ∷ past) acts due).1
 
 rows-hold : (d : DocumentData) (B : List Act → Type 0) → ((past acts : List Act) → Event d past acts → B past → B (after past acts)) → (past : List Act) (es : List Item) (h : List Act) → AllDue d (after past h) → AllTold d past → B past → AllFit d (after past h) → Rows d past es h → B (after past h)
 unfolding Rows

@@ -1,5 +1,5 @@
 -- A vote that is got is counted, or its transaction is settled, or its home is down; and while one collects, some part has not voted.
-use Rattle.cause_laws.proofs.Events.{due-before}
+use Rattle.grid_laws.proofs.DueActs.{due-before}
 use Rattle.cause_laws.proofs.KeyHolders.{holders-some}
 use Rattle.cause_laws.proofs.LossesSettle.{HasBegun, begun-more}
 use Rattle.cause_laws.proofs.Settled.{is_settled, is_shut, settled-later, settled-more}
@@ -174,12 +174,7 @@ vote-leaves d past m n x b s a rest one is got fit r due = go (is_settled d past
 -- a vote on t is one, and says yes or no
 pub vote-of : (t : TxId) (said : Message) → is_vote_of t said ≡ true → (a : Ballot) × (said ≡ message.Vote t a)
 vote-of t (message.Vote u a) h = let same : u ≡ t = grind (arith, nat_tests, h) in (a, ap (λ z. message.Vote z a) same)
-vote-of t (message.ReadReq q) h = cc
-vote-of t (message.ReadRep q) h = cc
-vote-of t (message.Prepare q) h = cc
-vote-of t (message.Tell u o) h = cc
-vote-of t (message.Ack u) h = cc
-vote-of t (message.Ask u) h = cc
+vote-of t said h = cc
 
 -- the same of an envelope
 pub env-leaves : (d : DocumentData) (past : List Act) (m : ℕ) (e : Envelope) (b : Bool) (s : ScriptData) (rest : List Act) → IsOne d → script_of s.number d.scripts ≡ Some s → sent_at m (sent past) ≡ Some e → is_fit e.to (view d past e.to) e.from e.message ≡ true → rest ≡ numbered (next_number past) e.to (kept b e.to (answer e.to (view d past e.to) e.from e.message)) → AllDue d (after (act.Got m ∷ past) rest) → is_vote_of s.number e.message ≡ true → VoteLeaves d past m s e.from rest

@@ -1,4 +1,5 @@
 -- What a request and an outcome that are got leave of the held reads of their node.
+use Rattle.grid_laws.proofs.EachActs.{tests-append}
 use Rattle.cause_laws.proofs.HeldNodes.{HoldsWaiting, IsKeptRead, has_read, is_serving, is_waiting_read, kept-behind, unheld-kept, unheld-read, unheld-waiting, waiting-later}
 use Rattle.cause_laws.proofs.ReleasedReads.{Released, release-kept}
 use Rattle.cause_laws.proofs.UnheldOuts.{is_unheld, unheld-acts}
@@ -32,7 +33,7 @@ use Rattle.score_base.specs.declared.keys.Key.{Key}
 use Rattle.score_base.specs.declared.records.Record.TheVariants as record'
 use Rattle.score_base.specs.declared.records.Record.{Record}
 use Rattle.std.proofs.Common.{Bool, List, None, Option, Some, [], ap, false, inl, inr, refl, subst, sym, true, ℕ, ◌++◌, ◌+◌, ◌||◌, ◌∙◌, ◌∷◌, ◌≡◌}
-use Rattle.std.proofs.lemmas.Bool.{and_from, and_parts, or_cases, or_left, or_right}
+use Rattle.std.proofs.lemmas.Bool.{and_from, or_cases, or_left, or_right, both_ways}
 use Rattle.std.proofs.lemmas.List.Folds.{list_any-append}
 use Rattle.std.specs.List.{list_all, list_any}
 use Rattle.std.specs.Prelude.{if◌then◌else◌, not, ◌&&◌, ◌==◌}
@@ -40,9 +41,6 @@ use Rattle.std.specs.Prelude.{if◌then◌else◌, not, ◌&&◌, ◌==◌}
 or-behind : (x y z : Bool) → (y || z) ≡ true → ((x || y) || z) ≡ true
 or-behind true y z e = refl
 or-behind false y z e = e
-
-true-false : (b : Bool) → b ≡ true → b ≡ false → ⊥
-true-false b e f = (let g : true ≡ false = sym e ∙ f in cc)
 
 -- what these acts of k leave: held reads that wait, and each read that was held, or that passes, held or answered
 pub record RowKept (d : DocumentData) (now acts : List Act) (k : NodeId) (mine : TxId → ℕ → Bool) : Type 0 where
@@ -78,10 +76,6 @@ served-still d now k t op key sid vn v asked = rw (same-number k, asked) refl
 held-node : (d : DocumentData) (now : List Act) (k x : NodeId) (q : ReadReq) (sid : Ident) → got now ≡ Some (record { from = x; to = k; message = message.ReadReq q }) → node d (act.Held k q.t q.op sid ∷ now) k ≡ changed (Holds (Some (record { t = q.t; op = q.op; sid = sid; key = q.key; from = x }))) (node d now k)
 held-node d now k x q sid at = rw (same-number k, at) refl
 
-all-with : (p : HeldRead → Bool) (xs : List HeldRead) (h : HeldRead) → list_all p xs ≡ true → p h ≡ true → list_all p (xs ++ h ∷ []) ≡ true
-all-with p [] h a b = and_from (p h) true b refl
-all-with p (x ∷ xs) h a b = let both = and_parts (p x) (list_all p xs) a in and_from (p x) (list_all p (xs ++ h ∷ [])) both.0 (all-with p xs h both.1 b)
-
 answered-row : (d : DocumentData) (now : List Act) (m : ℕ) (k x : NodeId) (q : ReadReq) (sid : Ident) (w : Version) (cl : Bool) → got now ≡ Some (record { from = x; to = k; message = message.ReadReq q }) → cl ≡ is_clear sid (journal d now k) → (node d now k).up ≡ true → HoldsWaiting (node d now k) → RowKept d now (numbered m k (answered cl k x q sid w)) k (this_read q)
 answered-row d now m k x q sid w true at clear up h =
     let asked : is_request (said_by (got now)) ≡ true = rw at refl in
@@ -100,7 +94,7 @@ answered-row d now m k x q sid w false at clear up h =
     let P : Node → Type 0 = λ z. HoldsWaiting z in
     let waits : is_waiting_read (journal d now k) y ≡ true = (let B : Bool → Type 0 = λ b. not b ≡ true in subst B clear refl) in
     record {
-      holds = subst P (sym same) (record { waits = all-with (is_waiting_read (journal d now k)) (node d now k).held y h.waits waits; down = λ e. absurd (true-false (node d now k).up up e) });
+      holds = subst P (sym same) (record { waits = tests-append (is_waiting_read (journal d now k)) (node d now k).held (y ∷ []) h.waits (and_from (is_waiting_read (journal d now k) y) true waits refl); down = λ e. absurd (both_ways (node d now k).up e up) });
       kept = λ t j r.
           let Q : Node → Type 0 = λ z. has_read t j z.held ≡ true in
           subst Q (sym same) (list_any-append (λ z. z.t == t && z.op == j) (node d now k).held (y ∷ []) ∙ elim (or_cases (this_read q t j) (has_read t j (node d now k).held) r) [
@@ -144,7 +138,7 @@ ended-node : (d : DocumentData) (now : List Act) (k : NodeId) (t : TxId) (o : Ou
 ended-node d now k t o = rw (same-number k) refl
 
 released-row : (d : DocumentData) (now acts : List Act) (k : NodeId) → (node d now k).up ≡ true → Released d now acts k (node d now k).held → RowKept d now acts k nothing
-released-row d now acts k up r = record { holds = record { waits = r.waits; down = λ e. absurd (true-false (node d (after now acts) k).up (r.up ∙ up) e) }; kept = λ t j h. r.kept t j h }
+released-row d now acts k up r = record { holds = record { waits = r.waits; down = λ e. absurd (both_ways (node d (after now acts) k).up e (r.up ∙ up)) }; kept = λ t j h. r.kept t j h }
 
 acked-row : (d : DocumentData) (now : List Act) (m : ℕ) (k : NodeId) (t : TxId) (ack : Option NodeId) (r : List Record) → is_request (said_by (got now)) ≡ false → journal d now k ≡ r → (node d now k).up ≡ true → RowKept d now (numbered m k (to_node ack (message.Ack t) ++ release d.cluster r k (node d now k).held)) k nothing
 acked-row d now m k t None r quiet at up = released-row d now (numbered m k (release d.cluster r k (node d now k).held)) k up (release-kept d now m k r [] (node d now k).held quiet at refl refl)

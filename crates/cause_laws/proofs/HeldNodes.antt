@@ -5,7 +5,7 @@ use Rattle.grid_model.specs.Excuses.{is_reply_of}
 use Rattle.grid_model.specs.Documents.{DocumentData}
 use Rattle.grid_model.specs.Histories.{after}
 use Rattle.journal_words.specs.Journals.{is_clear, later}
-use Rattle.grid_model.specs.Nodes.{Change, Frees, Holds, Node, Nothing, Raises, Starts, Stays, Stops, Writes, change, changed, doubt_of, got, is_home, node, parts_in, prepared_by, prepared_from, script_of, where_at}
+use Rattle.grid_model.specs.Nodes.{Change, Node, Nothing, Raises, Stops, Writes, change, changed, doubt_of, got, is_home, node, parts_in, prepared_by, prepared_from, script_of, where_at}
 use Rattle.grid_model.specs.declared.acts.Act.TheVariants as act
 use Rattle.grid_model.specs.declared.acts.Act.{Act}
 use Rattle.grid_model.specs.declared.messages.Envelope.{Envelope}
@@ -48,9 +48,7 @@ clear-before sid (record'.Prepared u home ns i p rs ws) r e h = go (nat_lt sid p
     go true b h = h
     go false b h = refl
 clear-before sid (record'.Ended u o) r e h = cc
-clear-before sid (record'.Ceiling c) r e h = h
-clear-before sid (record'.Decided u f ns) r e h = h
-clear-before sid (record'.Closed u) r e h = h
+clear-before sid y r e h = h
 
 waits-before : (y : Record) (r : List Record) (hs : List HeldRead) → is_no_end (Some y) ≡ true → list_all (is_waiting_read r) hs ≡ true → list_all (is_waiting_read (y ∷ r)) hs ≡ true
 waits-before y r [] e h = refl
@@ -71,10 +69,7 @@ mild-changed (Writes None) x m h = record { waits = h.waits; down = h.down }
 mild-changed (Writes (Some y)) x m h = record { waits = waits-before y x.journal x.held m h.waits; down = h.down }
 mild-changed (Raises sid) x m h = record { waits = h.waits; down = h.down }
 mild-changed (Stops o) x m h = record { waits = refl; down = λ e. refl }
-mild-changed (Holds o) x m h = cc
-mild-changed (Frees t op k sid) x m h = cc
-mild-changed (Starts b) x m h = cc
-mild-changed Stays x m h = cc
+mild-changed w x m h = cc
 
 mild-where : (b : Bool) (c : Change) → is_mild c ≡ true → is_mild (where_at b c) ≡ true
 mild-where true c h = h

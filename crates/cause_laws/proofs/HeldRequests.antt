@@ -66,12 +66,7 @@ pub record ReadsHeld (d : DocumentData) (past : List Act) : Type 0 where
 
 mine-is : (t : TxId) (j : ℕ) (said : Message) → is_request_of t j said ≡ true → mine_of said t j ≡ true
 mine-is t j (message.ReadReq q) h = h
-mine-is t j (message.ReadRep q) h = cc
-mine-is t j (message.Prepare q) h = cc
-mine-is t j (message.Vote u b) h = cc
-mine-is t j (message.Tell u o) h = cc
-mine-is t j (message.Ack u) h = cc
-mine-is t j (message.Ask u) h = cc
+mine-is t j said h = cc
 
 held-event : (d : DocumentData) (past acts : List Act) → IsOne d → Event d past acts → ReadsHeld d past → ReadsHeld d (after past acts)
 held-event d past acts one event all = record { holds = left.holds; served = λ t j n later g. served t j n later g (event-getting d past acts one event) }

@@ -71,9 +71,7 @@ well-ballot d n t ns vs x (ballot.No why) h = well-tells d n t outcome.Abort (ot
 
 well-vote : (d : DocumentData) (past : List Act) (n : NodeId) (t : TxId) (x : NodeId) (b : Ballot) (g : Stage) → stage (view d past n) t ≡ g → AreWell d n (vote_row d.cluster t x b g)
 well-vote d past n t x b (Collects o) e = well-if d n (has_voted x o.progress.votes) [] (ballot_row t (parts_now d.cluster o) o.progress.votes x b) refl (well-ballot d n t (parts_now d.cluster o) o.progress.votes x b (open-parts d past n t o e))
-well-vote d past n t x b (Reads o j) e = refl
-well-vote d past n t x b (Commits y acks) e = refl
-well-vote d past n t x b Apart e = refl
+well-vote d past n t x b w e = refl
 
 well-asked : (d : DocumentData) (n : NodeId) (t : TxId) (x : NodeId) (g : Stage) → HomeAndPart d t n x → AreWell d n (ask_row t x g)
 well-asked d n t x g h = go g

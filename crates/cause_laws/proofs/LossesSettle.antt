@@ -1,5 +1,5 @@
 -- Behind the opening of its home each transaction that began is settled.
-use Rattle.cause_laws.proofs.Events.{due-before}
+use Rattle.grid_laws.proofs.DueActs.{due-before}
 use Rattle.cause_laws.proofs.Settled.{is_settled, is_shut, settled-later, shut-more, unsettled-open}
 use Rattle.grid_laws.proofs.Causes.{AllDue}
 use Rattle.grid_laws.proofs.Frames.{same-number}

@@ -1,13 +1,14 @@
 -- No reply was got for the operation that an open transaction reads.
+use Rattle.grid_laws.proofs.RowOuts.{kept-first}
+use Rattle.grid_laws.proofs.DueActs.{due-before}
 use Rattle.cause_laws.proofs.Ends.{HomeAndPart, sent-ends}
-use Rattle.cause_laws.proofs.Events.{Event, due-before, run-holds}
+use Rattle.cause_laws.proofs.Events.{Event, run-holds}
 use Rattle.cause_laws.proofs.OpenStages.{IsGetting, event-getting, got-ungot, none_got, one_got, stage-open}
 use Rattle.cause_laws.proofs.RepliesAwaited.{Came, HasTaken, reply-came, taken-later}
 use Rattle.cause_laws.proofs.Settled.{is_settled, settled-later}
 use Rattle.cause_laws.proofs.Starts.{start-none}
 use Rattle.grid_laws.proofs.Causes.{AllDue}
 use Rattle.grid_laws.proofs.DueAnswers.{story-taken, with_reply}
-use Rattle.grid_laws.proofs.AnsweredRuns.{numbered-taken}
 use Rattle.grid_laws.proofs.Frames.{same-number}
 use Rattle.grid_laws.proofs.Snapshots.{OfStory}
 use Rattle.grid_laws.proofs.Stages.{story-quiet}
@@ -58,7 +59,7 @@ reply-taken d past m n x b q o e fit =
     let v : View = view d past n in
     let os : List Out = advance d.cluster (with_reply q o) q.op in
     let is : answer n v x (message.ReadRep q) ≡ out.Act (act.Taken q.t q.op q.sid q.value) ∷ os = fit-answer (is_fit_at n (participant v) (stage v q.t) x (message.ReadRep q)) fit (reply_row d.cluster q (stage v q.t)) ∙ ap (reply_row d.cluster q) e ∙ same-op (q.op == q.op) (same-number q.op) (out.Act (act.Taken q.t q.op q.sid q.value) ∷ os) in
-    (numbered m n (kept b n os), ap (λ z. numbered m n (kept b n z)) is ∙ numbered-taken m n b q.t q.op q.sid q.value os)
+    (numbered m n (kept b n os), ap (λ z. numbered m n (kept b n z)) is ∙ kept-first m n b (act.Taken q.t q.op q.sid q.value) os refl)
   where
     fit-answer : (c : Bool) → c ≡ true → (os : List Out) → (if c then os else []) ≡ os
     fit-answer true h os = refl
@@ -120,12 +121,7 @@ reply-got d past m n x b q s rest one is sent fit r due = go (is_settled d past 
 
 reply-of : (t : TxId) (j : ℕ) (said : Message) → is_reply_of t j said ≡ true → (q : ReadRep) × (said ≡ message.ReadRep q) × (q.t ≡ t) × (q.op ≡ j)
 reply-of t j (message.ReadRep q) h = let both = and_parts (q.t == t) (q.op == j) h in let a : (q.t == t) ≡ true = both.0 in let b : (q.op == j) ≡ true = both.1 in (q, refl, grind (arith, nat_tests, a), grind (arith, nat_tests, b))
-reply-of t j (message.ReadReq q) h = cc
-reply-of t j (message.Prepare q) h = cc
-reply-of t j (message.Vote u b) h = cc
-reply-of t j (message.Tell u o) h = cc
-reply-of t j (message.Ack u) h = cc
-reply-of t j (message.Ask u) h = cc
+reply-of t j said h = cc
 
 one-taken : (d : DocumentData) (past : List Act) (m : ℕ) (e : Envelope) (b : Bool) (rest : List Act) (s : ScriptData) (j : ℕ) → IsOne d → script_of s.number d.scripts ≡ Some s → sent_at m (sent past) ≡ Some e → is_fit e.to (view d past e.to) e.from e.message ≡ true → rest ≡ numbered (next_number past) e.to (kept b e.to (answer e.to (view d past e.to) e.from e.message)) → AllDue d (after (act.Got m ∷ past) rest) → is_reply_of s.number j e.message ≡ true → (is_settled d (after (act.Got m ∷ past) rest) s ≡ true) ⊎ HasTaken d (after (act.Got m ∷ past) rest) s.number j
 one-taken d past m e b rest s j one script is fit r due h =

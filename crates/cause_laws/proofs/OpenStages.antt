@@ -77,7 +77,7 @@ abbrev pub is_ungot : Act → Bool
 is_ungot (act.Got m) = false
 is_ungot a = true
 
-middle-ungot : (acts : List Act) → list_all is_middle acts ≡ true → list_all is_ungot acts ≡ true
+pub middle-ungot : (acts : List Act) → list_all is_middle acts ≡ true → list_all is_ungot acts ≡ true
 middle-ungot [] h = refl
 middle-ungot (act.Got m ∷ acts) h = cc
 middle-ungot (a ∷ acts) h = middle-ungot acts (and_parts (is_middle a) (list_all is_middle acts) h).1

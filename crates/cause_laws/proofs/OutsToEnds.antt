@@ -9,7 +9,7 @@ use Rattle.journal_words.specs.Journals.{ended, floor, home_of, is_clear, is_com
 use Rattle.grid_model.specs.Rows.{abort_row, ack_row, answered, are_all_among, ceiling_of, ceilings, commit_row, freed_by, judged, prepare_row, raises, read_row, release, reply_row, served, tell_outs, version_for, if_pending}
 use Rattle.grid_model.specs.Schedules.{broken, head_at, kept, numbered, stopped}
 use Rattle.script_runs.specs.Waits.{waiting}
-use Rattle.grid_model.specs.Views.{Apart, Collects, Commits, Open, Reads, Stage, View, participant}
+use Rattle.grid_model.specs.Views.{Commits, Open, Reads, Stage, View, participant}
 use Rattle.grid_model.specs.declared.acts.Act.TheVariants as act
 use Rattle.grid_model.specs.declared.acts.Act.{Act}
 use Rattle.grid_model.specs.declared.acts.Head.{Head}
@@ -140,9 +140,7 @@ well-read d n v x q sid =
 
 pub well-reply : (d : DocumentData) (n : NodeId) (q : ReadRep) (g : Stage) → AreWell d n (reply_row d.cluster q g)
 well-reply d n q (Reads x j) = well-if d n (j == q.op) (out.Act (act.Taken q.t q.op q.sid q.value) ∷ advance d.cluster (with_reply q x) q.op) [] (well-advance d n (with_reply q x) q.op) refl
-well-reply d n q (Collects x) = refl
-well-reply d n q (Commits y acks) = refl
-well-reply d n q Apart = refl
+well-reply d n q w = refl
 
 well-judged : (d : DocumentData) (n x : NodeId) (t : TxId) (u : Option TxId) (y : Option (Key × Ident)) (p : Ident) → AreWell d n (judged n x t u y p)
 well-judged d n x t (Some u) y p = refl
@@ -169,6 +167,4 @@ well-tell d n v t outcome.Abort = well-abort d n t (pending t v.journal) (freed_
 
 pub well-acks : (d : DocumentData) (n : NodeId) (t : TxId) (x : NodeId) (g : Stage) → AreWell d n (ack_row t x g)
 well-acks d n t x (Commits y acks) = well-if d n (is_among x acks) [] _ refl (well-if d n (are_all_among y.parts (acks ++ x ∷ [])) (out.Act (act.Closed t) ∷ []) [] refl refl)
-well-acks d n t x (Collects o) = refl
-well-acks d n t x (Reads o j) = refl
-well-acks d n t x Apart = refl
+well-acks d n t x w = refl

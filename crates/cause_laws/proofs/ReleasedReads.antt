@@ -1,4 +1,5 @@
 -- A release serves each held read that is clear, and the others stay held and wait.
+use Rattle.grid_laws.proofs.EachActs.{tests-append}
 use Rattle.cause_laws.proofs.HeldNodes.{IsKeptRead, has_read, is_serving, is_waiting_read}
 use Rattle.grid_laws.proofs.Frames.{same-number}
 use Rattle.script_lang.proofs.KeyLists.{same_key-self}
@@ -68,10 +69,6 @@ moved-append : (xs ys : List HeldRead) (h : HeldRead) → (xs ++ h ∷ []) ++ ys
 moved-append [] ys h = refl
 moved-append (x ∷ xs) ys h = ap (λ z. x ∷ z) (moved-append xs ys h)
 
-all-last : (p : HeldRead → Bool) (xs : List HeldRead) (h : HeldRead) → list_all p xs ≡ true → p h ≡ true → list_all p (xs ++ h ∷ []) ≡ true
-all-last p [] h a b = and_from (p h) true b refl
-all-last p (x ∷ xs) h a b = let both = and_parts (p x) (list_all p xs) a in and_from (p x) (list_all p (xs ++ h ∷ [])) both.0 (all-last p xs h both.1 b)
-
 any-drop : (p : HeldRead → Bool) (xs ys : List HeldRead) (h : HeldRead) → list_any p (xs ++ h ∷ ys) ≡ true → (p h ≡ true) ⊎ (list_any p (xs ++ ys) ≡ true)
 any-drop p [] ys h e = or_cases (p h) (list_any p ys) e
 any-drop p (x ∷ xs) ys h e = elim (or_cases (p x) (list_any p (xs ++ h ∷ ys)) e) [
@@ -134,4 +131,4 @@ release-kept d now m k r before (h ∷ hs) quiet at has waits = go (is_clear h.s
         let one : (before ++ h ∷ []) ++ hs ≡ before ++ h ∷ hs = moved-append before hs h in
         let waiting' : is_waiting_read r h ≡ true = rw e refl in
         let P : List HeldRead → Type 0 = λ z. Released d now (numbered m k (release d.cluster r k hs)) k z in
-        subst P one (more now m (before ++ h ∷ []) quiet at (has ∙ sym one) (all-last (is_waiting_read r) before h waits waiting'))
+        subst P one (more now m (before ++ h ∷ []) quiet at (has ∙ sym one) (tests-append (is_waiting_read r) before (h ∷ []) waits (and_from (is_waiting_read r h) true waiting' refl)))

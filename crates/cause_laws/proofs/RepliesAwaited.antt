@@ -1,5 +1,5 @@
 -- Who is answered reads the operation that the reply names, or has its value.
-use Rattle.cause_laws.proofs.Events.{due-before}
+use Rattle.grid_laws.proofs.DueActs.{due-before}
 use Rattle.cause_laws.proofs.HeldClaims.{reply-hold}
 use Rattle.grid_laws.proofs.Causes.{AllDue, RequestDue, Requested, SendDue, TakenDue}
 use Rattle.grid_laws.proofs.Holds.{got-hold, sent-hold}
@@ -103,12 +103,7 @@ requested said = None
 
 requests-due : (d : DocumentData) (past : List Act) (n y : NodeId) (said : Message) → SendDue d past n y said → NamedCame d past (requested said)
 requests-due d past n y (message.ReadReq q) due = request-came d past n y q due
-requests-due d past n y (message.ReadRep q) due = tt
-requests-due d past n y (message.Prepare q) due = tt
-requests-due d past n y (message.Vote t b) due = tt
-requests-due d past n y (message.Tell t o) due = tt
-requests-due d past n y (message.Ack t) due = tt
-requests-due d past n y (message.Ask t) due = tt
+requests-due d past n y said due = tt
 
 requested-came : (d : DocumentData) (past : List Act) (n : NodeId) (h : HeldRead) → AllDue d past → Requested d past n h → Came d past h.t h.op
 requested-came d past n h due asked =
@@ -125,12 +120,7 @@ replied said = None
 
 replies-due : (d : DocumentData) (past : List Act) (n y : NodeId) (said : Message) → AllDue d past → SendDue d past n y said → NamedCame d past (replied said)
 replies-due d past n y (message.ReadRep q) all due = reply-hold (λ now k h. Came d now h.t h.op) d past (λ now a k h all c. came-more d now a h.t h.op all c) (λ now k h all asked. requested-came d now k h all asked) all n y q.t q.op q.sid q.value due
-replies-due d past n y (message.ReadReq q) all due = tt
-replies-due d past n y (message.Prepare q) all due = tt
-replies-due d past n y (message.Vote t b) all due = tt
-replies-due d past n y (message.Tell t o) all due = tt
-replies-due d past n y (message.Ack t) all due = tt
-replies-due d past n y (message.Ask t) all due = tt
+replies-due d past n y said all due = tt
 
 -- who is answered came to that operation
 pub reply-came : (d : DocumentData) (past : List Act) (m : ℕ) (x y : NodeId) (q : ReadRep) → AllDue d past → sent_at m (sent past) ≡ Some (record { from = x; to = y; message = message.ReadRep q }) → Came d past q.t q.op

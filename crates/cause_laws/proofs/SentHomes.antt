@@ -51,39 +51,19 @@ same-home d t u x e h =
 
 request-home : (d : DocumentData) (t : TxId) (j : ℕ) (x y : NodeId) (said : Message) → HasEnds d x y said → is_request_of t j said ≡ true → is_home d t x ≡ true
 request-home d t j x y (message.ReadReq q) ends h = same-home d t q.t x (and_parts (q.t == t) (q.op == j) h).0 ends.home
-request-home d t j x y (message.ReadRep q) ends h = cc
-request-home d t j x y (message.Prepare q) ends h = cc
-request-home d t j x y (message.Vote u b) ends h = cc
-request-home d t j x y (message.Tell u o) ends h = cc
-request-home d t j x y (message.Ack u) ends h = cc
-request-home d t j x y (message.Ask u) ends h = cc
+request-home d t j x y said ends h = cc
 
 reply-home : (d : DocumentData) (t : TxId) (j : ℕ) (x y : NodeId) (said : Message) → HasEnds d x y said → is_reply_of t j said ≡ true → is_home d t y ≡ true
 reply-home d t j x y (message.ReadRep q) ends h = same-home d t q.t y (and_parts (q.t == t) (q.op == j) h).0 ends.home
-reply-home d t j x y (message.ReadReq q) ends h = cc
-reply-home d t j x y (message.Prepare q) ends h = cc
-reply-home d t j x y (message.Vote u b) ends h = cc
-reply-home d t j x y (message.Tell u o) ends h = cc
-reply-home d t j x y (message.Ack u) ends h = cc
-reply-home d t j x y (message.Ask u) ends h = cc
+reply-home d t j x y said ends h = cc
 
 prepare-home : (d : DocumentData) (t : TxId) (x y : NodeId) (said : Message) → HasEnds d x y said → is_prepare_of t said ≡ true → is_home d t x ≡ true
 prepare-home d t x y (message.Prepare q) ends h = same-home d t q.t x h ends.home
-prepare-home d t x y (message.ReadReq q) ends h = cc
-prepare-home d t x y (message.ReadRep q) ends h = cc
-prepare-home d t x y (message.Vote u b) ends h = cc
-prepare-home d t x y (message.Tell u o) ends h = cc
-prepare-home d t x y (message.Ack u) ends h = cc
-prepare-home d t x y (message.Ask u) ends h = cc
+prepare-home d t x y said ends h = cc
 
 vote-home : (d : DocumentData) (t : TxId) (x y : NodeId) (said : Message) → HasEnds d x y said → is_vote_of t said ≡ true → is_home d t y ≡ true
 vote-home d t x y (message.Vote u b) ends h = same-home d t u y h ends.home
-vote-home d t x y (message.ReadReq q) ends h = cc
-vote-home d t x y (message.ReadRep q) ends h = cc
-vote-home d t x y (message.Prepare q) ends h = cc
-vote-home d t x y (message.Tell u o) ends h = cc
-vote-home d t x y (message.Ack u) ends h = cc
-vote-home d t x y (message.Ask u) ends h = cc
+vote-home d t x y said ends h = cc
 
 -- ---- what was sent
 

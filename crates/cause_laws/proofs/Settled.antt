@@ -1,5 +1,5 @@
 -- A transaction that began, and is neither reading nor collecting, stays so.
-use Rattle.cause_laws.proofs.Events.{due-before}
+use Rattle.grid_laws.proofs.DueActs.{due-before}
 use Rattle.cause_laws.proofs.StoryTests.{KeepsHeard, began-kept, else-kept, got-kept, if-kept}
 use Rattle.grid_laws.proofs.Causes.{AllDue, IsDue}
 use Rattle.grid_laws.proofs.Frames.{journal-more}
@@ -23,7 +23,7 @@ use Rattle.score_base.specs.declared.records.Record.{Record}
 use Rattle.script_lang.specs.Reads.{is_update}
 use Rattle.script_lang.specs.Scripts.{ScriptData}
 use Rattle.script_lang.specs.declared.scripts.Op.{Op}
-use Rattle.std.proofs.Common.{Bool, List, None, Option, Some, [], ap, false, inl, inr, refl, subst, sym, true, ℕ, ◌++◌, ◌||◌, ◌∙◌, ◌∷◌, ◌≡◌}
+use Rattle.std.proofs.Common.{arith, Bool, List, None, Option, Some, [], ap, false, inl, inr, refl, subst, sym, true, ℕ, ◌++◌, ◌||◌, ◌∙◌, ◌∷◌, ◌≡◌}
 use Rattle.std.proofs.lemmas.Bool.{or_cases, or_left, or_right}
 use Rattle.std.specs.Prelude.{if◌then◌else◌, is_none, is_some, not, ◌&&◌, ◌==◌}
 
@@ -99,15 +99,8 @@ shut-more s d past (act.Down n h) t due k = if-kept (is_shut s) (is_home d t n) 
 shut-more s d past a t due k = k
 
 decided-stays : (t : TxId) (x : Record) (r : List Record) → is_some (decision t r) ≡ true → is_some (decision t (x ∷ r)) ≡ true
-decided-stays t (record'.Decided u f parts) r h = go (u == t)
-  where
-    go : (b : Bool) → is_some (if b then Some (record { final = f; parts = parts }) else decision t r) ≡ true
-    go true = refl
-    go false = h
-decided-stays t (record'.Prepared u home parts sid p reads writes) r h = h
-decided-stays t (record'.Ended u o) r h = h
-decided-stays t (record'.Ceiling c) r h = h
-decided-stays t (record'.Closed u) r h = h
+decided-stays t (record'.Decided u f parts) r h = grind (arith, h)
+decided-stays t x r h = h
 
 pub settled-more : (d : DocumentData) (past : List Act) (a : Act) (s : ScriptData) → IsDue d past a → is_settled d past s ≡ true → is_settled d (a ∷ past) s ≡ true
 settled-more d past a s due h = elim (or_cases (is_shut s (story d past s.number)) (is_some (decision s.number (journal d past s.home))) h) [

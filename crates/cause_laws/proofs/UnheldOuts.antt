@@ -35,7 +35,8 @@ untold (message.Tell t o) none h = cc
 untold said none h = h
 
 -- an act that stands in no row but those of a request and an outcome
-row-unheld : (n : NodeId) (said : Message) → is_touching said ≡ false → (a : Act) → is_of_row n said a ≡ true → is_unheld a ≡ true
+row-unheld : (n : NodeId) (said : Message) → is_touching said ≡ false → (a : Act) → is_of_row n said a ≡ true
+    → is_unheld a ≡ true
 row-unheld n said none (act.Held m t op sid) h = unasked said none (and_parts (is_read_request said) (m == n) h).0
 row-unheld n said none (act.Served m t op k sid vn v) h = sym none ∙ (and_parts (is_touching said) (m == n) h).0
 row-unheld n said none (act.Ended m t o) h = untold said none (and_parts (is_outcome said) (m == n) h).0
@@ -43,13 +44,15 @@ row-unheld n said none (act.Up m f) h = h
 row-unheld n said none (act.StillDown m) h = h
 row-unheld n said none a h = refl
 
-pub unheld-acts : (m : ℕ) (n : NodeId) (b : Bool) (os : List Out) → Pass is_unheld os → list_all is_unheld (numbered m n (kept b n os)) ≡ true
+pub unheld-acts : (m : ℕ) (n : NodeId) (b : Bool) (os : List Out) → Pass is_unheld os
+    → list_all is_unheld (numbered m n (kept b n os)) ≡ true
 unheld-acts m n b os h = pass-acts is_unheld n (λ k y said. refl) (λ x. refl) m b os h
 
 pub unheld-advance : (c : ClusterData) (x : Open) (i : ℕ) → Pass is_unheld (advance c x i)
 unheld-advance c x i = pass-advance is_unheld (λ t j v. refl) (λ t. refl) c x i
 
-pub unheld-answer : (n : NodeId) (v : View) (x : NodeId) (said : Message) → is_touching said ≡ false → Pass is_unheld (answer n v x said)
+pub unheld-answer : (n : NodeId) (v : View) (x : NodeId) (said : Message) → is_touching said ≡ false
+    → Pass is_unheld (answer n v x said)
 unheld-answer n v x said none = pass-answer is_unheld n v x said (row-unheld n said none)
 
 pub unheld-idle : (acts : List Act) → list_all is_idle acts ≡ true → list_all is_unheld acts ≡ true

@@ -1,59 +1,41 @@
 -- Acts that begin nothing and take no reply leave the values of a story; those of each event but a begin and a reply are such.
+use Rattle.grid_laws.proofs.StoryClaims.{is_untaking, untaking-claim}
 use Rattle.cause_laws.proofs.Events.{IsEvent, of-event}
 use Rattle.grid_model.proofs.EventShapes.{Shape, acts_by, again, arms, begins, crashes, delivers, idle, restarts}
 use Rattle.grid_model.specs.declared.items.Item.{Item}
 use Rattle.grid_model.specs.declared.acts.Flag.{Flag}
-use Rattle.grid_laws.proofs.Answered.{is_untaking}
 use Rattle.grid_laws.proofs.RowOuts.{is_reply, pass-advance, pass-again}
 use Rattle.grid_laws.proofs.UntakingActs.{untaking-acts, untaking-answer, untaking-idle, untaking-losses}
-use Rattle.grid_laws.proofs.Snapshots.{OfStory, asked-of, got-of, if-of}
-use Rattle.grid_model.specs.Advances.{advance, advance_end, parts_now, prepares, request_of, to_node}
-use Rattle.script_runs.specs.Walks.{op_at, own_reads, unread}
+use Rattle.grid_laws.proofs.Snapshots.{OfStory, of-stays}
+use Rattle.grid_model.specs.Advances.{advance}
 use Rattle.grid_model.specs.Documents.{DocumentData, number_order, script_numbers}
 use Rattle.grid_model.specs.Histories.{after, sent, sent_at}
-use Rattle.grid_model.specs.Nodes.{is_home, node, script_of}
+use Rattle.grid_model.specs.Nodes.{node, script_of}
 use Rattle.grid_model.specs.Rows.{answer, begin_outs}
 use Rattle.grid_model.specs.Schedules.{Choice, flag_of, kept, next_number, numbered, opened_row}
 use Rattle.grid_model.specs.Stories.{story}
-use Rattle.script_runs.specs.Waits.{waiting}
-use Rattle.grid_model.specs.Views.{Open, view, stage, participant}
+use Rattle.grid_model.specs.Views.{Open, view, participant}
 use Rattle.grid_model.specs.declared.acts.Act.TheVariants as act
 use Rattle.grid_model.specs.declared.acts.Act.{Act}
-use Rattle.grid_model.specs.declared.events.Out.TheVariants as out
-use Rattle.grid_model.specs.declared.events.Out.{Out}
 use Rattle.grid_model.specs.declared.messages.Message.TheVariants as message
 use Rattle.grid_model.specs.declared.messages.Message.{Message}
 use Rattle.grid_model.specs.declared.messages.ReadRep.{ReadRep}
 use Rattle.placement.specs.Clusters.{ClusterData}
-use Rattle.placement.specs.Places.{preferred}
 use Rattle.score_base.specs.declared.ids.Ident.{Ident}
 use Rattle.score_base.specs.declared.ids.NodeId.{NodeId}
 use Rattle.score_base.specs.declared.ids.TxId.{TxId}
 use Rattle.score_base.specs.declared.ids.Value.{Value}
-use Rattle.script_lang.specs.Reads.{is_update, key_of}
 use Rattle.script_lang.specs.Scripts.{ScriptData}
-use Rattle.script_lang.specs.declared.scripts.Op.{Op}
-use Rattle.std.proofs.Common.{Bool, List, None, Option, Some, [], false, refl, true, ℕ, ◌++◌, ◌∷◌, ◌≡◌}
-use Rattle.std.proofs.lemmas.Bool.{and_from, and_parts}
+use Rattle.std.proofs.Common.{Bool, List, Option, Some, [], false, refl, true, ℕ, ◌∷◌, ◌≡◌}
+use Rattle.std.proofs.lemmas.Bool.{and_parts}
 use Rattle.std.specs.List.{list_all}
-use Rattle.std.specs.Prelude.{filter, if◌then◌else◌, map, nat_lt, slice_get, ◌&&◌, ◌==◌}
+use Rattle.std.specs.Prelude.{if◌then◌else◌}
 
 -- ---- the values of a story
 
-untaking-of : (N : Type 0) (Q : Option Ident → List (ℕ × Value) → Type 0) (d : DocumentData) (past : List Act) (a : Act) (t : TxId) → is_untaking a ≡ true → OfStory N Q (story d past t) → OfStory N Q (story d (a ∷ past) t)
-untaking-of N Q d past (act.Began u n sid0) t free k = cc
-untaking-of N Q d past (act.Taken u op sid v) t free k = cc
-untaking-of N Q d past (act.Sent m n y said) t free k = asked-of N Q d t said (story d past t) k
-untaking-of N Q d past (act.Got m) t free k = got-of N Q d past (script_of t d.scripts) (sent_at m (sent past)) (story d past t) k
-untaking-of N Q d past (act.Finished u) t free k = if-of N Q (u == t) _ (story d past t) (λ y i. i) k
-untaking-of N Q d past (act.Aborted u n why) t free k = if-of N Q (u == t) _ (story d past t) (λ y i. i) k
-untaking-of N Q d past (act.Lost u) t free k = if-of N Q (u == t) _ (story d past t) (λ y i. i) k
-untaking-of N Q d past (act.Down n h) t free k = if-of N Q (is_home d t n) _ (story d past t) (λ y i. i) k
-untaking-of N Q d past a t free k = k
-
 pub untaking-later : (N : Type 0) (Q : Option Ident → List (ℕ × Value) → Type 0) (d : DocumentData) (past acts : List Act) (t : TxId) → list_all is_untaking acts ≡ true → OfStory N Q (story d past t) → OfStory N Q (story d (after past acts) t)
 untaking-later N Q d past [] t free k = k
-untaking-later N Q d past (a ∷ acts) t free k = let both = and_parts (is_untaking a) (list_all is_untaking acts) free in untaking-later N Q d (a ∷ past) acts t both.1 (untaking-of N Q d past a t both.0 k)
+untaking-later N Q d past (a ∷ acts) t free k = let both = and_parts (is_untaking a) (list_all is_untaking acts) free in untaking-later N Q d (a ∷ past) acts t both.1 (untaking-claim (OfStory N Q) (of-stays N Q) d past a t both.0 k)
 
 -- ---- Advance
 

@@ -20,7 +20,7 @@ use Rattle.journal_words.specs.Journals.{Decision, decision, ended, is_closed}
 use Rattle.grid_model.specs.Nodes.{is_home, journal, node, parts_of, script_of}
 use Rattle.grid_model.specs.Rows.{have_voted}
 use Rattle.grid_model.specs.Runs.{IsRun}
-use Rattle.grid_model.specs.Stories.{Collecting, Reading, has_voted, is_open, open_phase, phase, phase_at, phase_by, story, told}
+use Rattle.grid_model.specs.Stories.{has_voted, is_open, open_phase, phase, phase_at, phase_by, story, told}
 use Rattle.script_runs.specs.Waits.{waiting}
 use Rattle.grid_model.specs.declared.acts.Act.{Act}
 use Rattle.grid_model.specs.declared.stories.Story.{Story}
@@ -31,7 +31,7 @@ use Rattle.score_base.specs.declared.ids.NodeId.{NodeId}
 use Rattle.script_lang.specs.Reads.{is_update}
 use Rattle.script_lang.specs.Scripts.{ScriptData}
 use Rattle.script_lang.specs.declared.scripts.Op.{Op}
-use Rattle.std.proofs.Common.{Bool, List, None, Option, Some, [], ap, false, inl, inr, refl, subst, sym, true, ℕ, ◌||◌, ◌∙◌, ◌∷◌, ◌≡◌, ◌⊎◌}
+use Rattle.std.proofs.Common.{Bool, List, None, Option, Some, [], false, inl, inr, refl, subst, sym, true, ℕ, ◌||◌, ◌∙◌, ◌∷◌, ◌≡◌, ◌⊎◌}
 use Rattle.std.proofs.lemmas.Bool.{or_left, or_right}
 use Rattle.std.specs.Prelude.{if◌then◌else◌, is_some, not, ◌&&◌, ◌==◌}
 
@@ -66,14 +66,6 @@ unsettled-phase d past s w =
     let P : Option Story → Type 0 = λ o. phase_at s o (node d past s.home) ≡ open_phase (waiting s.ops w.tale.progress.values) in
     let Q : Option Story → Type 0 = λ o. (is_shut s o || is_some (decision s.number (journal d past s.home))) ≡ false in
     subst P (sym w.told) (phase-told s.ops w.tale (is_closed s.number (journal d past s.home)) (decision s.number (journal d past s.home)) w.tale.lost w.tale.aborted (w.tale.finished && not (is_update s.ops)) refl refl refl (subst Q w.told w.unsettled))
-
-waits-none : (w : Option ℕ) → open_phase w ≡ Collecting → w ≡ None
-waits-none None e = refl
-waits-none (Some j) e = cc
-
-waits-some : (w : Option ℕ) (j : ℕ) → open_phase w ≡ Reading j → w ≡ Some j
-waits-some None j e = cc
-waits-some (Some i) j e = let same : i ≡ j = cc in ap (λ z. Some z) same
 
 -- ---- it is an update
 

@@ -1,4 +1,6 @@
 -- What the home of a collecting transaction does where a vote comes.
+use Rattle.grid_laws.proofs.RowOuts.{kept-first, kept-none}
+use Rattle.grid_laws.proofs.DueAnswers.{phase-collecting}
 use Rattle.cause_laws.proofs.OpenStages.{stage-open}
 use Rattle.cause_laws.proofs.Settled.{is_settled, unsettled-open}
 use Rattle.cause_laws.proofs.VoteStories.{is_voted_in}
@@ -36,7 +38,7 @@ use Rattle.score_base.specs.declared.ids.NodeId.{NodeId}
 use Rattle.score_base.specs.declared.ids.TxId.{TxId}
 use Rattle.score_base.specs.declared.ids.Value.{Value}
 use Rattle.script_lang.specs.Scripts.{ScriptData}
-use Rattle.std.proofs.Common.{Bool, List, None, Option, Some, [], ap, arith, false, refl, subst, sym, true, ℕ, ◌++◌, ◌∙◌, ◌∷◌, ◌≡◌}
+use Rattle.std.proofs.Common.{Bool, List, None, Option, Some, [], ap, false, refl, subst, sym, true, ℕ, ◌++◌, ◌∙◌, ◌∷◌, ◌≡◌}
 use Rattle.std.proofs.lemmas.Bool.{and_parts, or_left, or_right}
 use Rattle.std.proofs.lemmas.List.Folds.{list_any-append}
 use Rattle.std.specs.Prelude.{if◌then◌else◌, ◌&&◌, ◌==◌}
@@ -62,22 +64,12 @@ VotesFull d past n y said = Unit {0}
 
 votes-more : (d : DocumentData) (past : List Act) (a : Act) (n y : NodeId) (said : Message) → AllDue d (a ∷ past) → VotesFull d past n y said → VotesFull d (a ∷ past) n y said
 votes-more d past a n y (message.Vote t b) due h = record { script = h.script; sid = h.sid; values = h.values; full = full-more d past a y t h.script h.sid h.values due h.full }
-votes-more d past a n y (message.ReadReq q) due h = tt
-votes-more d past a n y (message.ReadRep q) due h = tt
-votes-more d past a n y (message.Prepare q) due h = tt
-votes-more d past a n y (message.Tell t o) due h = tt
-votes-more d past a n y (message.Ack t) due h = tt
-votes-more d past a n y (message.Ask t) due h = tt
+votes-more d past a n y said due h = tt
 
 votes-due : (d : DocumentData) (past : List Act) (n y : NodeId) (said : Message) → AllDue d past → SendDue d past n y said → VotesFull d past n y said
 votes-due d past n y (message.Vote t (ballot.Yes p)) all due = full-vote d past n y t all due.0
 votes-due d past n y (message.Vote t (ballot.No why)) all due = full-vote d past n y t all due.0
-votes-due d past n y (message.ReadReq q) all due = tt
-votes-due d past n y (message.ReadRep q) all due = tt
-votes-due d past n y (message.Prepare q) all due = tt
-votes-due d past n y (message.Tell t o) all due = tt
-votes-due d past n y (message.Ack t) all due = tt
-votes-due d past n y (message.Ask t) all due = tt
+votes-due d past n y said all due = tt
 
 -- each vote that was sent
 pub vote-full : (d : DocumentData) (past : List Act) (m : ℕ) (x y : NodeId) (t : TxId) (b : Ballot) → AllDue d past → sent_at m (sent past) ≡ Some (record { from = x; to = y; message = message.Vote t b }) → VoteFull d past y t
@@ -113,17 +105,6 @@ with_yes x p = progressed (λ z. record z { votes = z.votes ++ record { from = x
 heard-new : (d : DocumentData) (past : List Act) (n : NodeId) (s : ScriptData) (st : Story) (x : NodeId) (p : Ident) → s.home ≡ n → phase_at s (Some st) (node d past n) ≡ Collecting → is_small_node (node d past n).journal (node d past n).next ≡ true → is_fit_ballot (ballot.Yes p) ≡ true → is_among x (parts_of d s) ≡ true → has_voted x st.progress.votes ≡ false → heard_at d past (Some s) (Some (record { from = x; to = n; message = message.Vote s.number (ballot.Yes p) })) (Some st) ≡ Some (with_yes x p st)
 heard-new d past n s st x p home gathers small fit part new =
     rw (home, same-number n, gathers, small, fit, part, same-number s.number, new) refl
-
-phase-collecting : (d : DocumentData) (past : List Act) (n : NodeId) (s : ScriptData) (x : Story) → is_open (phase_at s (Some x) (node d past n)) ≡ true → waiting s.ops x.progress.values ≡ None → phase_at s (Some x) (node d past n) ≡ Collecting
-phase-collecting d past n s x unended full = grind (arith, unended, full)
-
-kept-none : (m : ℕ) (n : NodeId) (b : Bool) → numbered m n (kept b n []) ≡ []
-kept-none m n true = refl
-kept-none m n false = refl
-
-kept-aborted : (m : ℕ) (n : NodeId) (b : Bool) (t : TxId) (x : NodeId) (why : Cause) (os : List Out) → numbered m n (kept b n (out.Act (act.Aborted t x why) ∷ os)) ≡ act.Aborted t x why ∷ numbered m n (kept b n os)
-kept-aborted m n true t x why os = refl
-kept-aborted m n false t x why os = refl
 
 voted-last : (x : NodeId) (p : Ident) (vs : List Voted) → has_voted x (vs ++ record { from = x; p = p } ∷ []) ≡ true
 voted-last x p vs = list_any-append (λ (v : Voted). v.from == x) vs (record { from = x; p = p } ∷ []) ∙ or_right (has_voted x vs) (has_voted x (record { from = x; p = p } ∷ [])) (or_left (x == x) false (same-number x))
@@ -186,7 +167,7 @@ vote-result d past m n x b s a y rest is home got fit r told unsettled full = go
     both = and_parts (is_fit_ballot a) (is_among x (parts_of d s)) (and_parts (is_small_node (journal d past n) (node d past n).next) (is_fit_ballot a && is_among x (parts_of d s)) fits).1
 
     by : (a : Ballot) → sent_at m (sent past) ≡ Some (record { from = x; to = n; message = message.Vote s.number a }) → is_fit_ballot a ≡ true → has_voted x y.progress.votes ≡ false → rest ≡ numbered (next_number past) n (kept b n (ballot_row s.number (parts_of d s) y.progress.votes x a)) → VoteResult d past m n x s rest
-    by (ballot.No why) got fb new k = refused_by why (numbered (next_number past) n (kept b n (tells s.number outcome.Abort (others x (parts_of d s))))) (k ∙ kept-aborted (next_number past) n b s.number x why (tells s.number outcome.Abort (others x (parts_of d s))))
+    by (ballot.No why) got fb new k = refused_by why (numbered (next_number past) n (kept b n (tells s.number outcome.Abort (others x (parts_of d s))))) (k ∙ kept-first (next_number past) n b (act.Aborted s.number x why) (tells s.number outcome.Abort (others x (parts_of d s))) refl)
     by (ballot.Yes p) got fb new k = vote-counts d past m n x b s p y rest is home got told unsettled full small fb both.1 new k
 
     go : (c : Bool) → has_voted x y.progress.votes ≡ c → VoteResult d past m n x s rest

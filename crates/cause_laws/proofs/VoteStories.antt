@@ -1,5 +1,5 @@
 -- How the votes in a story change, act by act.
-use Rattle.cause_laws.proofs.Events.{due-before}
+use Rattle.grid_laws.proofs.DueActs.{due-before}
 use Rattle.cause_laws.proofs.OpenStages.{is_ungot}
 use Rattle.cause_laws.proofs.Settled.{is_settled, settled-more}
 use Rattle.cause_laws.proofs.StoryTests.{KeepsHeard, began-kept, else-kept, got-kept, if-kept}

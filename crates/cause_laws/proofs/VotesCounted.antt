@@ -1,8 +1,9 @@
 -- Each vote that was got is counted, unless its transaction is settled or its home is down.
-use Rattle.cause_laws.proofs.Events.{Event, due-before, run-holds}
+use Rattle.grid_laws.proofs.DueActs.{due-before}
+use Rattle.cause_laws.proofs.Events.{Event, run-holds}
 use Rattle.cause_laws.proofs.GotVotes.{env-leaves, vote-of}
 use Rattle.cause_laws.proofs.LossesSettle.{HasBegun, begun-more, opened-settles}
-use Rattle.cause_laws.proofs.OpenStages.{fit-first, got-ungot, is_ungot}
+use Rattle.cause_laws.proofs.OpenStages.{fit-first, got-ungot, is_ungot, middle-ungot}
 use Rattle.grid_laws.proofs.RowOuts.{pass-losses}
 use Rattle.cause_laws.proofs.Outcomes.{IsKind, event-kind, failed, got_first, opened, plain}
 use Rattle.cause_laws.proofs.OutsToEnds.{is_middle}
@@ -39,11 +40,6 @@ middle-unopened : (acts : List Act) → list_all is_middle acts ≡ true → lis
 middle-unopened [] h = refl
 middle-unopened (act.Up n f ∷ acts) h = cc
 middle-unopened (a ∷ acts) h = middle-unopened acts (and_parts (is_middle a) (list_all is_middle acts) h).1
-
-middle-ungot : (acts : List Act) → list_all is_middle acts ≡ true → list_all is_ungot acts ≡ true
-middle-ungot [] h = refl
-middle-ungot (act.Got m ∷ acts) h = cc
-middle-ungot (a ∷ acts) h = middle-ungot acts (and_parts (is_middle a) (list_all is_middle acts) h).1
 
 -- an act of a loss
 abbrev is_losing : Act → Bool

@@ -95,12 +95,7 @@ PreparesAnswered d past = (t : TxId) (n : NodeId) (later : List Act) → GotAt (
 
 prepare-of : (t : TxId) (said : Message) → is_prepare_of t said ≡ true → (q : Prepare) × (said ≡ message.Prepare q) × (q.t ≡ t)
 prepare-of t (message.Prepare q) h = (q, refl, grind (arith, nat_tests, h))
-prepare-of t (message.ReadReq q) h = cc
-prepare-of t (message.ReadRep q) h = cc
-prepare-of t (message.Vote u b) h = cc
-prepare-of t (message.Tell u o) h = cc
-prepare-of t (message.Ack u) h = cc
-prepare-of t (message.Ask u) h = cc
+prepare-of t said h = cc
 
 -- a fit message is answered by its row
 pub fit-row : (n x : NodeId) (v : View) (said : Message) → is_fit n v x said ≡ true → answer n v x said ≡ row_of n (participant v) v.held (stage v (tx_in said)) x said

@@ -1,6 +1,6 @@
 -- In the serial order no transaction stands twice.
 use Rattle.std.proofs.Common.{◌≡◌, ℕ, ◌+◌, ◌≤◌, Bool, true, false, ◌||◌, List, [], ◌∷◌, ◌++◌, inl, inr, zero, suc, refl, sym, ap, subst, ◌∙◌, arith, if◌then◌else◌}
-use Rattle.std.proofs.lemmas.Bool.{or_cases}
+use Rattle.std.proofs.lemmas.Bool.{or_cases, or_from}
 use Rattle.std.proofs.lemmas.Bool.Decides.{nat_tests}
 use Rattle.std.specs.Prelude.{◌==◌, fold}
 use Rattle.std.specs.List.{flat_map, range_with_len}
@@ -35,13 +35,9 @@ tx-here x xs = grind (arith, nat_tests)
 tx-later : (t : TxId) (x : Ident × TxId) (xs : List (Ident × TxId)) → has_tx t xs ≡ true → has_tx t (x ∷ xs) ≡ true
 tx-later t x xs h = grind (arith, h)
 
-neither : (b c : Bool) → b ≡ false → c ≡ false → (b || c) ≡ false
-neither true c h k = h
-neither false c h k = k
-
 once-append : (xs ys : List (Ident × TxId)) → AreOnce xs → AreOnce ys → AreApart xs ys → AreOnce (xs ++ ys)
 once-append [] ys h k apart = k
-once-append (x ∷ xs) ys h k apart = (tx-append x.1 xs ys ∙ neither (has_tx x.1 xs) (has_tx x.1 ys) h.0 (apart x.1 (tx-here x xs)), once-append xs ys h.1 k (λ t i. apart t (tx-later t x xs i)))
+once-append (x ∷ xs) ys h k apart = (tx-append x.1 xs ys ∙ or_from (has_tx x.1 xs) (has_tx x.1 ys) h.0 (apart x.1 (tx-here x xs)), once-append xs ys h.1 k (λ t i. apart t (tx-later t x xs i)))
 
 -- who is among the members is so with some identifier
 tx-member : (t : TxId) (xs : List (Ident × TxId)) → has_tx t xs ≡ true → (f : Ident) × (has_member f t xs ≡ true)
@@ -70,11 +66,11 @@ insert-once x (y ∷ ys) new h = go (is_before y x) (insert-once x ys (grind (ar
 
     go : (b : Bool) → AreOnce (insert_last ys x) → AreOnce (if b then x ∷ (y ∷ ys) else y ∷ insert_last ys x)
     go true rest = (new, h)
-    go false rest = (insert-tx y.1 x ys ∙ neither (x.1 == y.1) (has_tx y.1 ys) other h.0, rest)
+    go false rest = (insert-tx y.1 x ys ∙ or_from (x.1 == y.1) (has_tx y.1 ys) other h.0, rest)
 
 fold-once : (ys xs : List (Ident × TxId)) → AreOnce xs → AreOnce ys → AreApart xs ys → AreOnce (fold insert_last ys xs)
 fold-once ys [] h k apart = k
-fold-once ys (x ∷ xs) h k apart = fold-once (insert_last ys x) xs h.1 (insert-once x ys (apart x.1 (tx-here x xs)) k) (λ t i. insert-tx t x ys ∙ neither (x.1 == t) (has_tx t ys) (other t i) (apart t (tx-later t x xs i)))
+fold-once ys (x ∷ xs) h k apart = fold-once (insert_last ys x) xs h.1 (insert-once x ys (apart x.1 (tx-here x xs)) k) (λ t i. insert-tx t x ys ∙ or_from (x.1 == t) (has_tx t ys) (other t i) (apart t (tx-later t x xs i)))
   where
     other : (t : TxId) → has_tx t xs ≡ true → (x.1 == t) ≡ false
     other t i = differ (x.1 == t) refl

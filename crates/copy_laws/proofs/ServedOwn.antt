@@ -1,4 +1,5 @@
 -- Each read that a node serves is of a key that it holds, and that the operation names.
+use Rattle.grid_laws.proofs.Promises.{due-behind}
 use Rattle.std.proofs.Common.{◌≡◌, ℕ, inl, inr, Bool, true, false, List, [], ◌∷◌, ◌++◌, Option, Some, None, refl, sym, ap, subst, ◌∙◌, arith}
 use Rattle.std.proofs.lemmas.Bool.Decides.{nat_tests}
 use Rattle.std.specs.Prelude.{◌==◌, IsTrue, if◌then◌else◌}
@@ -38,12 +39,7 @@ RequestsOwn d y said = Unit {0}
 
 requests-due : (d : DocumentData) (past : List Act) (n y : NodeId) (said : Message) → SendDue d past n y said → RequestsOwn d y said
 requests-due d past n y (message.ReadReq q) due = request-due d past n y q due
-requests-due d past n y (message.ReadRep q) due = tt
-requests-due d past n y (message.Prepare q) due = tt
-requests-due d past n y (message.Vote t b) due = tt
-requests-due d past n y (message.Tell t o) due = tt
-requests-due d past n y (message.Ack t) due = tt
-requests-due d past n y (message.Ask t) due = tt
+requests-due d past n y said due = tt
 
 requested-own : (d : DocumentData) (past : List Act) (n : NodeId) (h : HeldRead) → AllDue d past → Requested d past n h → IsOwn d n h.t h.op h.key
 requested-own d past n h due asked =
@@ -90,10 +86,6 @@ may-own d past n h due (at_once asked cover) = requested-own d past n h due aske
 may-own d past n h due (held i) = held-own d past due n h i
 
 -- the acts before an act were due
-pub due-behind : (d : DocumentData) (later past : List Act) → AllDue d (later ++ past) → AllDue d past
-due-behind d [] past due = due
-due-behind d (a ∷ later) past due = due-behind d later past due.1
-
 -- what n served is a key that it holds, and the one that the operation names
 pub served-own : (d : DocumentData) (past : List Act) (n : NodeId) (t : TxId) (j : ℕ) (k : Key) (sid vn : Ident) (v : Value) (later before : List Act) → AllDue d past → past ≡ later ++ act.Served n t j k sid vn v ∷ before → IsOwn d n t j k
 served-own d past n t j k sid vn v later before due is =

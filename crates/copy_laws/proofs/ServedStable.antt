@@ -17,8 +17,7 @@ use Rattle.journal_words.proofs.Readable.{version-stays}
 use Rattle.grid_laws.proofs.Causes.{AllDue}
 use Rattle.grid_laws.proofs.Frames.{journal-stays}
 use Rattle.grid_laws.proofs.NodesFitActs.{nodes-fit}
-use Rattle.grid_laws.proofs.Promises.{served-promised}
-use Rattle.copy_laws.proofs.ServedOwn.{due-behind}
+use Rattle.grid_laws.proofs.Promises.{served-promised, due-behind}
 
 -- ---- an act adds at most one record
 

@@ -1,5 +1,5 @@
 -- Advance shows the own reads behind the operation that it goes on from, one by one.
-use Rattle.std.proofs.Common.{◌≡◌, ℕ, Bool, true, false, List, [], ◌∷◌, ◌++◌, Option, Some, inl, inr, refl, sym, ap, subst, ◌∙◌}
+use Rattle.std.proofs.Common.{◌≡◌, ℕ, Bool, List, [], ◌∷◌, ◌++◌, Option, Some, inl, inr, refl, sym, ap, subst, ◌∙◌}
 use Rattle.std.proofs.lemmas.Bool.{cases_eq}
 use Rattle.std.proofs.lemmas.List.{append_assoc, append-nil}
 use Rattle.std.specs.Prelude.{filter, map, nat_lt}
@@ -24,7 +24,7 @@ use Rattle.grid_model.specs.Schedules.{numbered, kept}
 use Rattle.grid_model.specs.Copies.{shown}
 use Rattle.script_runs.proofs.AllReads.{reads_by}
 use Rattle.grid_laws.proofs.Frames.{same-number}
-use Rattle.grid_laws.proofs.RowOuts.{pass-acts, pass-end}
+use Rattle.grid_laws.proofs.RowOuts.{pass-acts, pass-end, kept-first}
 use Rattle.copy_laws.proofs.ShownSteps.{Says, ShownBy, AllShown, OthersShown, other-own, is_unshowing, unshowing-all}
 
 all-from : (d : DocumentData) (past : List Act) (u : TxId) (s : ScriptData) → script_of u d.scripts ≡ Some s → ShownBy d past u s → OthersShown d past u → AllShown d past
@@ -35,10 +35,6 @@ all-from d past u s e mine others t w f = elim (cases_eq u t) [
   where
     its : script_of u d.scripts ≡ Some w → ShownBy d past u w
     its g = let is : s ≡ w = cc in let P : ScriptData → Type 0 = λ z. ShownBy d past u z in subst P is mine
-
-own-kept : (m : ℕ) (n : NodeId) (b : Bool) (t : TxId) (j : ℕ) (v : Value) (os : List Out) → numbered m n (kept b n (out.Act (act.Own t j v) ∷ os)) ≡ act.Own t j v ∷ numbered m n (kept b n os)
-own-kept m n true t j v os = refl
-own-kept m n false t j v os = refl
 
 own-shown : (past : List Act) (t : TxId) (j : ℕ) (v : Value) → shown (act.Own t j v ∷ past) t ≡ shown past t ++ (j, v) ∷ []
 own-shown past t j v = rw (same-number t) refl
@@ -52,7 +48,7 @@ shown-owns d now m n b s x (y ∷ ys) rest is at so others go =
     let own : Act = act.Own s.number y.0 y.1 in
     let so' : shown (own ∷ now) s.number ++ ys ≡ reads_by x.progress.values s.ops = ap (λ zs. zs ++ ys) (own-shown now s.number y.0 y.1) ∙ append_assoc (shown now s.number) (y ∷ []) ys ∙ so in
     let P : List Act → Type 0 = λ acts. AllShown d (after now acts) in
-    subst P (sym (own-kept m n b s.number y.0 y.1 (map (λ y. out.Act (act.Own s.number y.0 y.1)) ys ++ rest)))
+    subst P (sym (kept-first m n b (act.Own s.number y.0 y.1) (map (λ y. out.Act (act.Own s.number y.0 y.1)) ys ++ rest) refl))
     (shown-owns d (own ∷ now) m n b s x ys rest is at so' (λ t w other e. other-own d now s.number t y.0 y.1 w other (others t w other e)) go)
 
 -- Advance behind operation i

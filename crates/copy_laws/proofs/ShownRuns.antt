@@ -1,8 +1,9 @@
 -- Between events each transaction was shown what its script reads by the values that it took.
-use Rattle.std.proofs.Common.{◌≡◌, ℕ, Bool, true, false, List, [], ◌∷◌, ◌++◌, Option, Some, None, refl, sym, ap, subst, ◌∙◌, arith}
-use Rattle.std.proofs.lemmas.Bool.Decides.{nat_tests}
+use Rattle.grid_laws.proofs.AnsweredRuns.{answer-reply}
+use Rattle.grid_laws.proofs.DueActs.{due-before}
+use Rattle.std.proofs.Common.{◌≡◌, ℕ, Bool, true, false, List, [], ◌∷◌, ◌++◌, Option, Some, None, refl, sym, ap, subst, ◌∙◌}
 use Rattle.std.proofs.lemmas.List.{append_assoc}
-use Rattle.std.specs.Prelude.{◌==◌, filter, nat_lt, if◌then◌else◌}
+use Rattle.std.specs.Prelude.{filter, nat_lt, if◌then◌else◌}
 use Rattle.std.specs.List.{flat_map, list_all, range_with_len}
 use Rattle.score_base.specs.declared.ids.TxId.{TxId}
 use Rattle.score_base.specs.declared.ids.NodeId.{NodeId}
@@ -25,11 +26,10 @@ use Rattle.journal_words.specs.Journals.{commit_id}
 use Rattle.grid_model.specs.Nodes.{node, journal, script_of}
 use Rattle.grid_model.specs.Stories.{begun, story, with_value, progressed}
 use Rattle.script_runs.specs.Waits.{waiting}
-use Rattle.grid_model.specs.Views.{view, stage, Stage, Open, Reads, Collects, Commits, Apart, open_of, participant}
+use Rattle.grid_model.specs.Views.{view, stage, Open, open_of, participant}
 use Rattle.grid_model.specs.Advances.{advance}
 use Rattle.script_runs.specs.Walks.{own_reads, unread}
-use Rattle.grid_model.specs.Fitness.{is_fit_at}
-use Rattle.grid_model.specs.Rows.{answer, begin_outs, reply_row}
+use Rattle.grid_model.specs.Rows.{answer, begin_outs}
 use Rattle.grid_model.specs.Schedules.{Choice, acts_of, events_in, flag_of, kept, next_number, numbered, opened_row, row, start_row}
 use Rattle.grid_model.specs.Runs.{Rows, IsRun}
 use Rattle.grid_model.specs.Copies.{shown}
@@ -43,7 +43,7 @@ use Rattle.grid_laws.proofs.DueHomes.{story-began}
 use Rattle.grid_model.proofs.EventShapes.{after-append}
 use Rattle.grid_laws.proofs.DueAnswers.{story-taken, with_reply, stage-quiet}
 use Rattle.grid_laws.proofs.RunsDue.{due-run}
-use Rattle.grid_laws.proofs.RowOuts.{Pass, is_reply, pass-acts, pass-again, pass-answer, pass-losses, pass-starts}
+use Rattle.grid_laws.proofs.RowOuts.{Pass, is_reply, pass-acts, pass-again, pass-answer, pass-losses, pass-starts, kept-first}
 use Rattle.copy_laws.proofs.ShownSteps.{AllShown, OthersShown, Says, ShownBy, other-began, other-took, is_unshowing, row-unshowing, unshowing-all, unshowing-by, story-order, story_reads}
 use Rattle.copy_laws.proofs.ShownRows.{shown-advance}
 
@@ -53,10 +53,6 @@ unshowing-acts : (m : ℕ) (n : NodeId) (b : Bool) (os : List Out) → Pass is_u
 unshowing-acts m n b os h = pass-acts is_unshowing n (λ k y said. refl) (λ x. refl) m b os h
 
 -- ---- a reply
-
-taken-kept : (m : ℕ) (n : NodeId) (b : Bool) (t : TxId) (op : ℕ) (sid : Ident) (v : ℕ) (os : List Out) → numbered m n (kept b n (out.Act (act.Taken t op sid v) ∷ os)) ≡ act.Taken t op sid v ∷ numbered m n (kept b n os)
-taken-kept m n true t op sid v os = refl
-taken-kept m n false t op sid v os = refl
 
 taken-shown : (past : List Act) (t : TxId) (op : ℕ) (sid : Ident) (v : Value) → shown (act.Taken t op sid v ∷ past) t ≡ shown past t ++ (op, v) ∷ []
 taken-shown past t op sid v = rw (same-number t) refl
@@ -89,42 +85,19 @@ shown-taken d past m n b q x o due all =
     let R : TxId → Type 0 = λ u. OthersShown d now u in
     let S : Open → Type 0 = λ z. AllShown d (after now (numbered m n (kept b n (advance d.cluster (with_reply q z) q.op)))) in
     let T : List Act → Type 0 = λ acts. AllShown d (after past acts) in
-    subst T (sym (taken-kept m n b q.t q.op q.sid q.value (advance d.cluster (with_reply q x) q.op)))
+    subst T (sym (kept-first m n b (act.Taken q.t q.op q.sid q.value) (advance d.cluster (with_reply q x) q.op) refl))
     (subst S (sym o.is) (shown-advance d now m n b o.script y q.op (subst P (sym number) o.at.script) (subst Q (sym number) at) (subst L (sym number) left) (subst R (sym number) (others-took d past q all))))
-
-shown-if : (d : DocumentData) (past : List Act) (m : ℕ) (n : NodeId) (b c c' : Bool) (os : List Out) → c' ≡ c → AllShown d past → (c' ≡ true → AllShown d (after past (numbered m n (kept b n os)))) → AllShown d (after past (numbered m n (kept b n (if c then os else []))))
-shown-if d past m n b true c' os e all go = go e
-shown-if d past m n true false c' os e all go = all
-shown-if d past m n false false c' os e all go = all
-
-shown-none : (d : DocumentData) (past : List Act) (m : ℕ) (n : NodeId) (b : Bool) → AllShown d past → AllShown d (after past (numbered m n (kept b n [])))
-shown-none d past m n true all = all
-shown-none d past m n false all = all
-
-shown-reply : (d : DocumentData) (past : List Act) (m : ℕ) (n : NodeId) (b : Bool) (q : ReadRep) (g : Stage) → stage (view d past n) q.t ≡ g → AllDue d past → AllShown d past → AllShown d (after past (numbered m n (kept b n (reply_row d.cluster q g))))
-shown-reply d past m n b q (Reads x j) e due all =
-    shown-if d past m n b (j == q.op) (j == q.op) (out.Act (act.Taken q.t q.op q.sid q.value) ∷ advance d.cluster (with_reply q x) q.op) refl all
-    (λ same. (let is : j ≡ q.op = grind (arith, nat_tests, same) in
-    let P : ℕ → Type 0 = λ i. Opens d past n q.t x (Some i) in
-    shown-taken d past m n b q x (subst P is (opens-reads d past n q.t x j e)) due all))
-shown-reply d past m n b q (Collects x) e due all = shown-none d past m n b all
-shown-reply d past m n b q (Commits y acks) e due all = shown-none d past m n b all
-shown-reply d past m n b q Apart e due all = shown-none d past m n b all
 
 shown-answer : (d : DocumentData) (past : List Act) (k m : ℕ) (n x : NodeId) (b : Bool) (said : Message) (c : Bool) → is_reply said ≡ c → sent_at k (sent past) ≡ Some (record { from = x; to = n; message = said }) → AllDue d (act.Got k ∷ past) → AllShown d (act.Got k ∷ past) → AllShown d (after (act.Got k ∷ past) (numbered m n (kept b n (answer n (view d past n) x said))))
 shown-answer d past k m n x b (message.ReadRep q) c quiet is due all =
     let now : List Act = act.Got k ∷ past in
     let same : stage (view d now n) q.t ≡ stage (view d past n) q.t = stage-quiet d past k x n (message.ReadRep q) q.t is refl in
-    let fit : Bool = is_fit_at n (participant (view d past n)) (stage (view d past n) q.t) x (message.ReadRep q) in
-    shown-if d now m n b fit fit (reply_row d.cluster q (stage (view d past n) q.t)) refl all (λ e. shown-reply d now m n b q (stage (view d past n) q.t) same due all)
+    answer-reply (λ acts. AllShown d (after now acts)) m n x b (view d past n) q all
+    (λ y reads. shown-taken d now m n b q y (opens-reads d now n q.t y q.op (same ∙ reads)) due all)
 shown-answer d past k m n x b said true quiet is due all = cc
 shown-answer d past k m n x b said false quiet is due all = unshowing-all d (act.Got k ∷ past) (numbered m n (kept b n (answer n (view d past n) x said))) (unshowing-acts m n b (answer n (view d past n) x said) (pass-answer is_unshowing n (view d past n) x said (row-unshowing n said quiet))) all
 
 -- ---- a begin
-
-began-kept : (m : ℕ) (n : NodeId) (b : Bool) (t : TxId) (sid0 : Ident) (os : List Out) → numbered m n (kept b n (out.Act (act.Began t n sid0) ∷ os)) ≡ act.Began t n sid0 ∷ numbered m n (kept b n os)
-began-kept m n true t sid0 os = refl
-began-kept m n false t sid0 os = refl
 
 shown-begin : (d : DocumentData) (past : List Act) (m : ℕ) (b : Bool) (s : ScriptData) → script_of s.number d.scripts ≡ Some s → story d past s.number ≡ None → AllShown d past → AllShown d (after past (numbered m s.home (kept b s.home (begin_outs s.home (participant (view d past s.home)) s))))
 shown-begin d past m b s is new all =
@@ -135,7 +108,7 @@ shown-begin d past m b s is new all =
     let owns : List (ℕ × Value) = filter (λ y. nat_lt 0 y.0) (own_reads 1 [] unread [] s.ops) in
     let left : shown now s.number ++ owns ≡ reads_by [] s.ops = ap (λ zs. zs ++ owns) none ∙ sym (first-reads s.ops) in
     let T : List Act → Type 0 = λ acts. AllShown d (after past acts) in
-    subst T (sym (began-kept m s.home b s.number sid0 (advance d.cluster (open_of s (begun sid0)) 0)))
+    subst T (sym (kept-first m s.home b (act.Began s.number s.home sid0) (advance d.cluster (open_of s (begun sid0)) 0) refl))
     (shown-advance d now m s.home b s (begun sid0) 0 is (story-began d past s.number s.home sid0) left (λ t w other e. other-began d past s.number t s.home sid0 w other (all t w e)))
 
 -- ---- the shapes of an event
@@ -163,10 +136,6 @@ shown-row : (d : DocumentData) (past : List Act) (e : Item) (c : Choice) → All
 shown-row d past e c due all = by-shape d past e c (λ acts. AllShown d (after past acts)) (shown-shape d past e c due all)
 
 -- ---- a run
-
-due-before : (d : DocumentData) (past acts : List Act) → AllDue d (after past acts) → AllDue d past
-due-before d past [] due = due
-due-before d past (a ∷ acts) due = (due-before d (a ∷ past) acts due).1
 
 shown-rows : (d : DocumentData) (past : List Act) (es : List Item) (h : List Act) → AllDue d (after past h) → AllShown d past → Rows d past es h → AllShown d (after past h)
 unfolding Rows

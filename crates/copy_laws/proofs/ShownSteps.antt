@@ -1,4 +1,5 @@
 -- What one act leaves of the agreement of what a transaction was shown and what its script reads by the values taken.
+use Rattle.grid_laws.proofs.StoryClaims.{Stays, is_untaking, untaking-claim}
 use Rattle.std.proofs.Common.{◌≡◌, ◌≢◌, ℕ, Bool, true, false, List, [], ◌∷◌, ◌++◌, Option, Some, None, refl, sym, ap, subst, ◌∙◌, arith}
 use Rattle.std.proofs.lemmas.Bool.Decides.{nat_tests}
 use Rattle.std.specs.Prelude.{◌==◌, if◌then◌else◌}
@@ -7,19 +8,16 @@ use Rattle.score_base.specs.declared.ids.TxId.{TxId}
 use Rattle.score_base.specs.declared.ids.NodeId.{NodeId}
 use Rattle.score_base.specs.declared.ids.Ident.{Ident}
 use Rattle.score_base.specs.declared.ids.Value.{Value}
-use Rattle.score_base.specs.declared.causes.Ballot.TheVariants as ballot
 use Rattle.script_lang.specs.declared.scripts.Op.{Op}
 use Rattle.script_lang.specs.Scripts.{ScriptData}
 use Rattle.grid_model.specs.declared.acts.Act.{Act}
 use Rattle.grid_model.specs.declared.acts.Act.TheVariants as act
-use Rattle.grid_model.specs.declared.messages.Envelope.{Envelope}
 use Rattle.grid_model.specs.declared.messages.Message.{Message}
-use Rattle.grid_model.specs.declared.messages.Message.TheVariants as message
 use Rattle.grid_model.specs.declared.stories.Story.{Story}
 use Rattle.grid_model.specs.Documents.{DocumentData}
-use Rattle.grid_model.specs.Histories.{after, sent, sent_at}
-use Rattle.grid_model.specs.Nodes.{Node, node, script_of, parts_of, is_home}
-use Rattle.grid_model.specs.Stories.{Phase, story, asked, heard, heard_at, if_told, has_voted, with_vote, with_ack, with_value, progressed}
+use Rattle.grid_model.specs.Histories.{after}
+use Rattle.grid_model.specs.Nodes.{script_of}
+use Rattle.grid_model.specs.Stories.{story, if_told, with_value, progressed}
 use Rattle.script_runs.specs.Waits.{waiting}
 use Rattle.grid_model.specs.Copies.{shown}
 use Rattle.script_runs.proofs.RemoteReads.{InOrder, remote_numbers, order-first, order-left, order-more}
@@ -39,29 +37,6 @@ Says s ys o = ys ≡ story_reads s o
 
 -- ---- an act that begins nothing, takes no reply and shows no own read
 
-if-told-says : (s : ScriptData) (ys : List (ℕ × Value)) (b : Bool) (f : Story → Story) (o : Option Story) → ((x : Story) → Says s ys (Some x) → Says s ys (Some (f x))) → Says s ys o → Says s ys (if_told b f o)
-if-told-says s ys b f None go h = h
-if-told-says s ys true f (Some x) go h = go x h
-if-told-says s ys false f (Some x) go h = h
-
-if-says : (s : ScriptData) (ys : List (ℕ × Value)) (b : Bool) (o p : Option Story) → Says s ys o → Says s ys p → Says s ys (if b then o else p)
-if-says s ys true o p h k = h
-if-says s ys false o p h k = k
-
-heard-says : (s : ScriptData) (ys : List (ℕ × Value)) (ns : List NodeId) (p : Phase) (h : Node) (t : TxId) (n : NodeId) (said : Message) (o : Option Story) → Says s ys o → Says s ys (heard ns p h t n said o)
-heard-says s ys ns p h t n (message.Vote u (ballot.Yes q)) o k = if-told-says s ys _ (progressed (with_vote n q)) o (λ y i. i) k
-heard-says s ys ns p h t n (message.Ack u) o k = if-told-says s ys _ (with_ack n) o (λ y i. i) k
-heard-says s ys ns p h t n said o k = k
-
-got-says : (s : ScriptData) (ys : List (ℕ × Value)) (d : DocumentData) (past : List Act) (w : Option ScriptData) (e : Option Envelope) (o : Option Story) → Says s ys o → Says s ys (heard_at d past w e o)
-got-says s ys d past None e o k = k
-got-says s ys d past (Some w) None o k = k
-got-says s ys d past (Some w) (Some e) o k = if-says s ys (e.to == w.home) _ o (heard-says s ys (parts_of d w) _ (node d past w.home) w.number e.from e.message o k) k
-
-asked-says : (s : ScriptData) (ys : List (ℕ × Value)) (d : DocumentData) (t : TxId) (said : Message) (o : Option Story) → Says s ys o → Says s ys (asked d t said o)
-asked-says s ys d t (message.ReadReq q) o k = if-told-says s ys (q.t == t) _ o (λ x i. i) k
-asked-says s ys d t said o k = k
-
 -- an act that begins nothing, takes no reply and shows no own read
 abbrev pub is_unshowing : Act → Bool
 is_unshowing (act.Began t n sid0) = false
@@ -76,17 +51,17 @@ row-unshowing n said none (act.Taken t op sid v) h = cc
 row-unshowing n said none (act.Own t op v) h = cc
 row-unshowing n said none a h = refl
 
-unshowing-says : (s : ScriptData) (ys : List (ℕ × Value)) (d : DocumentData) (past : List Act) (a : Act) (t : TxId) → is_unshowing a ≡ true → Says s ys (story d past t) → Says s ys (story d (a ∷ past) t)
-unshowing-says s ys d past (act.Sent m x y said) t quiet h = asked-says s ys d t said (story d past t) h
-unshowing-says s ys d past (act.Got m) t quiet h = got-says s ys d past (script_of t d.scripts) (sent_at m (sent past)) (story d past t) h
-unshowing-says s ys d past (act.Finished u) t quiet h = if-told-says s ys (u == t) _ (story d past t) (λ x i. i) h
-unshowing-says s ys d past (act.Aborted u n why) t quiet h = if-told-says s ys (u == t) _ (story d past t) (λ x i. i) h
-unshowing-says s ys d past (act.Lost u) t quiet h = if-told-says s ys (u == t) _ (story d past t) (λ x i. i) h
-unshowing-says s ys d past (act.Down n o) t quiet h = if-told-says s ys (is_home d t n) _ (story d past t) (λ x i. i) h
-unshowing-says s ys d past (act.Began u n sid0) t quiet h = cc
-unshowing-says s ys d past (act.Taken u op sid v) t quiet h = cc
-unshowing-says s ys d past (act.Own u op v) t quiet h = cc
-unshowing-says s ys d past a t quiet h = h
+says-stays : (s : ScriptData) (ys : List (ℕ × Value)) → Stays (Says s ys)
+says-stays s ys = record { votes = λ vs x i. i; acks = λ ns x i. i; turn = λ k x i. i; finished = λ x i. i; aborted = λ x i. i; lost = λ x i. i }
+
+unshowing-untaking : (a : Act) → is_unshowing a ≡ true → is_untaking a ≡ true
+unshowing-untaking (act.Began t n sid0) quiet = quiet
+unshowing-untaking (act.Taken t op sid v) quiet = quiet
+unshowing-untaking a quiet = refl
+
+unshowing-says : (s : ScriptData) (ys : List (ℕ × Value)) (d : DocumentData) (past : List Act) (a : Act) (t : TxId)
+    → is_unshowing a ≡ true → Says s ys (story d past t) → Says s ys (story d (a ∷ past) t)
+unshowing-says s ys d past a t quiet h = untaking-claim (Says s ys) (says-stays s ys) d past a t (unshowing-untaking a quiet) h
 
 unshowing-shown : (past : List Act) (a : Act) (t : TxId) → is_unshowing a ≡ true → shown (a ∷ past) t ≡ shown past t
 unshowing-shown past (act.Taken u op sid v) t quiet = cc

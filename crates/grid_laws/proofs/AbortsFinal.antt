@@ -1,19 +1,17 @@
 -- A transaction of which an abort was told can never commit.
+use Rattle.grid_laws.proofs.StoryClaims.{asked-claim, else-claim, got-claim, hears-any, if-claim}
 use Rattle.std.proofs.Common.{◌≡◌, ◌⊎◌, inl, inr, ℕ, Bool, true, false, List, [], ◌∷◌, Option, Some, None, refl, sym, ap, subst, ◌∙◌, arith}
 use Rattle.std.proofs.lemmas.Bool.Decides.{nat_tests}
-use Rattle.std.proofs.lemmas.Bool.{or_right}
-use Rattle.std.specs.Prelude.{◌==◌, ◌||◌, if◌then◌else◌}
+use Rattle.std.proofs.lemmas.Bool.{or_right, both_ways, or_left}
+use Rattle.std.specs.Prelude.{◌==◌, ◌||◌}
 use Rattle.score_base.specs.declared.ids.TxId.{TxId}
 use Rattle.score_base.specs.declared.ids.NodeId.{NodeId}
-use Rattle.score_base.specs.declared.causes.Ballot.TheVariants as ballot
 use Rattle.score_base.specs.declared.causes.Outcome.TheVariants as outcome
 use Rattle.score_base.specs.declared.records.Record.{Record}
 use Rattle.script_lang.specs.Scripts.{ScriptData}
 use Rattle.script_lang.specs.Reads.{is_update}
-use Rattle.placement.specs.Places.{is_among}
 use Rattle.grid_model.specs.declared.acts.Act.{Act}
 use Rattle.grid_model.specs.declared.acts.Act.TheVariants as act
-use Rattle.grid_model.specs.declared.messages.Envelope.{Envelope}
 use Rattle.grid_model.specs.declared.messages.Message.{Message}
 use Rattle.grid_model.specs.declared.messages.Message.TheVariants as message
 use Rattle.grid_model.specs.declared.messages.Prepare.{Prepare}
@@ -22,7 +20,7 @@ use Rattle.grid_model.specs.Documents.{DocumentData}
 use Rattle.grid_model.specs.Histories.{sent, sent_at}
 use Rattle.journal_words.specs.Journals.{Decision, Prepared, decision, home_in, is_closed, prepared_of, undone}
 use Rattle.grid_model.specs.Nodes.{Node, got, journal, node, script_of, is_home}
-use Rattle.grid_model.specs.Stories.{story, asked, heard, heard_at, if_told, phase_at, is_open, with_vote, with_ack, has_voted, begun, Phase, progressed}
+use Rattle.grid_model.specs.Stories.{story, phase_at, is_open, begun}
 use Rattle.script_runs.specs.Waits.{waiting}
 use Rattle.grid_model.specs.Views.{Open, Apart, acks_at, open_at, open_of, open_stage, stage, stage_by, view}
 use Rattle.grid_model.specs.Facts.{is_given_up, is_over, MeansNever, AbortsFinal}
@@ -39,10 +37,6 @@ abbrev Meant : List Act → TxId → Option Story → Type 0
 Meant past t None = Unit {0}
 Meant past t (Some x) = (x.lost ≡ true → is_given_up t past ≡ true) × (x.aborted ≡ true → is_given_up t past ≡ true)
 
-or-first : (a b : Bool) → a ≡ true → (a || b) ≡ true
-or-first true b h = refl
-or-first false b h = cc
-
 pub given-more : (a : Act) (past : List Act) (t : TxId) → is_given_up t past ≡ true → is_given_up t (a ∷ past) ≡ true
 given-more (act.Aborted u n why) past t h = or_right (u == t) (is_given_up t past) h
 given-more (act.Lost u) past t h = or_right (u == t) (is_given_up t past) h
@@ -52,43 +46,21 @@ meant-more : (a : Act) (past : List Act) (t : TxId) (o : Option Story) → Meant
 meant-more a past t None h = tt
 meant-more a past t (Some x) h = (λ e. given-more a past t (h.0 e), λ e. given-more a past t (h.1 e))
 
-if-meant : (past : List Act) (t : TxId) (b : Bool) (f : Story → Story) (o : Option Story) → (b ≡ true → (x : Story) → Meant past t (Some x) → Meant past t (Some (f x))) → Meant past t o → Meant past t (if_told b f o)
-if-meant past t b f None go h = h
-if-meant past t true f (Some x) go h = go refl x h
-if-meant past t false f (Some x) go h = h
-
-either-meant : (past : List Act) (t : TxId) (b : Bool) (o p : Option Story) → Meant past t o → Meant past t p → Meant past t (if b then o else p)
-either-meant past t true o p h k = h
-either-meant past t false o p h k = k
-
-meant-heard : (past : List Act) (t : TxId) (ns : List NodeId) (p : Phase) (h : Node) (u : TxId) (n : NodeId) (said : Message) (o : Option Story) → Meant past t o → Meant past t (heard ns p h u n said o)
-meant-heard past t ns p h u n (message.Vote w (ballot.Yes q)) o k = if-meant past t _ (progressed (with_vote n q)) o (λ e y i. i) k
-meant-heard past t ns p h u n (message.Ack w) o k = if-meant past t _ (with_ack n) o (λ e y i. i) k
-meant-heard past t ns p h u n said o k = k
-
-meant-got : (now : List Act) (d : DocumentData) (past : List Act) (t : TxId) (w : Option ScriptData) (m : Option Envelope) (o : Option Story) → Meant now t o → Meant now t (heard_at d past w m o)
-meant-got now d past t None m o k = k
-meant-got now d past t (Some s) None o k = k
-meant-got now d past t (Some s) (Some e) o k = either-meant now t (e.to == s.home) _ o (meant-heard now t _ _ (node d past s.home) s.number e.from e.message o k) k
-
-meant-asked : (past : List Act) (d : DocumentData) (t : TxId) (said : Message) (o : Option Story) → Meant past t o → Meant past t (asked d t said o)
-meant-asked past d t (message.ReadReq q) o k = if-meant past t (q.t == t) _ o (λ e x i. i) k
-meant-asked past d t said o k = k
-
-meant-told : (d : DocumentData) (past : List Act) (a : Act) (t : TxId) → Meant (a ∷ past) t (story d past t) → Meant (a ∷ past) t (story d (a ∷ past) t)
-meant-told d past (act.Began u n sid0) t k = either-meant (act.Began u n sid0 ∷ past) t (u == t) (Some (begun sid0)) (story d past t) (λ e. cc, λ e. cc) k
-meant-told d past (act.Sent m x y said) t k = meant-asked (act.Sent m x y said ∷ past) d t said (story d past t) k
-meant-told d past (act.Got m) t k = meant-got (act.Got m ∷ past) d past t (script_of t d.scripts) (sent_at m (sent past)) (story d past t) k
-meant-told d past (act.Taken u j sid v) t k = if-meant (act.Taken u j sid v ∷ past) t (u == t) _ (story d past t) (λ e x i. i) k
-meant-told d past (act.Finished u) t k = if-meant (act.Finished u ∷ past) t (u == t) _ (story d past t) (λ e x i. i) k
-meant-told d past (act.Aborted u n why) t k = if-meant (act.Aborted u n why ∷ past) t (u == t) _ (story d past t) (λ e x i. (i.0, λ f. or-first (u == t) (is_given_up t past) e)) k
-meant-told d past (act.Lost u) t k = if-meant (act.Lost u ∷ past) t (u == t) _ (story d past t) (λ e x i. (λ f. or-first (u == t) (is_given_up t past) e, i.1)) k
-meant-told d past (act.Down n h) t k = if-meant (act.Down n h ∷ past) t (is_home d t n) _ (story d past t) (λ e x i. i) k
-meant-told d past a t k = k
+meant-told : (d : DocumentData) (past now : List Act) (a : Act) (t : TxId) → now ≡ a ∷ past → Meant now t (story d past t) → Meant now t (story d (a ∷ past) t)
+meant-told d past now (act.Began u n sid0) t at k = else-claim (Meant now t) (u == t) (Some (begun sid0)) (story d past t) (λ same. (λ e. cc, λ e. cc)) k
+meant-told d past now (act.Sent m x y said) t at k = asked-claim (Meant now t) (λ j x i. i) d t said (story d past t) k
+meant-told d past now (act.Got m) t at k =
+    got-claim (Meant now t) (hears-any (Meant now t) (λ vs x i. i) (λ ns x i. i)) d past (script_of t d.scripts) (sent_at m (sent past)) (story d past t) k
+meant-told d past now (act.Taken u j sid v) t at k = if-claim (Meant now t) (u == t) _ (story d past t) (λ e x i. i) k
+meant-told d past now (act.Finished u) t at k = if-claim (Meant now t) (u == t) _ (story d past t) (λ e x i. i) k
+meant-told d past now (act.Aborted u n why) t at k = if-claim (Meant now t) (u == t) _ (story d past t) (λ e x i. (i.0, λ f. rw at (or_left (u == t) (is_given_up t past) e))) k
+meant-told d past now (act.Lost u) t at k = if-claim (Meant now t) (u == t) _ (story d past t) (λ e x i. (λ f. rw at (or_left (u == t) (is_given_up t past) e), i.1)) k
+meant-told d past now (act.Down n h) t at k = if-claim (Meant now t) (is_home d t n) _ (story d past t) (λ e x i. i) k
+meant-told d past now a t at k = k
 
 flags-meant : (d : DocumentData) (past : List Act) (t : TxId) → Meant past t (story d past t)
 flags-meant d [] t = tt
-flags-meant d (a ∷ past) t = meant-told d past a t (meant-more a past t (story d past t) (flags-meant d past t))
+flags-meant d (a ∷ past) t = meant-told d past (a ∷ past) a t refl (meant-more a past t (story d past t) (flags-meant d past t))
 
 -- ---- a part that asks has a Prepared
 
@@ -104,12 +76,7 @@ AsksOf d past x y said = Unit {0}
 
 asks-more : (d : DocumentData) (past : List Act) (a : Act) (x y : NodeId) (said : Message) → AllDue d (a ∷ past) → AsksOf d past x y said → AsksOf d (a ∷ past) x y said
 asks-more d past a x y (message.Ask t) due s = record { prepare = s.prepare; says = prepare-more d past a y x s.prepare due s.says; t = s.t }
-asks-more d past a x y (message.ReadReq q) due s = tt
-asks-more d past a x y (message.ReadRep q) due s = tt
-asks-more d past a x y (message.Prepare q) due s = tt
-asks-more d past a x y (message.Vote t b) due s = tt
-asks-more d past a x y (message.Tell t o) due s = tt
-asks-more d past a x y (message.Ack t) due s = tt
+asks-more d past a x y said due s = tt
 
 asks-home : (d : DocumentData) (past : List Act) (x y : NodeId) (t : TxId) (o : Option Prepared) → AllDue d past → prepared_of t (journal d past x) ≡ o → home_in o ≡ Some y → Asks d past x y t
 asks-home d past x y t None all is home = cc
@@ -121,12 +88,7 @@ asks-home d past x y t (Some w) all is home =
 
 asks-due : (d : DocumentData) (past : List Act) (x y : NodeId) (said : Message) → AllDue d past → SendDue d past x y said → AsksOf d past x y said
 asks-due d past x y (message.Ask t) all due = asks-home d past x y t (prepared_of t (journal d past x)) all refl due.1
-asks-due d past x y (message.ReadReq q) all due = tt
-asks-due d past x y (message.ReadRep q) all due = tt
-asks-due d past x y (message.Prepare q) all due = tt
-asks-due d past x y (message.Vote t b) all due = tt
-asks-due d past x y (message.Tell t o) all due = tt
-asks-due d past x y (message.Ack t) all due = tt
+asks-due d past x y said all due = tt
 
 asked-last : (d : DocumentData) (past : List Act) (n y : NodeId) (t : TxId) → AllDue d past → IsGot past n y (message.Ask t) → Asks d past y n t
 asked-last d past n y t all is = got-hold (AsksOf d) d past (λ now a m k said due h. asks-more d now a m k said due h) (λ now m k said due h. asks-due d now m k said due h) all (record { from = y; to = n; message = message.Ask t }) is
@@ -159,9 +121,6 @@ undone-none t r e is = rw e at is
 still-open : (s : ScriptData) (x : Story) (h : Node) → x.lost ≡ false → is_closed s.number h.journal ≡ false → decision s.number h.journal ≡ None → x.aborted ≡ false → is_update s.ops ≡ true → waiting s.ops x.progress.values ≡ None → is_open (phase_at s (Some x) h) ≡ true
 still-open s x h a b c e u w = grind (arith, a, b, c, e, u, w)
 
-false-true : (b : Bool) → b ≡ false → b ≡ true → ⊥
-false-true b e f = cc
-
 -- it was given up, or n has closed it
 abbrev pub IsGone : DocumentData → List Act → NodeId → TxId → Type 0
 IsGone d past n t = (is_given_up t past ≡ true) ⊎ (is_closed t (journal d past n) ≡ true)
@@ -173,7 +132,7 @@ gone d past n t s x false false true number meant undone update full closes e1 e
 gone d past n t s x false false false number meant undone update full closes e1 e2 e3 =
     let P : TxId → Type 0 = λ u. is_closed u (journal d past n) ≡ false in
     let Q : TxId → Type 0 = λ u. decision u (journal d past n) ≡ None in
-    absurd (false-true (is_open (phase_at s (Some x) (node d past n))) closes (still-open s x (node d past n) e1 (subst P (sym number) e2) (subst Q (sym number) (undone-none t (journal d past n) e2 undone)) e3 update full))
+    absurd (both_ways (is_open (phase_at s (Some x) (node d past n))) closes (still-open s x (node d past n) e1 (subst P (sym number) e2) (subst Q (sym number) (undone-none t (journal d past n) e2 undone)) e3 update full))
 
 -- the home that was asked knows no more of it
 pub apart-gone : (d : DocumentData) (past : List Act) (n y : NodeId) (t : TxId) → AllDue d past → IsGot past n y (message.Ask t) → stage (view d past n) t ≡ Apart → IsGone d past n t
@@ -193,40 +152,28 @@ apart-gone d past n y t all got is =
 
 apart-never : (d : DocumentData) (past : List Act) (n y : NodeId) (t : TxId) → AllDue d past → IsGot past n y (message.Ask t) → stage (view d past n) t ≡ Apart → (is_given_up t past || is_over d past t) ≡ true
 apart-never d past n y t all got is = elim (apart-gone d past n y t all got is) [
-  | inl given ↦ or-first (is_given_up t past) (is_over d past t) given
+  | inl given ↦ or_left (is_given_up t past) (is_over d past t) given
   | inr closed ↦ or_right (is_given_up t past) (is_over d past t) (closed-stands d past n t (journal d past n) (closed-say d past all n).journal closed)
 ]
 
 -- ---- each abort that was told
 
 never-more : (d : DocumentData) (past : List Act) (a : Act) (t : TxId) (b c : Bool) → is_given_up t past ≡ b → is_over d past t ≡ c → (b || c) ≡ true → (is_given_up t (a ∷ past) || is_over d (a ∷ past) t) ≡ true
-never-more d past a t true c g o h = or-first (is_given_up t (a ∷ past)) (is_over d (a ∷ past) t) (given-more a past t g)
+never-more d past a t true c g o h = or_left (is_given_up t (a ∷ past)) (is_over d (a ∷ past) t) (given-more a past t g)
 never-more d past a t false true g o h = or_right (is_given_up t (a ∷ past)) (is_over d (a ∷ past) t) (over-more d past a t o)
 never-more d past a t false false g o h = cc
 
 pub means-more : (d : DocumentData) (past : List Act) (a : Act) (n : NodeId) (said : Message) → MeansNever d past n said → MeansNever d (a ∷ past) n said
 means-more d past a n (message.Tell t outcome.Abort) h = never-more d past a t (is_given_up t past) (is_over d past t) refl refl h
-means-more d past a n (message.Tell t (outcome.Commit f)) h = tt
-means-more d past a n (message.ReadReq q) h = tt
-means-more d past a n (message.ReadRep q) h = tt
-means-more d past a n (message.Prepare q) h = tt
-means-more d past a n (message.Vote t b) h = tt
-means-more d past a n (message.Ack t) h = tt
-means-more d past a n (message.Ask t) h = tt
+means-more d past a n said h = tt
 
 abort-never : (d : DocumentData) (past : List Act) (n y : NodeId) (t : TxId) → AllDue d past → AbortDue d past n y t → (is_given_up t past || is_over d past t) ≡ true
-abort-never d past n y t all (given_up h) = or-first (is_given_up t past) (is_over d past t) h
+abort-never d past n y t all (given_up h) = or_left (is_given_up t past) (is_over d past t) h
 abort-never d past n y t all (apart got is) = apart-never d past n y t all got is
 
 pub means-due : (d : DocumentData) (past : List Act) (n y : NodeId) (said : Message) → AllDue d past → SendDue d past n y said → MeansNever d past n said
 means-due d past n y (message.Tell t outcome.Abort) all due = abort-never d past n y t all due
-means-due d past n y (message.Tell t (outcome.Commit f)) all due = tt
-means-due d past n y (message.ReadReq q) all due = tt
-means-due d past n y (message.ReadRep q) all due = tt
-means-due d past n y (message.Prepare q) all due = tt
-means-due d past n y (message.Vote t b) all due = tt
-means-due d past n y (message.Ack t) all due = tt
-means-due d past n y (message.Ask t) all due = tt
+means-due d past n y said all due = tt
 
 pub aborts-final : (d : DocumentData) (past : List Act) → AllDue d past → AbortsFinal d past
 aborts-final d past due = each-sent (λ now n said. MeansNever d now n said) d past (λ now a n said all h. means-more d now a n said h) (λ now n y said all h. means-due d now n y said all h) due

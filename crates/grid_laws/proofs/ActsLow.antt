@@ -121,9 +121,7 @@ send-low m d past n y (message.Vote t (ballot.No why)) low due = (let P : List A
 send-low m d past n y (message.Tell t (outcome.Commit f)) low due =
     let P : Ident → Type 0 = λ g. g ≤ m in
     subst P due.2 (decision-low m t due.0 (journal d past n) (nodes-low m d past low n).journal (undone-decision t due.0 (journal d past n) due.1))
-send-low m d past n y (message.Tell t outcome.Abort) low due = omega arith
-send-low m d past n y (message.Ack t) low due = omega arith
-send-low m d past n y (message.Ask t) low due = omega arith
+send-low m d past n y said low due = omega arith
 
 -- ---- acts
 

@@ -1,4 +1,5 @@
 -- Advance ends with the answer of a read-only transaction whose reads all have their values.
+use Rattle.grid_laws.proofs.StoryClaims.{is_untaking}
 use Rattle.std.proofs.Common.{◌≡◌, ℕ, Bool, true, false, List, [], ◌∷◌, ◌++◌, Option, Some, None, refl, sym, ap, subst, arith}
 use Rattle.std.specs.Prelude.{is_some, is_none, filter, map, nat_lt}
 use Rattle.std.specs.List.{list_all}
@@ -6,15 +7,12 @@ use Rattle.std.proofs.lemmas.Bool.{and_parts}
 use Rattle.score_base.specs.declared.ids.TxId.{TxId}
 use Rattle.score_base.specs.declared.ids.NodeId.{NodeId}
 use Rattle.score_base.specs.declared.ids.Value.{Value}
-use Rattle.script_lang.specs.declared.scripts.Op.{Op}
 use Rattle.script_lang.specs.Scripts.{ScriptData}
-use Rattle.script_lang.specs.Reads.{key_of, is_update}
-use Rattle.placement.specs.Places.{preferred}
+use Rattle.script_lang.specs.Reads.{is_update}
 use Rattle.grid_model.specs.declared.acts.Act.{Act}
 use Rattle.grid_model.specs.declared.acts.Act.TheVariants as act
 use Rattle.grid_model.specs.declared.events.Out.{Out}
 use Rattle.grid_model.specs.declared.events.Out.TheVariants as out
-use Rattle.grid_model.specs.declared.messages.Message.{Message}
 use Rattle.grid_model.specs.declared.stories.Story.{Story}
 use Rattle.grid_model.specs.Documents.{DocumentData}
 use Rattle.grid_model.specs.Histories.{after}
@@ -22,13 +20,13 @@ use Rattle.grid_model.specs.Nodes.{script_of, parts_of}
 use Rattle.grid_model.specs.Stories.{story}
 use Rattle.script_runs.specs.Waits.{waiting}
 use Rattle.grid_model.specs.Views.{open_of, Open}
-use Rattle.grid_model.specs.Advances.{advance, advance_end, prepares, request_of, to_node}
+use Rattle.grid_model.specs.Advances.{advance, advance_end, prepares, request_of}
 use Rattle.script_runs.specs.Walks.{op_at, own_reads, unread}
 use Rattle.placement.specs.Clusters.{ClusterData}
 use Rattle.grid_model.specs.Schedules.{numbered, kept, broken, head_of}
 use Rattle.grid_laws.proofs.Frames.{same-number}
 use Rattle.grid_laws.proofs.RowOuts.{Pass, on_act, pass-advance, pass-end, pass-numbered, pass-prepares}
-use Rattle.grid_laws.proofs.Answered.{is_told, is_untaking, untaking-all, or-true, AllTold, OthersTold, untaking-others, all-from}
+use Rattle.grid_laws.proofs.Answered.{is_told, untaking-all, or-true, AllTold, OthersTold, untaking-others, all-from}
 
 -- ---- outs that write no record
 

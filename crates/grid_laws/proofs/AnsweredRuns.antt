@@ -1,5 +1,8 @@
 -- Each event leaves the read-only transactions whose reads all have their values answered.
-use Rattle.std.proofs.Common.{◌≡◌, ℕ, Bool, true, false, List, [], ◌∷◌, Option, Some, None, refl, sym, subst, arith}
+use Rattle.std.proofs.lemmas.Bool.{eqb-true}
+use Rattle.placement.specs.Clusters.{ClusterData}
+use Rattle.grid_laws.proofs.StoryClaims.{is_untaking}
+use Rattle.std.proofs.Common.{◌≡◌, ℕ, Bool, true, false, List, [], ◌∷◌, Option, Some, None, refl, sym, ap, subst, ◌∙◌, arith}
 use Rattle.std.specs.Prelude.{◌==◌, if◌then◌else◌}
 use Rattle.score_base.specs.declared.ids.TxId.{TxId}
 use Rattle.score_base.specs.declared.ids.NodeId.{NodeId}
@@ -8,7 +11,6 @@ use Rattle.script_lang.specs.Scripts.{ScriptData}
 use Rattle.grid_model.specs.declared.acts.Act.{Act}
 use Rattle.grid_model.specs.declared.acts.Act.TheVariants as act
 use Rattle.grid_model.specs.declared.acts.Flag.{Flag}
-use Rattle.grid_model.specs.declared.events.Out.{Out}
 use Rattle.grid_model.specs.declared.events.Out.TheVariants as out
 use Rattle.grid_model.specs.declared.items.Item.{Item}
 use Rattle.grid_model.specs.declared.messages.Message.{Message}
@@ -19,7 +21,7 @@ use Rattle.grid_model.specs.Histories.{after, sent, sent_at}
 use Rattle.journal_words.specs.Journals.{commit_id}
 use Rattle.grid_model.specs.Nodes.{node, journal, script_of}
 use Rattle.grid_model.specs.Stories.{begun, story, with_value, progressed}
-use Rattle.grid_model.specs.Views.{view, stage, Stage, Open, Reads, Collects, Commits, Apart, open_of, participant}
+use Rattle.grid_model.specs.Views.{view, stage, Stage, View, Open, Reads, open_of, participant}
 use Rattle.grid_model.specs.Advances.{advance}
 use Rattle.grid_model.specs.Fitness.{is_fit_at}
 use Rattle.grid_model.specs.Rows.{answer, begin_outs, reply_row}
@@ -29,19 +31,15 @@ use Rattle.grid_model.proofs.EventShapes.{Shape, idle, arms, crashes, restarts, 
 use Rattle.grid_laws.proofs.Stages.{Opens, opens-reads}
 use Rattle.grid_laws.proofs.DueHomes.{story-began, ReadersAnswered}
 use Rattle.grid_laws.proofs.DueAnswers.{story-taken, with_reply, stage-quiet}
-use Rattle.grid_laws.proofs.Answered.{is_told, is_untaking, untaking-all, untaking-told, other-told, other-taken, AllTold, OthersTold}
+use Rattle.grid_laws.proofs.Answered.{is_told, untaking-all, untaking-told, other-told, other-taken, AllTold, OthersTold}
 use Rattle.grid_laws.proofs.AnsweredRows.{told-advance}
-use Rattle.grid_laws.proofs.RowOuts.{is_reply, pass-again}
+use Rattle.grid_laws.proofs.RowOuts.{is_reply, pass-again, kept-first, if-outs, kept-none}
 use Rattle.grid_laws.proofs.UntakingActs.{untaking-acts, untaking-answer, untaking-idle, untaking-losses}
 
 -- ---- a reply
 
 others-taken : (d : DocumentData) (past : List Act) (q : ReadRep) → AllTold d past → OthersTold d (act.Taken q.t q.op q.sid q.value ∷ past) q.t
 others-taken d past q all t s other e = other-taken s d past q.t t q.op q.sid q.value other (all t s e)
-
-pub numbered-taken : (m : ℕ) (n : NodeId) (b : Bool) (t : TxId) (op : ℕ) (sid : Ident) (v : ℕ) (os : List Out) → numbered m n (kept b n (out.Act (act.Taken t op sid v) ∷ os)) ≡ act.Taken t op sid v ∷ numbered m n (kept b n os)
-numbered-taken m n true t op sid v os = refl
-numbered-taken m n false t op sid v os = refl
 
 told-taken : (d : DocumentData) (past : List Act) (m : ℕ) (n : NodeId) (b : Bool) (q : ReadRep) (x : Open) (w : Option ℕ) → Opens d past n q.t x w → AllTold d past → AllTold d (after past (numbered m n (kept b n (out.Act (act.Taken q.t q.op q.sid q.value) ∷ advance d.cluster (with_reply q x) q.op))))
 told-taken d past m n b q x w o all =
@@ -53,44 +51,42 @@ told-taken d past m n b q x w o all =
     let R : TxId → Type 0 = λ u. OthersTold d now u in
     let S : Open → Type 0 = λ z. AllTold d (after now (numbered m n (kept b n (advance d.cluster (with_reply q z) q.op)))) in
     let T : List Act → Type 0 = λ acts. AllTold d (after past acts) in
-    subst T (sym (numbered-taken m n b q.t q.op q.sid q.value (advance d.cluster (with_reply q x) q.op)))
-    (subst S (sym o.is) (told-advance d now m n b o.script (progressed (with_value q.op q.sid q.value) o.story) q.op (subst P (sym number) o.at.script) (subst Q (sym number) at) (subst R (sym number) (others-taken d past q all))))
+    subst T (sym (kept-first m n b (act.Taken q.t q.op q.sid q.value) (advance d.cluster (with_reply q x) q.op) refl))
+    (subst S (sym o.is) (told-advance d now m n b o.script (progressed (with_value q.op q.sid q.value o.story)) q.op (subst P (sym number) o.at.script) (subst Q (sym number) at) (subst R (sym number) (others-taken d past q all))))
 
-told-if : (d : DocumentData) (past : List Act) (m : ℕ) (n : NodeId) (b c : Bool) (os : List Out) → AllTold d past → AllTold d (after past (numbered m n (kept b n os))) → AllTold d (after past (numbered m n (kept b n (if c then os else []))))
-told-if d past m n b true os all go = go
-told-if d past m n true false os all go = all
-told-if d past m n false false os all go = all
+reply-outs : (P : List Act → Type 0) (c : ClusterData) (m : ℕ) (n : NodeId) (b : Bool) (q : ReadRep) (g : Stage) → P []
+    → ((x : Open) → g ≡ Reads x q.op → P (numbered m n (kept b n (out.Act (act.Taken q.t q.op q.sid q.value) ∷ advance c (with_reply q x) q.op))))
+    → P (numbered m n (kept b n (reply_row c q g)))
+reply-outs P c m n b q (Reads x j) none go =
+    if-outs P m n b (j == q.op) (out.Act (act.Taken q.t q.op q.sid q.value) ∷ advance c (with_reply q x) q.op) none
+    (λ same. go x (ap (Reads x) (eqb-true j q.op same)))
+reply-outs P c m n b q g none go = rw (kept-none m n b) none
 
-told-none : (d : DocumentData) (past : List Act) (m : ℕ) (n : NodeId) (b : Bool) → AllTold d past → AllTold d (after past (numbered m n (kept b n [])))
-told-none d past m n true all = all
-told-none d past m n false all = all
-
-told-reply : (d : DocumentData) (past : List Act) (m : ℕ) (n : NodeId) (b : Bool) (q : ReadRep) (g : Stage) → stage (view d past n) q.t ≡ g → AllTold d past → AllTold d (after past (numbered m n (kept b n (reply_row d.cluster q g))))
-told-reply d past m n b q (Reads x j) e all = told-if d past m n b (j == q.op) (out.Act (act.Taken q.t q.op q.sid q.value) ∷ advance d.cluster (with_reply q x) q.op) all (told-taken d past m n b q x (Some j) (opens-reads d past n q.t x j e) all)
-told-reply d past m n b q (Collects x) e all = told-none d past m n b all
-told-reply d past m n b q (Commits y acks) e all = told-none d past m n b all
-told-reply d past m n b q Apart e all = told-none d past m n b all
+-- a reply that is got is taken where it was waited for, and else nothing is given
+pub answer-reply : (P : List Act → Type 0) (m : ℕ) (n x : NodeId) (b : Bool) (v : View) (q : ReadRep) → P []
+    → ((y : Open) → stage v q.t ≡ Reads y q.op → P (numbered m n (kept b n (out.Act (act.Taken q.t q.op q.sid q.value) ∷ advance v.cluster (with_reply q y) q.op))))
+    → P (numbered m n (kept b n (answer n v x (message.ReadRep q))))
+answer-reply P m n x b v q none go =
+    if-outs P m n b (is_fit_at n (participant v) (stage v q.t) x (message.ReadRep q)) (reply_row v.cluster q (stage v q.t)) none
+    (λ fit. reply-outs P v.cluster m n b q (stage v q.t) none go)
 
 told-answer : (d : DocumentData) (past : List Act) (k m : ℕ) (n x : NodeId) (b : Bool) (said : Message) (c : Bool) → is_reply said ≡ c → sent_at k (sent past) ≡ Some (record { from = x; to = n; message = said }) → AllTold d (act.Got k ∷ past) → AllTold d (after (act.Got k ∷ past) (numbered m n (kept b n (answer n (view d past n) x said))))
 told-answer d past k m n x b (message.ReadRep q) c quiet is all =
     let now : List Act = act.Got k ∷ past in
     let same : stage (view d now n) q.t ≡ stage (view d past n) q.t = stage-quiet d past k x n (message.ReadRep q) q.t is refl in
-    told-if d now m n b (is_fit_at n (participant (view d past n)) (stage (view d past n) q.t) x (message.ReadRep q)) (reply_row d.cluster q (stage (view d past n) q.t)) all (told-reply d now m n b q (stage (view d past n) q.t) same all)
+    answer-reply (λ acts. AllTold d (after now acts)) m n x b (view d past n) q all
+    (λ y reads. told-taken d now m n b q y (Some q.op) (opens-reads d now n q.t y q.op (same ∙ reads)) all)
 told-answer d past k m n x b said true quiet is all = cc
 told-answer d past k m n x b said false quiet is all = untaking-all d (act.Got k ∷ past) (numbered m n (kept b n (answer n (view d past n) x said))) (untaking-acts m n b (answer n (view d past n) x said) (untaking-answer n (view d past n) x said quiet)) all
 
 -- ---- a begin
-
-numbered-began : (m : ℕ) (n : NodeId) (b : Bool) (t : TxId) (sid0 : Ident) (os : List Out) → numbered m n (kept b n (out.Act (act.Began t n sid0) ∷ os)) ≡ act.Began t n sid0 ∷ numbered m n (kept b n os)
-numbered-began m n true t sid0 os = refl
-numbered-began m n false t sid0 os = refl
 
 told-begin : (d : DocumentData) (past : List Act) (m : ℕ) (b : Bool) (s : ScriptData) → script_of s.number d.scripts ≡ Some s → AllTold d past → AllTold d (after past (numbered m s.home (kept b s.home (begin_outs s.home (participant (view d past s.home)) s))))
 told-begin d past m b s is all =
     let sid0 : Ident = commit_id (journal d past s.home) in
     let now : List Act = act.Began s.number s.home sid0 ∷ past in
     let T : List Act → Type 0 = λ acts. AllTold d (after past acts) in
-    subst T (sym (numbered-began m s.home b s.number sid0 (advance d.cluster (open_of s (begun sid0)) 0)))
+    subst T (sym (kept-first m s.home b (act.Began s.number s.home sid0) (advance d.cluster (open_of s (begun sid0)) 0) refl))
     (told-advance d now m s.home b s (begun sid0) 0 is (story-began d past s.number s.home sid0) (λ t w other e. other-told w d past (act.Void 0) s.number t s.home sid0 other (all t w e)))
 
 -- ---- the shapes of an event

@@ -66,11 +66,7 @@ answers-due : (d : DocumentData) (past : List Act) (n y : NodeId) (said : Messag
 answers-due d past n y (message.Vote t (ballot.Yes p)) all due = asked-part d past n y t all due.0
 answers-due d past n y (message.Vote t (ballot.No why)) all due = asked-part d past n y t all due.0
 answers-due d past n y (message.Ack t) all due = ended-part d past n t (ended t (journal d past n)) all refl due.0
-answers-due d past n y (message.ReadReq q) all due = tt
-answers-due d past n y (message.ReadRep q) all due = tt
-answers-due d past n y (message.Prepare q) all due = tt
-answers-due d past n y (message.Tell t o) all due = tt
-answers-due d past n y (message.Ask t) all due = tt
+answers-due d past n y said all due = tt
 
 answers-sent : (d : DocumentData) (past : List Act) → AllDue d past → (m : ℕ) (x n : NodeId) (said : Message) → sent_at m (sent past) ≡ Some (record { from = x; to = n; message = said }) → AnswersOfParts d x said
 answers-sent d past due m x n said is = sent-hold (λ now k y a. AnswersOfParts d k a) d past (λ now a k y s all h. h) (λ now k y s all h. answers-due d now k y s all h) due m (record { from = x; to = n; message = said }) is

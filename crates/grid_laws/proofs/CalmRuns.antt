@@ -1,8 +1,8 @@
 -- Where no disk fails the acts of the rows are a run, and a lawful one where no fuse is set; and a document whose
 -- schedule sets no fuse has no other lawful run without a fault.
-use Rattle.std.proofs.Common.{◌≡◌, ℕ, ◌+◌, ◌≤◌, ◌&&◌, ◌||◌, ◌==◌, not, Bool, true, false, List, [], ◌∷◌, ◌++◌, refl, sym, ap, ◌∙◌, subst, Option, Some, None, arith, if◌then◌else◌, map, replicate, zero, suc, inl, inr}
+use Rattle.std.proofs.Common.{◌≡◌, ℕ, ◌+◌, ◌≤◌, ◌&&◌, ◌==◌, not, Bool, true, false, List, [], ◌∷◌, ◌++◌, refl, sym, ap, ◌∙◌, subst, Option, Some, None, arith, if◌then◌else◌, map, replicate, zero, suc, inl, inr}
 use Rattle.std.specs.List.{flat_map, list_all, range_with_len}
-use Rattle.std.proofs.lemmas.Bool.{cases_Bool, and_parts, and_from}
+use Rattle.std.proofs.lemmas.Bool.{cases_Bool, and_parts, and_from, or_right}
 use Rattle.std.proofs.lemmas.Bool.Decides.{nat_tests}
 use Rattle.score_base.specs.declared.ids.NodeId.{NodeId}
 use Rattle.score_base.specs.declared.records.Record.{Record}
@@ -72,10 +72,12 @@ unarming-acts past c n os h = pass-acts is_unarming n (λ k y said. refl) (λ x.
 
 unarming-opened : (d : DocumentData) (past : List Act) (n : NodeId) (f : Flag) (opens : Bool)
     → are_unarming (if opens then opened_row d past n f else act.StillDown n ∷ []) ≡ true
-unarming-opened d past n f true = pass-losses is_unarming d (act.Up n f ∷ past) n (number_order (script_numbers d.scripts)) (λ t. refl)
+unarming-opened d past n f true =
+    pass-losses is_unarming d (act.Up n f ∷ past) n (number_order (script_numbers d.scripts)) (λ t. refl)
 unarming-opened d past n f false = refl
 
-shape-unarming : (d : DocumentData) (past : List Act) (i : Item) (c : Choice) → is_unfused i ≡ true → (s : Shape d past i)
+shape-unarming : (d : DocumentData) (past : List Act) (i : Item) (c : Choice) → is_unfused i ≡ true
+    → (s : Shape d past i)
     → are_unarming (acts_by d past i c s) ≡ true
 shape-unarming d past i c e (idle acts is) = idle-pass is_unarming (λ code. refl) (λ m. refl) (λ m. refl) acts is
 shape-unarming d past i c e (arms n k how is) = armed i n k how is e
@@ -89,7 +91,8 @@ shape-unarming d past i c e (delivers m x is up) =
     (pass-answer is_unarming x.to (view d past x.to) x.from x.message (row-unarming x.to x.message))
 shape-unarming d past i c e (again n os up is) = unarming-acts past c n os (pass-again is_unarming d past n os is)
 
-unfailing-acts : (past : List Act) (n : NodeId) (os : List Out) → Pass is_unfailing os → are_unfailing (acts_of past calm n os) ≡ true
+unfailing-acts : (past : List Act) (n : NodeId) (os : List Out) → Pass is_unfailing os
+    → are_unfailing (acts_of past calm n os) ≡ true
 unfailing-acts past n os h = pass-numbered is_unfailing n (λ k y said. refl) (next_number past) os h
 
 shape-unfailing : (d : DocumentData) (past : List Act) (i : Item) → is_unfused i ≡ true → (s : Shape d past i)
@@ -98,7 +101,8 @@ shape-unfailing d past i e (idle acts is) = idle-pass is_unfailing (λ code. ref
 shape-unfailing d past i e (arms n k how is) = armed i n k how is e
 shape-unfailing d past i e (crashes n up) = refl
 shape-unfailing d past i e (restarts n up) =
-    pass-losses is_unfailing d (act.Up n (flag_of (node d past n).doubt false) ∷ past) n (number_order (script_numbers d.scripts)) (λ t. refl)
+    pass-losses is_unfailing d (act.Up n (flag_of (node d past n).doubt false) ∷ past) n
+    (number_order (script_numbers d.scripts)) (λ t. refl)
 shape-unfailing d past i e (begins s is new up) =
     unfailing-acts past s.home (begin_outs s.home (participant (view d past s.home)) s)
     (pass-begin is_unfailing (λ t n sid0. refl) (λ t j v. refl) (λ t. refl) s.home (participant (view d past s.home)) s)
@@ -108,10 +112,12 @@ shape-unfailing d past i e (delivers m x is up) =
 shape-unfailing d past i e (again n os up is) = unfailing-acts past n os (pass-again is_unfailing d past n os is)
 
 -- a row, by its shape
-row-unarming_all : (d : DocumentData) (past : List Act) (i : Item) (c : Choice) → is_unfused i ≡ true → are_unarming (row d past i c) ≡ true
+row-unarming_all : (d : DocumentData) (past : List Act) (i : Item) (c : Choice) → is_unfused i ≡ true
+    → are_unarming (row d past i c) ≡ true
 row-unarming_all d past i c e = by-shape d past i c (λ acts. are_unarming acts ≡ true) (shape-unarming d past i c e)
 
-played-unfailing : (d : DocumentData) (past : List Act) (i : Item) → is_unfused i ≡ true → are_unfailing (played d past i) ≡ true
+played-unfailing : (d : DocumentData) (past : List Act) (i : Item) → is_unfused i ≡ true
+    → are_unfailing (played d past i) ≡ true
 played-unfailing d past i e = by-shape d past i calm (λ acts. are_unfailing acts ≡ true) (shape-unfailing d past i e)
 
 -- ---- a disk that fails shows
@@ -121,10 +127,12 @@ same-stopped : (m : ℕ) (n : NodeId) (o : Option Head) (a : Act) (os : List Out
     → (are_unfailing (numbered m n (broken n os)) ≡ true → broken n os ≡ os)
     → are_unfailing (numbered m n (stopped n o (out.Act a) (broken n os))) ≡ true
     → stopped n o (out.Act a) (broken n os) ≡ out.Act a ∷ os
-same-stopped m n None a os same e = ap (λ z. out.Act a ∷ z) (same (and_parts (is_unfailing a) (are_unfailing (numbered m n (broken n os))) e).1)
+same-stopped m n None a os same e =
+    ap (λ z. out.Act a ∷ z) (same (and_parts (is_unfailing a) (are_unfailing (numbered m n (broken n os))) e).1)
 same-stopped m n (Some h) a os same e = cc
 
-same-broken : (m : ℕ) (n : NodeId) (os : List Out) → are_unfailing (numbered m n (broken n os)) ≡ true → broken n os ≡ os
+same-broken : (m : ℕ) (n : NodeId) (os : List Out) → are_unfailing (numbered m n (broken n os)) ≡ true
+    → broken n os ≡ os
 same-broken m n [] e = refl
 same-broken m n (out.Act a ∷ os) e = same-stopped m n (head_of a) a os (same-broken m n os) e
 same-broken m n (out.Send to said ∷ os) e = ap (λ z. out.Send to said ∷ z) (same-broken (m + 1) n os e)
@@ -135,7 +143,8 @@ same-kept true m n os e = refl
 same-kept false m n os e = ap (numbered m n) (same-broken m n os e)
 
 -- where no disk failed no record is in doubt
-undoubted-one : (d : DocumentData) (e : Option Envelope) (a : Act) (n : NodeId) (x : Node) → is_unfailing a ≡ true → x.doubt ≡ None
+undoubted-one : (d : DocumentData) (e : Option Envelope) (a : Act) (n : NodeId) (x : Node) → is_unfailing a ≡ true
+    → x.doubt ≡ None
     → (changed (change d e a n) x).doubt ≡ None
 undoubted-one d e a n x q none = grind (arith, q, none)
 
@@ -150,20 +159,25 @@ same-flag None finds e = refl
 same-flag (Some x) finds e = cc
 
 same-opened : (d : DocumentData) (past : List Act) (n : NodeId) (opens finds : Bool) → are_unfailing past ≡ true
-    → are_unfailing (if opens then opened_row d past n (flag_of (node d past n).doubt finds) else act.StillDown n ∷ []) ≡ true
+    → are_unfailing
+    (if opens then opened_row d past n (flag_of (node d past n).doubt finds) else act.StillDown n ∷ []) ≡ true
     → (if opens then opened_row d past n (flag_of (node d past n).doubt finds) else act.StillDown n ∷ []) ≡ opened_row d past n (flag_of (node d past n).doubt false)
-same-opened d past n true finds before e = ap (opened_row d past n) (same-flag (node d past n).doubt finds (undoubted d past n before))
+same-opened d past n true finds before e =
+    ap (opened_row d past n) (same-flag (node d past n).doubt finds (undoubted d past n before))
 same-opened d past n false finds before e = cc
 
-shape-same : (d : DocumentData) (past : List Act) (i : Item) (c : Choice) → are_unfailing past ≡ true → (s : Shape d past i)
+shape-same : (d : DocumentData) (past : List Act) (i : Item) (c : Choice) → are_unfailing past ≡ true
+    → (s : Shape d past i)
     → are_unfailing (acts_by d past i c s) ≡ true → acts_by d past i c s ≡ acts_by d past i calm s
 shape-same d past i c before (idle acts is) e = refl
 shape-same d past i c before (arms n k how is) e = refl
 shape-same d past i c before (crashes n up) e = refl
 shape-same d past i c before (restarts n up) e = same-opened d past n c.opens c.finds before e
-shape-same d past i c before (begins s is new up) e = same-kept c.keeps (next_number past) s.home (begin_outs s.home (participant (view d past s.home)) s) e
+shape-same d past i c before (begins s is new up) e =
+    same-kept c.keeps (next_number past) s.home (begin_outs s.home (participant (view d past s.home)) s) e
 shape-same d past i c before (delivers m x is up) e =
-    ap (λ z. act.Got m ∷ z) (same-kept c.keeps (next_number past) x.to (answer x.to (view d past x.to) x.from x.message) e)
+    ap (λ z. act.Got m ∷ z)
+    (same-kept c.keeps (next_number past) x.to (answer x.to (view d past x.to) x.from x.message) e)
 shape-same d past i c before (again n os up is) e = same-kept c.keeps (next_number past) n os e
 
 -- a row at which no disk fails is the calm row
@@ -171,7 +185,8 @@ row-same : (d : DocumentData) (past : List Act) (i : Item) (c : Choice) → are_
     → are_unfailing (row d past i c) ≡ true → row d past i c ≡ played d past i
 row-same d past i c before e =
     let is = row-shaped d past i in
-    is.same c ∙ shape-same d past i c before is.shape (subst (λ z. are_unfailing z ≡ true) (is.same c) e) ∙ sym (is.same calm)
+    is.same c ∙ shape-same d past i c before is.shape (subst (λ z. are_unfailing z ≡ true) (is.same c) e) ∙ sym
+    (is.same calm)
 
 -- ---- fuses and faults
 
@@ -191,18 +206,17 @@ fuseless d (act.Down m h ∷ past) n e = none-if (m == n) None (fuse d past n) r
 fuseless d (act.Up m f ∷ past) n e = rw (fuseless d past n e) refl
 fuseless d (a ∷ past) n e = rw (fuseless d past n (unarming-past a past e)) refl
 
-fuseless-at_stop : (d : DocumentData) (past : List Act) (n : NodeId) → are_unarming past ≡ true → fuse_at_stop d past n ≡ None
+fuseless-at_stop : (d : DocumentData) (past : List Act) (n : NodeId) → are_unarming past ≡ true
+    → fuse_at_stop d past n ≡ None
 fuseless-at_stop d [] n e = refl
-fuseless-at_stop d (act.Down m h ∷ past) n e = none-if (m == n) (fuse d past n) (fuse_at_stop d past n) (fuseless d past n e) (fuseless-at_stop d past n e)
+fuseless-at_stop d (act.Down m h ∷ past) n e =
+    none-if (m == n) (fuse d past n) (fuse_at_stop d past n) (fuseless d past n e) (fuseless-at_stop d past n e)
 fuseless-at_stop d (a ∷ past) n e = fuseless-at_stop d past n (unarming-past a past e)
 
-or-true : (b c : Bool) → c ≡ true → (b || c) ≡ true
-or-true true c e = refl
-or-true false c e = e
-
-let-one : (d : DocumentData) (past : List Act) (a : Act) (n : NodeId) → are_unarming past ≡ true → is_let d past a n ≡ true
-let-one d past (act.Up m flag.Kept) n e = or-true (not (m == n)) _ (ap lets_gate (fuseless-at_stop d past n e))
-let-one d past a n e = or-true (not (is_record_at d a n)) _ (ap lets_record (fuseless d past n e))
+let-one : (d : DocumentData) (past : List Act) (a : Act) (n : NodeId) → are_unarming past ≡ true
+    → is_let d past a n ≡ true
+let-one d past (act.Up m flag.Kept) n e = or_right (not (m == n)) _ (ap lets_gate (fuseless-at_stop d past n e))
+let-one d past a n e = or_right (not (is_record_at d a n)) _ (ap lets_record (fuseless d past n e))
 
 let-all : (d : DocumentData) (past : List Act) (n : NodeId) → are_unarming past ≡ true → are_let d past n ≡ true
 let-all d [] n e = refl
@@ -240,7 +254,8 @@ faulty (act.Down m None) u e = cc
 faulty (act.Armed n k how) u e = cc
 faulty a u e = cc
 
-not-fused : (d : DocumentData) (past : List Act) (a : Act) (n : NodeId) → fuse d past n ≡ None → is_by_fuse d past a n ≡ false
+not-fused : (d : DocumentData) (past : List Act) (a : Act) (n : NodeId) → fuse d past n ≡ None
+    → is_by_fuse d past a n ≡ false
 not-fused d past (act.Down m (Some h)) n e = ap stops_record e
 not-fused d past (act.StillDown m) n e = ap (λ x. stops_opening x (journal d past n)) e
 not-fused d past a n e = refl
@@ -261,7 +276,8 @@ unfailing-one d a past u f = elim (cases_Bool (is_unfailing a)) [
       grind (arith, more, none)
 ]
 
-unfailing-past : (d : DocumentData) (past : List Act) → are_unarming past ≡ true → ((n : NodeId) → faults d past n ≤ 0) → are_unfailing past ≡ true
+unfailing-past : (d : DocumentData) (past : List Act) → are_unarming past ≡ true → ((n : NodeId) → faults d past n ≤ 0)
+    → are_unfailing past ≡ true
 unfailing-past d [] u f = refl
 unfailing-past d (a ∷ past) u f =
     rw (unfailing-one d a past u f) (unfailing-past d past (unarming-past a past u) (λ n. omega (arith, f n, rest n)))
@@ -285,25 +301,31 @@ unfused-all (i ∷ is) e =
     let both = and_parts (is_unfused i) (list_all is_unfused is) e in
     tests-append is_unfused (events_in i) (flat_map events_in is) (unfused-events i both.0) (unfused-all is both.1)
 
-plays-unfailing : (d : DocumentData) (past : List Act) (es : List Item) → list_all is_unfused es ≡ true → are_unfailing (plays d past es) ≡ true
+plays-unfailing : (d : DocumentData) (past : List Act) (es : List Item) → list_all is_unfused es ≡ true
+    → are_unfailing (plays d past es) ≡ true
 plays-unfailing d past [] q = refl
 plays-unfailing d past (e ∷ es) q =
     let both = and_parts (is_unfused e) (list_all is_unfused es) q in
-    tests-append is_unfailing (played d past e) (plays d (after past (played d past e)) es) (played-unfailing d past e both.0) (plays-unfailing d (after past (played d past e)) es both.1)
+    tests-append is_unfailing (played d past e) (plays d (after past (played d past e)) es)
+    (played-unfailing d past e both.0) (plays-unfailing d (after past (played d past e)) es both.1)
 
 plays-rows : (d : DocumentData) (past : List Act) (es : List Item) → Rows d past es (plays d past es)
 unfolding Rows
 plays-rows d past [] = refl
-plays-rows d past (x ∷ es) = (calm, plays d (after past (played d past x)) es, refl, plays-rows d (after past (played d past x)) es)
+plays-rows d past (x ∷ es) =
+    (calm, plays d (after past (played d past x)) es, refl, plays-rows d (after past (played d past x)) es)
 
-rows-unarming : (d : DocumentData) (past : List Act) (es : List Item) (h : List Act) → list_all is_unfused es ≡ true → Rows d past es h → are_unarming h ≡ true
+rows-unarming : (d : DocumentData) (past : List Act) (es : List Item) (h : List Act) → list_all is_unfused es ≡ true
+    → Rows d past es h → are_unarming h ≡ true
 unfolding Rows
 rows-unarming d past [] h e r = rw r refl
 rows-unarming d past (x ∷ es) h e (c, rest, is, more) =
     let both = and_parts (is_unfused x) (list_all is_unfused es) e in
-    rw is (tests-append is_unarming (row d past x c) rest (row-unarming_all d past x c both.0) (rows-unarming d (after past (row d past x c)) es rest both.1 more))
+    rw is
+    (tests-append is_unarming (row d past x c) rest (row-unarming_all d past x c both.0) (rows-unarming d (after past (row d past x c)) es rest both.1 more))
 
-rows-same : (d : DocumentData) (past : List Act) (es : List Item) (h : List Act) → Rows d past es h → are_unfailing past ≡ true → are_unfailing h ≡ true → h ≡ plays d past es
+rows-same : (d : DocumentData) (past : List Act) (es : List Item) (h : List Act) → Rows d past es h
+    → are_unfailing past ≡ true → are_unfailing h ≡ true → h ≡ plays d past es
 unfolding Rows
 rows-same d past [] h r before quiet = r
 rows-same d past (x ∷ es) h (c, rest, is, more) before quiet =
@@ -314,15 +336,16 @@ rows-same d past (x ∷ es) h (c, rest, is, more) before quiet =
 
 -- ---- the start
 
-start-same : (opens : NodeId → Bool) (ns : List NodeId) → are_unfailing (map (start_act opens) ns) ≡ true → map (start_act opens) ns ≡ map (start_act (λ n. true)) ns
+first-same : (b : Bool) (n : NodeId) (xs ys : List Act) → (are_unfailing xs ≡ true → xs ≡ ys)
+    → are_unfailing ((if b then act.Up n flag.Untouched else act.StillDown n) ∷ xs) ≡ true
+    → (if b then act.Up n flag.Untouched else act.StillDown n) ∷ xs ≡ act.Up n flag.Untouched ∷ ys
+first-same true n xs ys same e = ap (λ z. act.Up n flag.Untouched ∷ z) (same e)
+first-same false n xs ys same e = cc
+
+start-same : (opens : NodeId → Bool) (ns : List NodeId) → are_unfailing (map (start_act opens) ns) ≡ true
+    → map (start_act opens) ns ≡ map (start_act (λ n. true)) ns
 start-same opens [] e = refl
-start-same opens (n ∷ ns) e = first (opens n) (start-same opens ns) e
-  where
-    first : (b : Bool) → (are_unfailing (map (start_act opens) ns) ≡ true → map (start_act opens) ns ≡ map (start_act (λ m. true)) ns)
-        → are_unfailing ((if b then act.Up n flag.Untouched else act.StillDown n) ∷ map (start_act opens) ns) ≡ true
-        → (if b then act.Up n flag.Untouched else act.StillDown n) ∷ map (start_act opens) ns ≡ act.Up n flag.Untouched ∷ map (start_act (λ m. true)) ns
-    first true same e = ap (λ z. act.Up n flag.Untouched ∷ z) (same e)
-    first false same e = cc
+start-same opens (n ∷ ns) e = first-same (opens n) n (map (start_act opens) ns) (map (start_act (λ m. true)) ns) (start-same opens ns) e
 
 start-unfailing : (ns : List NodeId) → are_unfailing (map (start_act (λ n. true)) ns) ≡ true
 start-unfailing [] = refl
@@ -361,5 +384,6 @@ is-calm_run d h unfused l =
     let rest : l.run.rest ≡ plays d (after [] start) (flat_map events_in d.items) = rows-same d (after [] start) (flat_map events_in d.items) l.run.rest l.run.rows (tests-after is_unfailing [] start refl both.0) both.1 in
     l.run.start ∙ ap (λ z. start ++ z) rest ∙ ap (λ z. z ++ plays d (after [] z) (flat_map events_in d.items)) opened
 
-pub one-run : (d : DocumentData) (h h' : List Act) → AreUnfused d.items → Lawful d h (λ n. 0) → Lawful d h' (λ n. 0) → h ≡ h'
+pub one-run : (d : DocumentData) (h h' : List Act) → AreUnfused d.items → Lawful d h (λ n. 0) → Lawful d h' (λ n. 0)
+    → h ≡ h'
 one-run d h h' unfused l l' = is-calm_run d h unfused l ∙ sym (is-calm_run d h' unfused l')

@@ -100,17 +100,12 @@ ClosedSays d past n y = Unit {0}
 
 closed-more : (d : DocumentData) (past : List Act) (a : Act) (n : NodeId) (y : Record) → ClosedSays d past n y → ClosedSays d (a ∷ past) n y
 closed-more d past a n (record'.Closed t) s = over-more d past a t s
-closed-more d past a n (record'.Decided t f parts) s = tt
-closed-more d past a n (record'.Prepared t home parts sid p reads writes) s = tt
-closed-more d past a n (record'.Ended t o) s = tt
-closed-more d past a n (record'.Ceiling c) s = tt
+closed-more d past a n y s = tt
 
 closed-due : (d : DocumentData) (past : List Act) (n : NodeId) (h : Head) → AllDue d past → RecordDue d past n h → HoldsIn (ClosedSays d past n) (record_of d (got past) h)
 closed-due d past n (head.Closed t) all due = closed-over d past n t all due.1
 closed-due d past n (head.Prepared t p) all due = let P : Option Record → Type 0 = λ o. HoldsIn (ClosedSays d past n) o in subst P (sym (prepared-is d past n t p due.1)) tt
-closed-due d past n (head.Ended t o) all due = tt
-closed-due d past n (head.Ceiling c) all due = tt
-closed-due d past n (head.Decided t f) all due = tt
+closed-due d past n h all due = tt
 
 pub closed-say : (d : DocumentData) (past : List Act) → AllDue d past → (n : NodeId) → NodeHolds (ClosedSays d past n) (node d past n)
 closed-say d past due n = records-hold (ClosedSays d) d past (λ now a k y all h. closed-more d now a k y h) (λ now k h all r. closed-due d now k h all r) due n

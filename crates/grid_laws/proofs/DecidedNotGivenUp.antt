@@ -1,8 +1,8 @@
 -- No transaction is both decided and given up, whether or not its decision is in doubt.
-use Rattle.std.proofs.Common.{◌≡◌, ◌⊎◌, Bool, true, false, List, [], ◌∷◌, Option, Some, None, inl, inr, refl, sym, subst, arith}
+use Rattle.std.proofs.Common.{◌≡◌, ◌⊎◌, true, false, List, [], ◌∷◌, Option, Some, None, inl, inr, sym, subst, arith}
 use Rattle.std.proofs.lemmas.Bool.Decides.{nat_tests}
-use Rattle.std.proofs.lemmas.Bool.{cases_eq}
-use Rattle.std.specs.Prelude.{◌==◌, ◌||◌}
+use Rattle.std.proofs.lemmas.Bool.{cases_eq, both_ways, or_right}
+use Rattle.std.specs.Prelude.{◌==◌}
 use Rattle.score_base.specs.declared.ids.TxId.{TxId}
 use Rattle.score_base.specs.declared.ids.NodeId.{NodeId}
 use Rattle.score_base.specs.declared.ids.Ident.{Ident}
@@ -80,29 +80,22 @@ running-unknown d past n t all r home =
     let R : Option Record → Type 0 = λ o. has_tx t (decisions (written o h.journal)) ≡ false in
     subst P at (subst R (sym quiet) (undecided-none t h.journal none))
 
-true-false : (b : Bool) → b ≡ true → b ≡ false → ⊥
-true-false b e f = cc
-
 pub known-not-given-up : (d : DocumentData) (past : List Act) → AllDue d past → (n : NodeId) (t : TxId) → is_home d t n ≡ true → has_tx t (known (node d past n)) ≡ true → is_given_up t past ≡ true → ⊥
 known-not-given-up d [] due n t home knows given = cc
 known-not-given-up d (a ∷ past) due n t home knows given = elim (known-changed (change d (got past) a n) (node d past n) t knows) [
   | inl before ↦ elim (given-by d past a t due.0 given) [
     | inl old ↦ known-not-given-up d past due.1 n t home before old
-    | inr runs ↦ true-false (has_tx t (known (node d past n))) before (running-unknown d past n t due.1 runs home)
+    | inr runs ↦ both_ways (has_tx t (known (node d past n))) (running-unknown d past n t due.1 runs home) before
   ]
   | inr new ↦ (let w : Decides d past n t = adds-due d past a n t due.0 new in let r = w.due.1 in open-not-given-up d past due.1 r.script t r.at.script r.unended (adds-given d (got past) a n t past new given))
 ]
-
-or-later : (a b : Bool) → b ≡ true → (a || b) ≡ true
-or-later true b e = refl
-or-later false b e = e
 
 -- what was given up is not decided
 pub given-up-undecided : (d : DocumentData) (past : List Act) → AllDue d past → (t : TxId) (f : Ident) → is_given_up t past ≡ true → IsDecided d past t f → ⊥
 given-up-undecided d past all t f given w =
     let x : Node = node d past w.0 in
     let here : has_tx t (decisions x.journal) ≡ true = decided-has t f x.journal w.2 in
-    known-not-given-up d past all w.0 t w.1 (rw (known-written t x.doubt x.journal) (or-later _ _ here)) given
+    known-not-given-up d past all w.0 t w.1 (rw (known-written t x.doubt x.journal) (or_right _ _ here)) given
 
 -- what was decided ends nowhere with abort
 pub decided-commits : (d : DocumentData) (past : List Act) → AllDue d past → (n : NodeId) (t : TxId) (f : Ident) → IsDecided d past t f → ended t (journal d past n) ≡ Some outcome.Abort → ⊥

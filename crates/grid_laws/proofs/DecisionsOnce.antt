@@ -1,7 +1,7 @@
 -- No transaction is decided twice, whether or not a decision is in doubt.
 use Rattle.std.proofs.Common.{◌≡◌, Bool, true, false, List, [], ◌∷◌, Option, Some, None, inl, inr, refl, sym, subst, ◌∙◌, arith}
 use Rattle.std.proofs.lemmas.Bool.Decides.{nat_tests}
-use Rattle.std.proofs.lemmas.Bool.{cases_eq}
+use Rattle.std.proofs.lemmas.Bool.{cases_eq, both_ways}
 use Rattle.std.specs.Prelude.{◌==◌, ◌&&◌, ◌||◌}
 use Rattle.score_base.specs.declared.ids.TxId.{TxId}
 use Rattle.score_base.specs.declared.ids.NodeId.{NodeId}
@@ -10,7 +10,7 @@ use Rattle.score_base.specs.declared.records.Record.{Record}
 use Rattle.score_base.specs.declared.records.Record.TheVariants as record'
 use Rattle.grid_model.specs.declared.acts.Act.{Act}
 use Rattle.grid_model.specs.Documents.{DocumentData}
-use Rattle.grid_model.specs.Nodes.{Node, Change, Nothing, Writes, Raises, Holds, Frees, Stops, Starts, Stays, change, changed, got, journal, node, script_of, written}
+use Rattle.grid_model.specs.Nodes.{Node, Change, Writes, Stops, Starts, change, changed, got, journal, node, script_of, written}
 use Rattle.journal_words.specs.Orders.{decisions}
 use Rattle.grid_model.specs.Facts.{IsDecided}
 use Rattle.journal_words.specs.Journals.{has_decided}
@@ -67,11 +67,7 @@ once-changed (Writes o) x new once = once-writes x.doubt o x.journal new once
 once-changed (Stops o) x new once = once-written o x.journal (λ t i. false-part (is_decided_in t x.doubt) (has_tx t (decisions x.journal)) (rw (known-written t x.doubt x.journal) at (new t i).1)) (once-rest x.doubt x.journal once)
 once-changed (Starts true) x new once = once
 once-changed (Starts false) x new once = once-rest x.doubt x.journal once
-once-changed Nothing x new once = once
-once-changed (Raises sid) x new once = once
-once-changed (Holds o) x new once = once
-once-changed (Frees u op k sid) x new once = once
-once-changed Stays x new once = once
+once-changed w x new once = once
 
 -- ---- each node
 
@@ -92,17 +88,14 @@ decided-once d past all n = once-rest (node d past n).doubt (journal d past n) (
 
 -- ---- one final identifier
 
-true-false : (b : Bool) → b ≡ true → b ≡ false → ⊥
-true-false b e f = cc
-
 once-same : (t : TxId) (f g : Ident) (r : List Record) → AreOnce (decisions r) → has_decided t f r ≡ true → has_decided t g r ≡ true → f ≡ g
 once-same t f g [] once a b = cc
 once-same t f g (record'.Decided u e parts ∷ r) once a b = elim (cases_eq u t) [
   | inl same ↦
       let P : TxId → Type 0 = λ v. has_tx v (decisions r) ≡ false in
       let none : has_tx t (decisions r) ≡ false = subst P same once.0 in
-      let x : e ≡ f = here f (has_decided t f r) a (λ i. true-false (has_tx t (decisions r)) (decided-has t f r i) none) in
-      let y : e ≡ g = here g (has_decided t g r) b (λ i. true-false (has_tx t (decisions r)) (decided-has t g r i) none) in
+      let x : e ≡ f = here f (has_decided t f r) a (λ i. both_ways (has_tx t (decisions r)) none (decided-has t f r i)) in
+      let y : e ≡ g = here g (has_decided t g r) b (λ i. both_ways (has_tx t (decisions r)) none (decided-has t g r i)) in
       sym x ∙ y
   | inr other ↦ once-same t f g r once.1 (grind (arith, nat_tests, a)) (grind (arith, nat_tests, b))
 ]

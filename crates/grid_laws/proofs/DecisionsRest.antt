@@ -61,10 +61,7 @@ decision-more d past a t f due s =
 
 decided-more : (d : DocumentData) (past : List Act) (a : Act) (n : NodeId) (y : Record) → AllDue d (a ∷ past) → DecidedSays d past n y → DecidedSays d (a ∷ past) n y
 decided-more d past a n (record'.Decided t f parts) due s = decision-more d past a t f due s
-decided-more d past a n (record'.Prepared t home parts sid p reads writes) due s = tt
-decided-more d past a n (record'.Ended t o) due s = tt
-decided-more d past a n (record'.Ceiling c) due s = tt
-decided-more d past a n (record'.Closed t) due s = tt
+decided-more d past a n y due s = tt
 
 -- a final identifier that is a proposal is above the snapshot
 fresh-final : (d : DocumentData) (past : List Act) (home n : NodeId) (t : TxId) (f : Ident) (s : ScriptData) (sid : Ident) (values : List (ℕ × Value)) → AllDue d past → Full d past home t s sid values → has_prepared t f (journal d past n) ≡ true → sid < f
@@ -106,9 +103,7 @@ decision-due d past n t f all due =
 decided-due : (d : DocumentData) (past : List Act) (n : NodeId) (h : Head) → AllDue d past → RecordDue d past n h → HoldsIn (DecidedSays d past n) (record_of d (got past) h)
 decided-due d past n (head.Decided t f) all due = decision-due d past n t f all due.1
 decided-due d past n (head.Prepared t p) all due = let P : Option Record → Type 0 = λ o. HoldsIn (DecidedSays d past n) o in subst P (sym (prepared-is d past n t p due.1)) tt
-decided-due d past n (head.Ended t o) all due = tt
-decided-due d past n (head.Ceiling c) all due = tt
-decided-due d past n (head.Closed t) all due = tt
+decided-due d past n h all due = tt
 
 -- each Decided that stands, or is in doubt
 pub decided-say : (d : DocumentData) (past : List Act) → AllDue d past → (n : NodeId) → NodeHolds (DecidedSays d past n) (node d past n)

@@ -1,5 +1,5 @@
 -- The acts of an event are due where its outs are, whether or not the disk keeps their record.
-use Rattle.std.proofs.Common.{◌≡◌, ℕ, ◌+◌, Bool, true, false, List, [], ◌∷◌, ◌++◌, refl, sym, subst}
+use Rattle.std.proofs.Common.{◌≡◌, ℕ, ◌+◌, Bool, true, false, List, [], ◌∷◌, sym, subst}
 use Rattle.score_base.specs.declared.ids.NodeId.{NodeId}
 use Rattle.grid_model.specs.declared.acts.Act.{Act}
 use Rattle.grid_model.specs.declared.acts.Act.TheVariants as act
@@ -60,3 +60,8 @@ acts-due d past n m false os due = broken-due d past n m os due
 pub all-after : (d : DocumentData) (past acts : List Act) → AllDue d past → AreDue d past acts → AllDue d (after past acts)
 all-after d past [] all due = all
 all-after d past (a ∷ acts) all due = all-after d (a ∷ past) acts (due.0, all) due.1
+
+-- what was due before
+pub due-before : (d : DocumentData) (past acts : List Act) → AllDue d (after past acts) → AllDue d past
+due-before d past [] due = due
+due-before d past (a ∷ acts) due = (due-before d (a ∷ past) acts due).1

@@ -65,13 +65,11 @@ due-taken d past n m y q x j false o got here fit = tt
 
 due-reply : (d : DocumentData) (past : List Act) (n : NodeId) (m : ℕ) (y : NodeId) (q : ReadRep) (g : Stage) → stage (view d past n) q.t ≡ g → IsGot past n y (message.ReadRep q) → ((x : Open) (j : ℕ) → g ≡ Reads x j → (j == q.op) ≡ true → is_same_ident q.sid x.progress.sid ≡ true) → OutsDue d past n m (reply_row d.cluster q g)
 due-reply d past n m y q (Reads x j) e got fit = due-taken d past n m y q x j (j == q.op) (opens-reads d past n q.t x j e) got refl (fit x j refl)
-due-reply d past n m y q (Collects x) e got fit = tt
-due-reply d past n m y q (Commits z acks) e got fit = tt
-due-reply d past n m y q Apart e got fit = tt
+due-reply d past n m y q w e got fit = tt
 
 -- ---- a vote
 
-phase-collecting : (d : DocumentData) (past : List Act) (n : NodeId) (s : ScriptData) (x : Story) → is_open (phase_at s (Some x) (node d past n)) ≡ true → waiting s.ops x.progress.values ≡ None → phase_at s (Some x) (node d past n) ≡ Collecting
+pub phase-collecting : (d : DocumentData) (past : List Act) (n : NodeId) (s : ScriptData) (x : Story) → is_open (phase_at s (Some x) (node d past n)) ≡ true → waiting s.ops x.progress.values ≡ None → phase_at s (Some x) (node d past n) ≡ Collecting
 phase-collecting d past n s x unended full = grind (arith, unended, full)
 
 abbrev with_yes : NodeId → Ident → Story → Story
@@ -182,9 +180,7 @@ due-closes d before n k m t x y acks false true e up got all = ((up, record { m 
 
 due-acked : (d : DocumentData) (before : List Act) (n : NodeId) (k m : ℕ) (t : TxId) (x : NodeId) (g : Stage) → stage (view d before n) t ≡ g → IsUp d before n → sent_at k (sent before) ≡ Some (record { from = x; to = n; message = message.Ack t }) → OutsDue d (act.Got k ∷ before) n m (ack_row t x g)
 due-acked d before n k m t x (Commits y acks) e up got = due-closes d before n k m t x y acks (is_among x acks) (are_all_among y.parts (acks ++ x ∷ [])) e up got refl
-due-acked d before n k m t x (Collects o) e up got = tt
-due-acked d before n k m t x (Reads o j) e up got = tt
-due-acked d before n k m t x Apart e up got = tt
+due-acked d before n k m t x w e up got = tt
 
 -- ---- a question
 

@@ -1,4 +1,5 @@
 -- A node that is opened loses its open transactions: each loss is due, in the order of their numbers.
+use Rattle.std.proofs.lemmas.Bool.{and_parts}
 use Rattle.std.proofs.Common.{◌≡◌, ◌<◌, Bool, true, false, List, [], ◌∷◌, ◌++◌, Option, Some, None, refl, sym, subst, ◌∙◌, arith}
 use Rattle.std.proofs.lemmas.Bool.Decides.{nat_tests}
 use Rattle.std.specs.Prelude.{◌==◌, ◌&&◌, fold, if◌then◌else◌}
@@ -104,11 +105,6 @@ same-all : (d : DocumentData) (up : List Act) (ts : List TxId) → AllSame d up 
 same-all d up [] = tt
 same-all d up (t ∷ ts) = (refl, same-all d up ts)
 
-and-parts : (a b : Bool) → (a && b) ≡ true → (a ≡ true) × (b ≡ true)
-and-parts true true e = (refl, refl)
-and-parts true false e = cc
-and-parts false b e = cc
-
 up-here : (d : DocumentData) (past : List Act) (n : NodeId) (f : Flag) → (node d (act.Up n f ∷ past) n).up ≡ true
 up-here d past n f = rw (same-number n) refl
 
@@ -144,7 +140,7 @@ due-lose d past now n f (t ∷ ts) rises b = one (script_of t d.scripts) refl (�
 
     test : (s : ScriptData) (c : Bool) → script_of t d.scripts ≡ Some s → s.number ≡ t → ((s.home == n) && is_open (phase d up s)) ≡ c → ((now' : List Act) → Behind d up now' ts → AreDue d now' rest) → AreDue d now ((if c then act.Lost s.number ∷ [] else []) ++ rest)
     test s true is number e more =
-        let parts = and-parts (s.home == n) (is_open (phase d up s)) e in
+        let parts = and_parts (s.home == n) (is_open (phase d up s)) e in
         let here : (s.home == n) ≡ true = parts.0 in
         let home : s.home ≡ n = grind (arith, nat_tests) in
         let P : TxId → Type 0 = λ u. AreDue d now (act.Lost u ∷ rest) in

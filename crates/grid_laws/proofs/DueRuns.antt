@@ -15,10 +15,9 @@ use Rattle.grid_model.specs.Documents.{DocumentData}
 use Rattle.grid_model.specs.Nodes.{node, script_of, journal}
 use Rattle.grid_model.specs.Stories.{story}
 use Rattle.grid_model.specs.Views.{view, stage, participant}
-use Rattle.grid_model.specs.Rows.{answer, begin_outs, retry_row, ask_outs}
-use Rattle.grid_model.specs.Schedules.{Choice, acts_of, flag_of, next_number, opened_row, row, start_act, start_row, begin_row, deliver_row, drop_row, next_left, next_row, or_void, retry_at}
+use Rattle.grid_model.specs.Rows.{answer, begin_outs}
+use Rattle.grid_model.specs.Schedules.{Choice, acts_of, flag_of, next_number, opened_row, row, start_act, start_row}
 use Rattle.grid_model.proofs.EventShapes.{Shape, idle, arms, crashes, restarts, begins, delivers, again, IsAgain, retries, asks, acts_by, by-shape, is_idle}
-use Rattle.grid_model.proofs.Undecided.{script-number}
 use Rattle.grid_laws.proofs.Causes.{IsDue, AreDue}
 use Rattle.grid_laws.proofs.DueActs.{OutsDue, acts-due}
 use Rattle.grid_laws.proofs.DueParts.{due-ask}

@@ -36,14 +36,17 @@ tests-more f g go (a ∷ xs) h =
     let both = and_parts (f a) (list_all f xs) h in
     and_from (g a) (list_all g xs) (go a both.0) (tests-more f g go xs both.1)
 
-pub tests-append : {A : Type 0} (f : A → Bool) (xs ys : List A) → list_all f xs ≡ true → list_all f ys ≡ true → list_all f (xs ++ ys) ≡ true
+pub tests-append : {A : Type 0} (f : A → Bool) (xs ys : List A) → list_all f xs ≡ true → list_all f ys ≡ true
+    → list_all f (xs ++ ys) ≡ true
 tests-append f xs ys h k = list_all-append f xs ys ∙ and_from (list_all f xs) (list_all f ys) h k
 
-pub tests-parts : {A : Type 0} (f : A → Bool) (xs ys : List A) → list_all f (xs ++ ys) ≡ true → (list_all f xs ≡ true) × (list_all f ys ≡ true)
+pub tests-parts : {A : Type 0} (f : A → Bool) (xs ys : List A) → list_all f (xs ++ ys) ≡ true
+    → (list_all f xs ≡ true) × (list_all f ys ≡ true)
 tests-parts f xs ys h = and_parts (list_all f xs) (list_all f ys) (sym (list_all-append f xs ys) ∙ h)
 
 -- a past and the acts behind it
-pub tests-after : (f : Act → Bool) (past acts : List Act) → list_all f past ≡ true → list_all f acts ≡ true → list_all f (after past acts) ≡ true
+pub tests-after : (f : Act → Bool) (past acts : List Act) → list_all f past ≡ true → list_all f acts ≡ true
+    → list_all f (after past acts) ≡ true
 tests-after f past [] h k = h
 tests-after f past (a ∷ acts) h k =
     let both = and_parts (f a) (list_all f acts) k in
@@ -57,4 +60,5 @@ tests-before f past (a ∷ acts) h = (and_parts (f a) (list_all f past) (tests-b
 pub tests-timed : (f : Act → Bool) (past acts : List Act) → list_all f (after past acts) ≡ true → list_all f acts ≡ true
 tests-timed f past [] h = refl
 tests-timed f past (a ∷ acts) h =
-    and_from (f a) (list_all f acts) (and_parts (f a) (list_all f past) (tests-before f (a ∷ past) acts h)).0 (tests-timed f (a ∷ past) acts h)
+    and_from (f a) (list_all f acts) (and_parts (f a) (list_all f past) (tests-before f (a ∷ past) acts h)).0
+    (tests-timed f (a ∷ past) acts h)

@@ -55,10 +55,7 @@ EndedSays d past y = Unit {0}
 ended-more : (d : DocumentData) (past : List Act) (a : Act) (y : Record) → EndedSays d past y → EndedSays d (a ∷ past) y
 ended-more d past a (record'.Ended t (outcome.Commit f)) h = is_decided-more d past a t f h
 ended-more d past a (record'.Ended t outcome.Abort) h = given-more a past t h
-ended-more d past a (record'.Prepared t home parts sid p reads writes) h = tt
-ended-more d past a (record'.Ceiling c) h = tt
-ended-more d past a (record'.Decided t f parts) h = tt
-ended-more d past a (record'.Closed t) h = tt
+ended-more d past a y h = tt
 
 pub all-found : (P : NodeId → Bool) (ns : List NodeId) (n : NodeId) → list_all P ns ≡ true → is_among n ns ≡ true → P n ≡ true
 all-found P [] n all i = cc
@@ -90,9 +87,7 @@ ended-due : (d : DocumentData) (past : List Act) (n : NodeId) (h : Head) → All
 ended-due d past n (head.Ended t (outcome.Commit f)) all due = says-got d past all (record { from = due.1.from; to = n; message = message.Tell t (outcome.Commit f) }) due.1.got
 ended-due d past n (head.Ended t outcome.Abort) all due = abort-due d past n t all due.1
 ended-due d past n (head.Prepared t p) all due = let P : Option Record → Type 0 = λ o. HoldsIn (EndedSays d past) o in subst P (sym (prepared-is d past n t p due.1)) tt
-ended-due d past n (head.Ceiling c) all due = tt
-ended-due d past n (head.Decided t f) all due = tt
-ended-due d past n (head.Closed t) all due = tt
+ended-due d past n h all due = tt
 
 -- each Ended that stands, or is in doubt
 pub ended-say : (d : DocumentData) (past : List Act) → AllDue d past → (n : NodeId) → NodeHolds (EndedSays d past) (node d past n)

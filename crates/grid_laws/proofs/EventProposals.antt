@@ -14,11 +14,10 @@ use Rattle.grid_model.specs.declared.items.Item.{Item}
 use Rattle.grid_model.specs.declared.items.Item.TheVariants as item
 use Rattle.grid_model.specs.Documents.{DocumentData, events_of, number_order, script_numbers}
 use Rattle.grid_model.specs.Histories.{after}
-use Rattle.grid_model.specs.Nodes.{node, script_of}
-use Rattle.grid_model.specs.Views.{view, stage, participant}
-use Rattle.grid_model.specs.Rows.{answer, begin_outs, ask_outs, retry_row}
-use Rattle.grid_model.specs.Schedules.{Choice, acts_of, events_in, flag_of, lost_at, next_number, opened_row, row, start_row, begin_row, deliver_row, drop_row, next_left, next_row, or_void, retry_at}
-use Rattle.grid_model.specs.Stories.{story}
+use Rattle.grid_model.specs.Nodes.{node}
+use Rattle.grid_model.specs.Views.{view, participant}
+use Rattle.grid_model.specs.Rows.{answer, begin_outs}
+use Rattle.grid_model.specs.Schedules.{Choice, acts_of, events_in, flag_of, next_number, opened_row, row, start_row}
 use Rattle.grid_model.specs.Runs.{Rows, IsRun}
 use Rattle.grid_model.proofs.EventShapes.{Shape, idle, arms, crashes, restarts, begins, delivers, again, acts_by, by-shape}
 use Rattle.grid_laws.proofs.ActsLow.{weight, proposals}
@@ -80,14 +79,7 @@ proposals-after past (a ∷ h) = omega (arith, proposals-after (a ∷ past) h)
 -- how many events an item is
 pub length-events_in : (i : Item) → length (events_in i) ≡ events_of i
 length-events_in (item.Next c) = length-replicate c (item.Next 1)
-length-events_in (item.Begin t) = refl
-length-events_in (item.Deliver m) = refl
-length-events_in (item.Drop m) = refl
-length-events_in (item.Retry t) = refl
-length-events_in (item.Ask n t) = refl
-length-events_in (item.Crash n how) = refl
-length-events_in (item.Fuse n k how) = refl
-length-events_in (item.Restart n) = refl
+length-events_in i = refl
 
 -- the events of the items are as many as their count says
 pub length-events : (items : List Item) → length (flat_map events_in items) ≡ sum_by events_of items

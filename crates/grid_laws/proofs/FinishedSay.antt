@@ -1,6 +1,6 @@
 -- What stands behind a client that was told: the decision of an update, or all values of a read-only transaction.
-use Rattle.std.proofs.Common.{◌≡◌, ℕ, Bool, true, false, List, [], ◌∷◌, Some, None, inl, inr, refl, sym, ap, subst, ◌∙◌}
-use Rattle.std.proofs.lemmas.Bool.{cases_eq}
+use Rattle.std.proofs.Common.{◌≡◌, ℕ, true, false, List, [], ◌∷◌, Some, None, inl, inr, refl, sym, ap, subst, ◌∙◌}
+use Rattle.std.proofs.lemmas.Bool.{cases_eq, both_ways}
 use Rattle.score_base.specs.declared.ids.TxId.{TxId}
 use Rattle.score_base.specs.declared.ids.NodeId.{NodeId}
 use Rattle.score_base.specs.declared.ids.Ident.{Ident}
@@ -66,23 +66,20 @@ finished-say d (a ∷ past) due t e = finished-more d past a t due (finished-say
 one-script : (d : DocumentData) (t : TxId) (r s : ScriptData) → script_of t d.scripts ≡ Some r → script_of t d.scripts ≡ Some s → r ≡ s
 one-script d t r s h k = cc
 
-true-false : (b : Bool) → b ≡ true → b ≡ false → ⊥
-true-false b e f = cc
-
 -- an update whose client was told is decided
 pub finished-update : (d : DocumentData) (past : List Act) → AllDue d past → (s : ScriptData) (t : TxId) → script_of t d.scripts ≡ Some s → is_update s.ops ≡ true → is_finished past t ≡ true → (f : Ident) × IsDecided d past t f
 finished-update d past all s t is update e = go (finished-say d past all t e)
   where
     go : FinishedSays d past t → (f : Ident) × IsDecided d past t f
     go (by_update f r w there u) = (f, w)
-    go (by_reader n r sid values full u) = (let P : ScriptData → Type 0 = λ z. is_update z.ops ≡ false in absurd (true-false (is_update s.ops) update (subst P (one-script d t r s full.at.script is) u)))
+    go (by_reader n r sid values full u) = (let P : ScriptData → Type 0 = λ z. is_update z.ops ≡ false in absurd (both_ways (is_update s.ops) (subst P (one-script d t r s full.at.script is) u) update))
 
 -- a read-only transaction whose client was told has all its values
 pub finished-reader : (d : DocumentData) (past : List Act) → AllDue d past → (s : ScriptData) (t : TxId) → script_of t d.scripts ≡ Some s → is_update s.ops ≡ false → is_finished past t ≡ true → (x : Story) × (story d past t ≡ Some x) × (waiting s.ops x.progress.values ≡ None)
 finished-reader d past all s t is reader e = go (finished-say d past all t e)
   where
     go : FinishedSays d past t → (x : Story) × (story d past t ≡ Some x) × (waiting s.ops x.progress.values ≡ None)
-    go (by_update f r w there u) = (let P : ScriptData → Type 0 = λ z. is_update z.ops ≡ true in absurd (true-false (is_update s.ops) (subst P (one-script d t r s there is) u) reader))
+    go (by_update f r w there u) = (let P : ScriptData → Type 0 = λ z. is_update z.ops ≡ true in absurd (both_ways (is_update s.ops) reader (subst P (one-script d t r s there is) u)))
     go (by_reader n r sid values full u) =
         let P : ScriptData → Type 0 = λ z. waiting z.ops full.story.progress.values ≡ None in
         (full.story, full.at.story, subst P (one-script d t r s full.at.script is) (ap (waiting r.ops) full.told ∙ full.full))

@@ -1,4 +1,5 @@
 -- Once the remote reads of a transaction all have their values, its snapshot and its values are fixed.
+use Rattle.grid_laws.proofs.StoryClaims.{is_untaking, Stays, untaking-claim}
 use Rattle.std.proofs.Common.{◌≡◌, ◌≢◌, ℕ, Bool, true, false, List, ◌∷◌, Option, Some, None, refl, sym, ap, subst, ◌∙◌, arith}
 use Rattle.std.proofs.lemmas.Bool.Decides.{nat_tests}
 use Rattle.std.specs.Prelude.{◌==◌, if◌then◌else◌}
@@ -6,61 +7,28 @@ use Rattle.score_base.specs.declared.ids.TxId.{TxId}
 use Rattle.score_base.specs.declared.ids.NodeId.{NodeId}
 use Rattle.score_base.specs.declared.ids.Ident.{Ident}
 use Rattle.score_base.specs.declared.ids.Value.{Value}
-use Rattle.score_base.specs.declared.causes.Ballot.TheVariants as ballot
 use Rattle.script_lang.specs.Scripts.{ScriptData}
 use Rattle.grid_model.specs.declared.acts.Act.{Act}
 use Rattle.grid_model.specs.declared.acts.Act.TheVariants as act
-use Rattle.grid_model.specs.declared.messages.Envelope.{Envelope}
-use Rattle.grid_model.specs.declared.messages.Message.{Message}
-use Rattle.grid_model.specs.declared.messages.Message.TheVariants as message
 use Rattle.grid_model.specs.declared.stories.Story.{Story}
 use Rattle.grid_model.specs.Documents.{DocumentData}
-use Rattle.grid_model.specs.Histories.{sent, sent_at}
-use Rattle.grid_model.specs.Nodes.{Node, node, script_of, parts_of, is_home}
-use Rattle.grid_model.specs.Stories.{Phase, story, told, asked, heard, heard_at, if_told, first_sid, with_vote, with_ack, has_voted, with_value, begun, progressed}
+use Rattle.grid_model.specs.Nodes.{script_of}
+use Rattle.grid_model.specs.Stories.{story, told, if_told, first_sid, with_value, begun, progressed}
 use Rattle.script_runs.specs.Waits.{waiting}
 use Rattle.grid_model.specs.Copies.{snapshot, snapshot_in}
 use Rattle.grid_laws.proofs.Causes.{AtHome, AllDue, TakenDue, BeganDue}
-use Rattle.grid_laws.proofs.Answered.{is_untaking}
 
 -- a story with the begin, the snapshot and the values of x
 abbrev pub Keeps : Story → Option Story → Type 0
 Keeps x None = ⊥
 Keeps x (Some y) = (y.progress.sid0 ≡ x.progress.sid0) × (y.progress.sid ≡ x.progress.sid) × (y.progress.values ≡ x.progress.values)
 
-if-told-keeps : (x : Story) (b : Bool) (f : Story → Story) (o : Option Story) → ((y : Story) → Keeps x (Some y) → Keeps x (Some (f y))) → Keeps x o → Keeps x (if_told b f o)
-if-told-keeps x b f None go h = h
-if-told-keeps x true f (Some y) go h = go y h
-if-told-keeps x false f (Some y) go h = h
+keeps-stays : (x : Story) → Stays (Keeps x)
+keeps-stays x = record { votes = λ vs y i. i; acks = λ ns y i. i; turn = λ k y i. i; finished = λ y i. i; aborted = λ y i. i; lost = λ y i. i }
 
-if-keeps : (x : Story) (b : Bool) (o p : Option Story) → Keeps x o → Keeps x p → Keeps x (if b then o else p)
-if-keeps x true o p h k = h
-if-keeps x false o p h k = k
-
-heard-keeps : (x : Story) (ns : List NodeId) (p : Phase) (h : Node) (t : TxId) (n : NodeId) (said : Message) (o : Option Story) → Keeps x o → Keeps x (heard ns p h t n said o)
-heard-keeps x ns p h t n (message.Vote u (ballot.Yes q)) o k = if-told-keeps x _ (progressed (with_vote n q)) o (λ y i. i) k
-heard-keeps x ns p h t n (message.Ack u) o k = if-told-keeps x _ (with_ack n) o (λ y i. i) k
-heard-keeps x ns p h t n said o k = k
-
-got-keeps : (x : Story) (d : DocumentData) (past : List Act) (w : Option ScriptData) (e : Option Envelope) (o : Option Story) → Keeps x o → Keeps x (heard_at d past w e o)
-got-keeps x d past None e o k = k
-got-keeps x d past (Some s) None o k = k
-got-keeps x d past (Some s) (Some e) o k = if-keeps x (e.to == s.home) _ o (heard-keeps x (parts_of d s) _ (node d past s.home) s.number e.from e.message o k) k
-
-asked-keeps : (x : Story) (d : DocumentData) (t : TxId) (said : Message) (o : Option Story) → Keeps x o → Keeps x (asked d t said o)
-asked-keeps x d t (message.ReadReq q) o k = if-told-keeps x (q.t == t) _ o (λ y i. i) k
-asked-keeps x d t said o k = k
-
-untaking-keeps : (x : Story) (d : DocumentData) (past : List Act) (a : Act) (t : TxId) → is_untaking a ≡ true → Keeps x (story d past t) → Keeps x (story d (a ∷ past) t)
-untaking-keeps x d past (act.Sent m n y said) t calm k = asked-keeps x d t said (story d past t) k
-untaking-keeps x d past (act.Got m) t calm k = got-keeps x d past (script_of t d.scripts) (sent_at m (sent past)) (story d past t) k
-untaking-keeps x d past (act.Finished u) t calm k = if-told-keeps x (u == t) _ (story d past t) (λ y i. i) k
-untaking-keeps x d past (act.Aborted u n why) t calm k = if-told-keeps x (u == t) _ (story d past t) (λ y i. i) k
-untaking-keeps x d past (act.Lost u) t calm k = if-told-keeps x (u == t) _ (story d past t) (λ y i. i) k
-untaking-keeps x d past (act.Down n h) t calm k = if-told-keeps x (is_home d t n) _ (story d past t) (λ y i. i) k
-untaking-keeps x d past (act.Began u n sid0) t calm k = cc
-untaking-keeps x d past (act.Taken u op sid v) t calm k = cc
-untaking-keeps x d past a t calm k = k
+untaking-keeps : (x : Story) (d : DocumentData) (past : List Act) (a : Act) (t : TxId)
+    → is_untaking a ≡ true → Keeps x (story d past t) → Keeps x (story d (a ∷ past) t)
+untaking-keeps x d past a t free k = untaking-claim (Keeps x) (keeps-stays x) d past a t free k
 
 -- t, of home n, has the snapshot sid and all its values
 pub record Full (d : DocumentData) (past : List Act) (n : NodeId) (t : TxId) (s : ScriptData) (sid : Ident) (values : List (ℕ × Value)) : Type 0 where

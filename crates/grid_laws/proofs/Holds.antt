@@ -15,7 +15,7 @@ use Rattle.grid_model.specs.declared.messages.Envelope.{Envelope}
 use Rattle.grid_model.specs.declared.messages.Message.{Message}
 use Rattle.grid_model.specs.Documents.{DocumentData}
 use Rattle.grid_model.specs.Histories.{sent, sent_at}
-use Rattle.grid_model.specs.Nodes.{got, node, script_of, parts_in, Node, Change, Nothing, Writes, Raises, Holds, Frees, Stops, Starts, Stays, change, changed, found, prepared_by, doubt_of, record_of, freed, is_request, said_by, held_by, is_kept}
+use Rattle.grid_model.specs.Nodes.{got, node, script_of, parts_in, Node, Change, Nothing, Writes, Raises, Holds, Frees, Stops, Starts, Stays, change, changed, prepared_by, doubt_of, record_of, freed, is_request, said_by, held_by, is_kept}
 use Rattle.grid_laws.proofs.Causes.{SendDue, RecordDue, StopDue, IsDue, AllDue}
 use Rattle.grid_laws.proofs.DueAnswers.{home-is}
 use Rattle.grid_laws.proofs.NodesFit.{at-node, at-home, AllHold, HoldsIn, hold-found}

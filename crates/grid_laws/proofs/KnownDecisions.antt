@@ -1,4 +1,5 @@
 -- The decisions that a node knows: those that stand, and the one in doubt.
+use Rattle.std.proofs.lemmas.Bool.{or_cases, eqb-true}
 use Rattle.std.proofs.Common.{◌≡◌, ◌⊎◌, ℕ, Bool, true, false, List, [], ◌∷◌, Option, Some, None, inl, inr, refl, sym, subst, ◌∙◌, arith}
 use Rattle.std.proofs.lemmas.Bool.Decides.{nat_tests}
 use Rattle.std.specs.Prelude.{◌==◌, ◌||◌}
@@ -55,10 +56,6 @@ known-written t None r = refl
 known-written t (Some (record'.Decided u f parts)) r = refl
 known-written t (Some y) r = refl
 
-either : (a b : Bool) → (a || b) ≡ true → (a ≡ true) ⊎ (b ≡ true)
-either true b e = inl refl
-either false b e = inr e
-
 known-writes : (t : TxId) (o p : Option Record) (r : List Record) → has_tx t (decisions (written p (written o r))) ≡ true → (has_tx t (decisions (written p r)) ≡ true) ⊎ (is_decided_in t o ≡ true)
 known-writes t o p r e = go (is_decided_in t p) (is_decided_in t o) (has_tx t (decisions r)) refl (sym (known-written t p r)) (rw (known-written t p (written o r), known-written t o r) at e)
   where
@@ -70,7 +67,7 @@ known-writes t o p r e = go (is_decided_in t p) (is_decided_in t o) (has_tx t (d
 -- what a node knows it knew before, or the change adds it
 pub known-changed : (c : Change) (x : Node) (t : TxId) → has_tx t (known (changed c x)) ≡ true → (has_tx t (known x) ≡ true) ⊎ (adds c t ≡ true)
 known-changed (Writes o) x t e = known-writes t o x.doubt x.journal e
-known-changed (Stops o) x t e = elim (either (is_decided_in t o) (has_tx t (decisions x.journal)) (rw (known-written t o x.journal) at e)) [
+known-changed (Stops o) x t e = elim (or_cases (is_decided_in t o) (has_tx t (decisions x.journal)) (rw (known-written t o x.journal) at e)) [
   | inl new ↦ inr new
   | inr old ↦ inl (rw (known-written t x.doubt x.journal) (grind (arith, old)))
 ]
@@ -115,16 +112,13 @@ stop-decides d past m n (Some (head.Ceiling c)) t due at e = cc
 stop-decides d past m n (Some (head.Closed u)) t due at e = cc
 stop-decides d past m n None t due at e = cc
 
-same-node : (m n : NodeId) → (m == n) ≡ true → m ≡ n
-same-node m n e = grind (arith, nat_tests, e)
-
 -- what an act adds at n is due there
 pub adds-due : (d : DocumentData) (past : List Act) (a : Act) (n : NodeId) (t : TxId) → IsDue d past a → adds (change d (got past) a n) t ≡ true → Decides d past n t
 adds-due d past (act.Decided u f) n t due e =
     let w = adds-where (is_home d u n) (Writes (Some (record'.Decided u f (parts_in d (script_of u d.scripts))))) t e in
     let r = due.1.1 in
     decides-as d past due.0 n u t f due.1 (home-one (script_of u d.scripts) due.0 n (home-is d u due.0 r.script r.at.script r.at.home) w.0) w.1
-adds-due d past (act.Down m h) n t due e = (let w = adds-where (m == n) (Stops (doubt_of d (got past) h)) t e in stop-decides d past m n h t due (same-node m n w.0) w.1)
+adds-due d past (act.Down m h) n t due e = (let w = adds-where (m == n) (Stops (doubt_of d (got past) h)) t e in stop-decides d past m n h t due (eqb-true m n w.0) w.1)
 adds-due d past (act.Prepared m u p) n t due e = absurd (prepared-no t (got past) u p (adds-where (m == n) (Writes (prepared_by (got past) u p)) t e).1)
 adds-due d past (act.Served m u op k sid vn v) n t due e = absurd (freed-no t (is_request (said_by (got past))) u op k sid (adds-where (m == n) (freed (is_request (said_by (got past))) u op k sid) t e).1)
 adds-due d past a n t due e = grind (arith, e)

@@ -11,6 +11,7 @@ pub mod DueParts
 pub mod Stages
 pub mod DueHomes
 pub mod DueAnswers
+pub mod StoryClaims
 pub mod Answered
 pub mod AnsweredRows
 pub mod DueLosses

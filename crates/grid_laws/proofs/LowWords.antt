@@ -60,10 +60,7 @@ floor-low m (record'.Closed t ∷ r) h = floor-low m r h.1
 learnt-low : (m : ℕ) (y : Record) (next : Ident) → IsLowRecord m y → next ≤ m → learnt (Some y) next ≤ m
 learnt-low m (record'.Prepared t home parts sid p reads writes) next h k = omega arith
 learnt-low m (record'.Ended t (outcome.Commit f)) next h k = omega arith
-learnt-low m (record'.Ended t outcome.Abort) next h k = k
-learnt-low m (record'.Ceiling c) next h k = k
-learnt-low m (record'.Decided t f parts) next h k = k
-learnt-low m (record'.Closed t) next h k = k
+learnt-low m y next h k = k
 
 found-low : (m : ℕ) (b : Bool) (o : Option Record) (r : List Record) → AllHold (IsLowRecord m) r → HoldsIn (IsLowRecord m) o → AllHold (IsLowRecord m) (found b o r)
 found-low m true (Some y) r h k = (k, h)
@@ -97,12 +94,7 @@ low-prepared m (Some e) t p h = from e.from e.message
   where
     from : (x : NodeId) (said : Message) → HoldsIn (IsLowRecord m) (prepared_from x said t p)
     from x (message.Prepare q) = h
-    from x (message.ReadReq q) = tt
-    from x (message.ReadRep q) = tt
-    from x (message.Vote u b) = tt
-    from x (message.Tell u o) = tt
-    from x (message.Ack u) = tt
-    from x (message.Ask u) = tt
+    from x said = tt
 
 low-head : (m : ℕ) (d : DocumentData) (e : Option Envelope) (h : Option Head) → head_ident h ≤ m → HoldsIn (IsLowRecord m) (doubt_of d e h)
 low-head m d e None i = tt

@@ -58,9 +58,7 @@ says-more d past a n (message.Tell t (outcome.Commit f)) h = (h.0, h.1, decided-
 says-more d past a n (message.Tell t outcome.Abort) h = tt
 says-more d past a n (message.Ack t) h = commit-more d past a n t h
 says-more d past a n (message.ReadRep q) h = has_served-more n q.t q.op q.sid q.value a past h
-says-more d past a n (message.ReadReq q) h = tt
-says-more d past a n (message.Prepare q) h = tt
-says-more d past a n (message.Ask t) h = tt
+says-more d past a n said h = tt
 
 -- ---- what is sent is backed
 
@@ -92,9 +90,7 @@ says-due d past n y (message.Tell t (outcome.Commit f)) s due =
 says-due d past n y (message.Tell t outcome.Abort) s due = tt
 says-due d past n y (message.Ack t) s due = has_commit-is d.cluster n t (journal d past n) s.fits ∙ due.0
 says-due d past n y (message.ReadRep q) s due = (let P : List Act → Type 0 = λ p. has_served n q.t q.op q.sid q.value p ≡ true in subst P (sym due.is) (served-now n q.t q.op due.key q.sid due.vn q.value due.before))
-says-due d past n y (message.ReadReq q) s due = tt
-says-due d past n y (message.Prepare q) s due = tt
-says-due d past n y (message.Ask t) s due = tt
+says-due d past n y said s due = tt
 
 -- ---- each message
 

@@ -95,10 +95,7 @@ all-more d n y r h k = rw (h, k) refl
 clock-learnt : (y : Record) (r : List Record) (next : Ident) → is_above (1 + next) r ≡ true → is_above (1 + learnt (Some y) next) (y ∷ r) ≡ true
 clock-learnt (record'.Prepared t home parts sid p reads writes) r next h = grind (arith, nat_tests, above-higher (1 + next) (1 + max p next) r (omega arith) h)
 clock-learnt (record'.Ended t (outcome.Commit f)) r next h = grind (arith, nat_tests, above-higher (1 + next) (1 + max f next) r (omega arith) h)
-clock-learnt (record'.Ended t outcome.Abort) r next h = h
-clock-learnt (record'.Ceiling c) r next h = h
-clock-learnt (record'.Decided t f parts) r next h = h
-clock-learnt (record'.Closed t) r next h = h
+clock-learnt y r next h = h
 
 same-node : (d : DocumentData) (n : NodeId) (x y : Node) → IsFitNode d n x → y.journal ≡ x.journal → y.doubt ≡ x.doubt → y.up ≡ x.up → x.next ≤ y.next → IsFitNode d n y
 same-node d n x y s j o u le =

@@ -22,7 +22,6 @@ use Rattle.grid_laws.proofs.Causes.{AllDue}
 use Rattle.grid_laws.proofs.NodesFitActs.{decision-home, nodes-fit}
 use Rattle.grid_laws.proofs.OpenPhases.{open-undecided}
 use Rattle.grid_laws.proofs.Holds.{sent-hold}
-use Rattle.grid_laws.proofs.VotesBacked.{says-sent}
 use Rattle.grid_laws.proofs.AbortsFinal.{apart-gone, given-more}
 use Rattle.grid_laws.proofs.EndsMeant.{abort-given-up, commit-decided, is_decided-more}
 use Rattle.grid_laws.proofs.OpenNotGivenUp.{open-not-given-up}
@@ -63,13 +62,7 @@ settled-more d past a t h = elim h [ inl g ↦ inl (given-more a past t g) | inr
 
 tell-more : (d : DocumentData) (past : List Act) (a : Act) (said : Message) → TellSettled d past said → TellSettled d (a ∷ past) said
 tell-more d past a (message.Tell t outcome.Abort) h = settled-more d past a t h
-tell-more d past a (message.Tell t (outcome.Commit f)) h = tt
-tell-more d past a (message.ReadReq q) h = tt
-tell-more d past a (message.ReadRep q) h = tt
-tell-more d past a (message.Prepare q) h = tt
-tell-more d past a (message.Vote t b) h = tt
-tell-more d past a (message.Ack t) h = tt
-tell-more d past a (message.Ask t) h = tt
+tell-more d past a said h = tt
 
 closed-settled : (d : DocumentData) (past : List Act) (n : NodeId) (t : TxId) → AllDue d past → is_closed t (journal d past n) ≡ true → IsSettled d past t
 closed-settled d past n t all e =
@@ -83,22 +76,8 @@ abort-settled d past n y t all (apart got is) = elim (apart-gone d past n y t al
 
 tell-due : (d : DocumentData) (past : List Act) (n y : NodeId) (said : Message) → AllDue d past → SendDue d past n y said → TellSettled d past said
 tell-due d past n y (message.Tell t outcome.Abort) all due = abort-settled d past n y t all due
-tell-due d past n y (message.Tell t (outcome.Commit f)) all due = tt
-tell-due d past n y (message.ReadReq q) all due = tt
-tell-due d past n y (message.ReadRep q) all due = tt
-tell-due d past n y (message.Prepare q) all due = tt
-tell-due d past n y (message.Vote t b) all due = tt
-tell-due d past n y (message.Ack t) all due = tt
-tell-due d past n y (message.Ask t) all due = tt
+tell-due d past n y said all due = tt
 
 -- of an abort that was told
 abort-sent : (d : DocumentData) (past : List Act) → AllDue d past → (m : ℕ) (x y : NodeId) (t : TxId) → sent_at m (sent past) ≡ Some (record { from = x; to = y; message = message.Tell t outcome.Abort }) → IsSettled d past t
 abort-sent d past due m x y t is = sent-hold (λ now n y said. TellSettled d now said) d past (λ now a n y said all h. tell-more d now a said h) (λ now n y said all h. tell-due d now n y said all h) due m (record { from = x; to = y; message = message.Tell t outcome.Abort }) is
-
--- nobody was told how an open transaction ended
-pub open-not-told : (d : DocumentData) (past : List Act) → AllDue d past → (s : ScriptData) (t : TxId) → script_of t d.scripts ≡ Some s → is_open (phase d past s) ≡ true → (m : ℕ) (x y : NodeId) (o : Outcome) → sent_at m (sent past) ≡ Some (record { from = x; to = y; message = message.Tell t o }) → ⊥
-open-not-told d past all s t is e m x y (outcome.Commit f) i = open-not-decided d past s t is e f (says-sent d past all m (record { from = x; to = y; message = message.Tell t (outcome.Commit f) }) i)
-open-not-told d past all s t is e m x y outcome.Abort i = elim (abort-sent d past all m x y t i) [
-  | inl g ↦ open-not-given-up d past all s t is e g
-  | inr w ↦ open-not-decided d past s t is e w.0 w.1
-]

@@ -1,24 +1,19 @@
 -- A transaction that was given up shows it in its story: it is aborted or lost, and not open.
+use Rattle.grid_laws.proofs.StoryClaims.{Stays, if-claim, untaking-claim}
 use Rattle.std.proofs.Common.{◌≡◌, Bool, true, false, List, [], ◌∷◌, Option, Some, None, inl, inr, refl, subst, arith}
 use Rattle.std.proofs.lemmas.Bool.Decides.{nat_tests}
-use Rattle.std.proofs.lemmas.Bool.{cases_eq, or_right}
+use Rattle.std.proofs.lemmas.Bool.{cases_eq, or_right, both_ways}
 use Rattle.std.specs.Prelude.{◌==◌, ◌||◌, if◌then◌else◌}
 use Rattle.score_base.specs.declared.ids.TxId.{TxId}
 use Rattle.score_base.specs.declared.ids.NodeId.{NodeId}
 use Rattle.score_base.specs.declared.ids.Ident.{Ident}
-use Rattle.score_base.specs.declared.causes.Ballot.TheVariants as ballot
 use Rattle.script_lang.specs.Scripts.{ScriptData}
-use Rattle.placement.specs.Places.{is_among}
 use Rattle.grid_model.specs.declared.acts.Act.{Act}
 use Rattle.grid_model.specs.declared.acts.Act.TheVariants as act
-use Rattle.grid_model.specs.declared.messages.Envelope.{Envelope}
-use Rattle.grid_model.specs.declared.messages.Message.{Message}
-use Rattle.grid_model.specs.declared.messages.Message.TheVariants as message
 use Rattle.grid_model.specs.declared.stories.Story.{Story}
 use Rattle.grid_model.specs.Documents.{DocumentData}
-use Rattle.grid_model.specs.Histories.{sent, sent_at}
-use Rattle.grid_model.specs.Nodes.{Node, node, script_of, is_home}
-use Rattle.grid_model.specs.Stories.{Phase, story, phase, phase_at, asked, begun, heard, heard_at, if_told, is_open, with_vote, with_ack, has_voted, progressed}
+use Rattle.grid_model.specs.Nodes.{node, script_of}
+use Rattle.grid_model.specs.Stories.{story, phase, phase_at, begun, if_told, is_open}
 use Rattle.grid_model.specs.Facts.{is_given_up}
 use Rattle.grid_model.proofs.Undecided.{script-number}
 use Rattle.grid_laws.proofs.Frames.{same-number}
@@ -30,28 +25,15 @@ abbrev pub IsFlagged : Option Story → Type 0
 IsFlagged None = ⊥
 IsFlagged (Some x) = (x.aborted || x.lost) ≡ true
 
-if-flagged : (b : Bool) (f : Story → Story) (o : Option Story) → ((x : Story) → IsFlagged (Some x) → IsFlagged (Some (f x))) → IsFlagged o → IsFlagged (if_told b f o)
-if-flagged b f None go k = k
-if-flagged true f (Some x) go k = go x k
-if-flagged false f (Some x) go k = k
-
-either-flagged : (b : Bool) (o p : Option Story) → IsFlagged o → IsFlagged p → IsFlagged (if b then o else p)
-either-flagged true o p h k = h
-either-flagged false o p h k = k
-
-flagged-heard : (ns : List NodeId) (p : Phase) (h : Node) (t : TxId) (n : NodeId) (said : Message) (o : Option Story) → IsFlagged o → IsFlagged (heard ns p h t n said o)
-flagged-heard ns p h t n (message.Vote u (ballot.Yes q)) o k = if-flagged _ (progressed (with_vote n q)) o (λ y i. i) k
-flagged-heard ns p h t n (message.Ack u) o k = if-flagged _ (with_ack n) o (λ y i. i) k
-flagged-heard ns p h t n said o k = k
-
-flagged-got : (d : DocumentData) (past : List Act) (w : Option ScriptData) (m : Option Envelope) (o : Option Story) → IsFlagged o → IsFlagged (heard_at d past w m o)
-flagged-got d past None m o k = k
-flagged-got d past (Some s) None o k = k
-flagged-got d past (Some s) (Some e) o k = either-flagged (e.to == s.home) _ o (flagged-heard _ _ (node d past s.home) s.number e.from e.message o k) k
-
-flagged-asked : (d : DocumentData) (t : TxId) (said : Message) (o : Option Story) → IsFlagged o → IsFlagged (asked d t said o)
-flagged-asked d t (message.ReadReq q) o k = if-flagged (q.t == t) _ o (λ x i. i) k
-flagged-asked d t said o k = k
+flagged-stays : Stays IsFlagged
+flagged-stays = record {
+  votes = λ vs x i. i;
+  acks = λ ns x i. i;
+  turn = λ k x i. i;
+  finished = λ x i. i;
+  aborted = λ x i. refl;
+  lost = λ x i. or_right x.aborted true refl;
+}
 
 flagged-began : (d : DocumentData) (past : List Act) (u t : TxId) (n : NodeId) (sid0 : Ident) (b : Bool) → (u == t) ≡ b → BeganDue d past u n sid0 → IsFlagged (story d past t) → IsFlagged (if b then Some (begun sid0) else story d past t)
 flagged-began d past u t n sid0 true e due k =
@@ -64,14 +46,8 @@ flagged-began d past u t n sid0 false e due k = k
 -- aborted or lost it stays
 pub flagged-more : (d : DocumentData) (past : List Act) (a : Act) (t : TxId) → AllDue d (a ∷ past) → IsFlagged (story d past t) → IsFlagged (story d (a ∷ past) t)
 flagged-more d past (act.Began u n sid0) t due k = flagged-began d past u t n sid0 (u == t) refl due.0 k
-flagged-more d past (act.Sent m x y said) t due k = flagged-asked d t said (story d past t) k
-flagged-more d past (act.Got m) t due k = flagged-got d past (script_of t d.scripts) (sent_at m (sent past)) (story d past t) k
-flagged-more d past (act.Taken u j sid v) t due k = if-flagged (u == t) _ (story d past t) (λ x i. i) k
-flagged-more d past (act.Finished u) t due k = if-flagged (u == t) _ (story d past t) (λ x i. i) k
-flagged-more d past (act.Aborted u n why) t due k = if-flagged (u == t) _ (story d past t) (λ x i. refl) k
-flagged-more d past (act.Lost u) t due k = if-flagged (u == t) _ (story d past t) (λ x i. or_right x.aborted true refl) k
-flagged-more d past (act.Down n h) t due k = if-flagged (is_home d t n) _ (story d past t) (λ x i. i) k
-flagged-more d past a t due k = k
+flagged-more d past (act.Taken u j sid v) t due k = if-claim IsFlagged (u == t) _ (story d past t) (λ e x i. i) k
+flagged-more d past a t due k = untaking-claim IsFlagged flagged-stays d past a t refl k
 
 -- ---- a transaction that was given up
 
@@ -110,9 +86,6 @@ given-flagged d (a ∷ past) due t e = flagged-more d past a t due (given-flagge
 pub given-up-told : (d : DocumentData) (past : List Act) → AllDue d past → (t : TxId) (x : Story) → story d past t ≡ Some x → is_given_up t past ≡ true → (x.aborted || x.lost) ≡ true
 given-up-told d past due t x told e = subst IsFlagged told (given-flagged d past due t e)
 
-false-true : (b : Bool) → b ≡ false → b ≡ true → ⊥
-false-true b e f = cc
-
 -- what is open was not given up
 pub open-not-given-up : (d : DocumentData) (past : List Act) → AllDue d past → (s : ScriptData) (t : TxId) → script_of t d.scripts ≡ Some s → is_open (phase d past s) ≡ true → is_given_up t past ≡ true → ⊥
 open-not-given-up d past due s t is e given =
@@ -124,4 +97,4 @@ open-not-given-up d past due s t is e given =
     let a = open'.aborted in
     let l = open'.lost in
     let none : (w.0.aborted || w.0.lost) ≡ false = rw (a, l) refl in
-    false-true (w.0.aborted || w.0.lost) none (given-up-told d past due t w.0 (subst P (script-number t d.scripts s is) told) given)
+    both_ways (w.0.aborted || w.0.lost) none (given-up-told d past due t w.0 (subst P (script-number t d.scripts s is) told) given)

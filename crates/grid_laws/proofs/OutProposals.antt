@@ -1,29 +1,21 @@
 -- How many proposals the outs of a row have: none but in the row of a Prepare, which has at most one.
-use Rattle.std.proofs.Common.{◌≡◌, ℕ, ◌+◌, ◌≤◌, Bool, true, false, List, [], ◌∷◌, ◌++◌, Option, Some, None, refl, sym, ◌∙◌, arith}
-use Rattle.std.specs.Prelude.{◌==◌, if◌then◌else◌, map, filter, nat_lt}
+use Rattle.std.proofs.Common.{◌≡◌, ℕ, ◌+◌, ◌≤◌, Bool, true, false, List, [], ◌∷◌, Option, Some, None, refl, sym, ◌∙◌, arith}
+use Rattle.std.specs.Prelude.{◌==◌, if◌then◌else◌, map}
 use Rattle.std.proofs.lemmas.Bool.{and_parts}
 use Rattle.score_base.specs.declared.ids.TxId.{TxId}
 use Rattle.score_base.specs.declared.ids.NodeId.{NodeId}
 use Rattle.score_base.specs.declared.ids.Ident.{Ident}
-use Rattle.score_base.specs.declared.ids.Value.{Value}
 use Rattle.score_base.specs.declared.causes.Outcome.{Outcome}
 use Rattle.score_base.specs.declared.keys.Key.{Key}
 use Rattle.script_lang.specs.Scripts.{ScriptData}
-use Rattle.placement.specs.Clusters.{ClusterData}
 use Rattle.grid_model.specs.declared.acts.Act.{Act}
 use Rattle.grid_model.specs.declared.acts.Act.TheVariants as act
 use Rattle.grid_model.specs.declared.events.Out.{Out}
 use Rattle.grid_model.specs.declared.events.Out.TheVariants as out
 use Rattle.grid_model.specs.declared.messages.Message.{Message}
 use Rattle.grid_model.specs.declared.messages.Message.TheVariants as message
-use Rattle.grid_model.specs.declared.messages.ReadRep.{ReadRep}
-use Rattle.journal_words.specs.Journals.{commit_id}
-use Rattle.grid_model.specs.Stories.{with_value}
-use Rattle.script_runs.specs.Waits.{waiting}
 use Rattle.grid_model.specs.Views.{stage, View, Participant, participant}
-use Rattle.grid_model.specs.Advances.{advance, advance_end, owns}
-use Rattle.script_runs.specs.Walks.{own_reads, unread}
-use Rattle.grid_model.specs.Fitness.{is_fit_at, tx_in}
+use Rattle.grid_model.specs.Fitness.{is_fit_at}
 use Rattle.grid_model.specs.Rows.{answer, begin_outs, judged, prepare_outs, prepare_row}
 use Rattle.grid_model.specs.Schedules.{broken, kept, lost_at, numbered, start_act}
 use Rattle.grid_laws.proofs.ActsLow.{weight, proposals}
@@ -64,7 +56,8 @@ weight-kept true n os = omega arith
 weight-kept false n os = weight-broken n os
 
 -- an event proposes at most as often as its outs
-pub weight-acts : (m : ℕ) (n : NodeId) (b : Bool) (os : List Out) → proposals (numbered m n (kept b n os)) ≤ outs_weight os
+pub weight-acts : (m : ℕ) (n : NodeId) (b : Bool) (os : List Out)
+    → proposals (numbered m n (kept b n os)) ≤ outs_weight os
 weight-acts m n b os = omega (arith, weight-numbered m n (kept b n os), weight-kept b n os)
 
 -- ---- what proposes nothing
@@ -98,31 +91,39 @@ none-idle acts is = none-all acts (idle-pass is_unproposing (λ code. refl) (λ 
 
 pub none-losses : (d : DocumentData) (past : List Act) (n : NodeId) (ts : List TxId)
     → proposals (flat_map (λ t. lost_at d past n (script_of t d.scripts)) ts) ≡ 0
-none-losses d past n ts = none-all (flat_map (λ t. lost_at d past n (script_of t d.scripts)) ts) (pass-losses is_unproposing d past n ts (λ t. refl))
+none-losses d past n ts =
+    none-all (flat_map (λ t. lost_at d past n (script_of t d.scripts)) ts)
+    (pass-losses is_unproposing d past n ts (λ t. refl))
 
 pub none-starts : (opens : NodeId → Bool) (ns : List NodeId) → proposals (map (start_act opens) ns) ≡ 0
 none-starts opens ns = none-all (map (start_act opens) ns) (pass-starts is_unproposing opens ns (λ n. refl) (λ n. refl))
 
-pub none-again : (d : DocumentData) (past : List Act) (n : NodeId) (os : List Out) → IsAgain d past n os → outs_weight os ≡ 0
+pub none-again : (d : DocumentData) (past : List Act) (n : NodeId) (os : List Out) → IsAgain d past n os
+    → outs_weight os ≡ 0
 none-again d past n os is = none-outs os (pass-again is_unproposing d past n os is)
 
 pub none-begin : (n : NodeId) (v : View) (s : ScriptData) → outs_weight (begin_outs n (participant v) s) ≡ 0
 none-begin n v s =
-    none-outs (begin_outs n (participant v) s) (pass-begin is_unproposing (λ t m sid0. refl) (λ t j w. refl) (λ t. refl) n (participant v) s)
+    none-outs (begin_outs n (participant v) s)
+    (pass-begin is_unproposing (λ t m sid0. refl) (λ t j w. refl) (λ t. refl) n (participant v) s)
 
-row-unproposing : (n : NodeId) (said : Message) → is_prepare said ≡ false → (a : Act) → is_of_row n said a ≡ true → is_unproposing a ≡ true
+row-unproposing : (n : NodeId) (said : Message) → is_prepare said ≡ false → (a : Act) → is_of_row n said a ≡ true
+    → is_unproposing a ≡ true
 row-unproposing n said none (act.Prepared m t p) h = sym none ∙ (and_parts (is_prepare said) (m == n) h).0
 row-unproposing n said none (act.Down m x) h = h
 row-unproposing n said none a h = refl
 
 -- ---- the row of a Prepare proposes at most once
 
-one-judged : (n x : NodeId) (t : TxId) (u : Option TxId) (y : Option (Key × Ident)) (p : Ident) → outs_weight (judged n x t u y p) ≤ 1
+one-judged : (n x : NodeId) (t : TxId) (u : Option TxId) (y : Option (Key × Ident)) (p : Ident)
+    → outs_weight (judged n x t u y p) ≤ 1
 one-judged n x t (Some u) y p = omega arith
 one-judged n x t None (Some y) p = omega arith
 one-judged n x t None None p = omega arith
 
-one-prepare : (n x : NodeId) (t : TxId) (o : Option Outcome) (mine : Option Ident) (u : Option TxId) (y : Option (Key × Ident)) (p : Ident) → outs_weight (prepare_row n x t o mine u y p) ≤ 1
+one-prepare : (n x : NodeId) (t : TxId) (o : Option Outcome) (mine : Option Ident) (u : Option TxId)
+    (y : Option (Key × Ident)) (p : Ident)
+    → outs_weight (prepare_row n x t o mine u y p) ≤ 1
 one-prepare n x t (Some o) mine u y p = omega arith
 one-prepare n x t None (Some q) u y p = omega arith
 one-prepare n x t None None u y p = one-judged n x t u y p

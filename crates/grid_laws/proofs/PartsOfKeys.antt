@@ -1,5 +1,6 @@
 -- Each key has a holder, and a holder of a key that a script names is a part of the script.
-use Rattle.std.proofs.Common.{◌≡◌, ℕ, ◌+◌, ◌≤◌, ◌<◌, inl, inr, Bool, true, false, List, [], ◌∷◌, Some, refl, sym, ap, subst, ◌∙◌, arith, zero, suc, length, ◌%◌}
+use Rattle.grid_laws.proofs.ScriptKeys.{any-among}
+use Rattle.std.proofs.Common.{◌≡◌, ℕ, ◌+◌, ◌-◌, ◌≤◌, ◌<◌, inl, inr, Bool, true, false, List, [], ◌∷◌, Some, refl, sym, ap, subst, ◌∙◌, arith, zero, suc, length, ◌%◌}
 use Rattle.std.proofs.lemmas.Bool.Decides.{nat_tests}
 use Rattle.std.proofs.lemmas.Bool.{and_parts, or_left, or_right, or_cases, cases_eq}
 use Rattle.std.specs.Prelude.{◌==◌, ◌||◌, IsTrue, filter, slice_get, slice_index_or, if◌then◌else◌}
@@ -82,13 +83,6 @@ distinct-among k seen (x ∷ ks) new h = go (same_key k x) (is_key_among x seen)
 
 -- ---- parts
 
-key-some : (p : Key → Bool) (k : Key) (ks : List Key) → p k ≡ true → is_key_among k ks ≡ true → list_any p ks ≡ true
-key-some p k [] h e = cc
-key-some p k (x ∷ ks) h e = elim (or_cases (same_key k x) (is_key_among k ks) e) [
-  | inl same ↦ or_left (p x) (list_any p ks) (subst (λ (y : Key). p y ≡ true) (same_key-is k x same) h)
-  | inr later ↦ or_right (p x) (list_any p ks) (key-some p k ks h later)
-]
-
 filter-range : (p : NodeId → Bool) (n a len : ℕ) → a ≤ n → n < a + len → p n ≡ true → is_among n (filter p (range_with_len a len)) ≡ true
 filter-range p n a zero le lt h = absurd (omega arith)
 filter-range p n a (suc len) le lt h = elim (cases_eq a n) [
@@ -110,7 +104,7 @@ named-part d s n k one holds' named =
     let least : 1 ≤ n = holder-least d n k one holds' in
     let low : n ≤ d.cluster.nodes = holder-most d n k one holds' in
     let most : d.cluster.nodes ≤ 16 = one.document.cluster.most in
-    filter-range (λ m. list_any (holds d.cluster.places m) (keys_of s.ops)) n 1 16 least (omega arith) (key-some (holds d.cluster.places n) k (keys_of s.ops) holds' (distinct-among k [] (keys_named s.ops) refl named))
+    filter-range (λ m. list_any (holds d.cluster.places m) (keys_of s.ops)) n 1 16 least (omega arith) (any-among (holds d.cluster.places n) k (keys_of s.ops) holds' (distinct-among k [] (keys_named s.ops) refl named))
 
 -- the same, for the parts of the transaction
 pub named-part-at : (d : DocumentData) (t : TxId) (s : ScriptData) (n : NodeId) (k : Key) → IsOne d → script_of t d.scripts ≡ Some s → IsTrue (holds d.cluster.places n k) → is_key_among k (keys_named s.ops) ≡ true → is_among n (parts_at d t) ≡ true

@@ -118,12 +118,7 @@ prepare-due d past n y q one due =
 
 fits-due : (d : DocumentData) (past : List Act) (n y : NodeId) (said : Message) → IsOne d → SendDue d past n y said → Fits d y said
 fits-due d past n y (message.Prepare q) one due = prepare-due d past n y q one due
-fits-due d past n y (message.ReadReq q) one due = tt
-fits-due d past n y (message.ReadRep q) one due = tt
-fits-due d past n y (message.Vote t b) one due = tt
-fits-due d past n y (message.Tell t o) one due = tt
-fits-due d past n y (message.Ack t) one due = tt
-fits-due d past n y (message.Ask t) one due = tt
+fits-due d past n y said one due = tt
 
 -- a Prepare that was sent to n is fit there, but for its identifier
 pub prepare-sent : (d : DocumentData) (past : List Act) → IsOne d → AllDue d past → (m : ℕ) (x n : NodeId) (q : Prepare) → sent_at m (sent past) ≡ Some (record { from = x; to = n; message = message.Prepare q }) → FitLists d.cluster n q

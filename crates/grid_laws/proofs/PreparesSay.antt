@@ -68,21 +68,11 @@ Prepares d past n y said = Unit {0}
 
 prepares-more : (d : DocumentData) (past : List Act) (a : Act) (n y : NodeId) (said : Message) → AllDue d (a ∷ past) → Prepares d past n y said → Prepares d (a ∷ past) n y said
 prepares-more d past a n y (message.Prepare q) due s = prepare-more d past a n y q due s
-prepares-more d past a n y (message.ReadReq q) due s = tt
-prepares-more d past a n y (message.ReadRep q) due s = tt
-prepares-more d past a n y (message.Vote t b) due s = tt
-prepares-more d past a n y (message.Tell t o) due s = tt
-prepares-more d past a n y (message.Ack t) due s = tt
-prepares-more d past a n y (message.Ask t) due s = tt
+prepares-more d past a n y said due s = tt
 
 prepares-due : (d : DocumentData) (past : List Act) (n y : NodeId) (said : Message) → AllDue d past → SendDue d past n y said → Prepares d past n y said
 prepares-due d past n y (message.Prepare q) all due = prepare-due d past n y q due
-prepares-due d past n y (message.ReadReq q) all due = tt
-prepares-due d past n y (message.ReadRep q) all due = tt
-prepares-due d past n y (message.Vote t b) all due = tt
-prepares-due d past n y (message.Tell t o) all due = tt
-prepares-due d past n y (message.Ack t) all due = tt
-prepares-due d past n y (message.Ask t) all due = tt
+prepares-due d past n y said all due = tt
 
 -- the Prepare that was got last
 pub prepare-got : (d : DocumentData) (past : List Act) (n x : NodeId) (q : Prepare) → AllDue d past → got past ≡ Some (record { from = x; to = n; message = message.Prepare q }) → PrepareSays d past x n q
@@ -144,10 +134,7 @@ PreparedSays d past n y = Unit {0}
 
 prepared-more : (d : DocumentData) (past : List Act) (a : Act) (n : NodeId) (y : Record) → AllDue d (a ∷ past) → PreparedSays d past n y → PreparedSays d (a ∷ past) n y
 prepared-more d past a n (record'.Prepared t home parts sid p reads writes) due s = record { prepare = s.prepare; says = prepare-more d past a home n s.prepare due s.says; t = s.t; sid = s.sid; is = s.is }
-prepared-more d past a n (record'.Ended t o) due s = tt
-prepared-more d past a n (record'.Ceiling c) due s = tt
-prepared-more d past a n (record'.Decided t f parts) due s = tt
-prepared-more d past a n (record'.Closed t) due s = tt
+prepared-more d past a n y due s = tt
 
 prepared-due : (d : DocumentData) (past : List Act) (n : NodeId) (h : Head) → AllDue d past → RecordDue d past n h → HoldsIn (PreparedSays d past n) (record_of d (got past) h)
 prepared-due d past n (head.Prepared t p) all due =
@@ -156,10 +143,7 @@ prepared-due d past n (head.Prepared t p) all due =
     let P : Option Record → Type 0 = λ o. HoldsIn (PreparedSays d past n) o in
     let Q : TxId → Type 0 = λ u. record'.Prepared t due.1.from q.parts q.sid p q.reads q.writes ≡ record'.Prepared u due.1.from q.parts q.sid p q.reads q.writes in
     subst P (sym (prepared-is d past n t p due.1)) (record { prepare = q; says = says; t = due.1.asked.is; sid = refl; is = subst Q due.1.asked.is refl })
-prepared-due d past n (head.Ended t o) all due = tt
-prepared-due d past n (head.Ceiling c) all due = tt
-prepared-due d past n (head.Decided t f) all due = tt
-prepared-due d past n (head.Closed t) all due = tt
+prepared-due d past n h all due = tt
 
 -- each Prepared that stands, or is in doubt
 pub prepared-say : (d : DocumentData) (past : List Act) → AllDue d past → (n : NodeId) → NodeHolds (PreparedSays d past n) (node d past n)

@@ -68,10 +68,7 @@ pub record IsFree (x : Node) (sid : Ident) : Type 0 where
 
 over-lower : (s c : Ident) (y : Record) → s ≤ c → is_over c y ≡ true → is_over s y ≡ true
 over-lower s c (record'.Prepared t home parts sid p reads writes) le h = grind (arith, nat_tests, le, h)
-over-lower s c (record'.Ended t o) le h = refl
-over-lower s c (record'.Ceiling d) le h = refl
-over-lower s c (record'.Decided t f parts) le h = refl
-over-lower s c (record'.Closed t) le h = refl
+over-lower s c y le h = refl
 
 doubt-lower : (s c : Ident) (o : Option Record) → s ≤ c → OverDoubt c o → OverDoubt s o
 doubt-lower s c None le h = tt
@@ -101,12 +98,7 @@ held-sid (Some e) t op sid y is = from e.from e.message is
   where
     from : (x : NodeId) (said : Message) → held_from x said t op sid ≡ Some y → y.sid ≡ sid
     from x (message.ReadReq q) is = let z : record { t = t; op = op; sid = sid; key = q.key; from = x } ≡ y = cc in ap (λ (h : HeldRead). h.sid) (sym z)
-    from x (message.ReadRep q) is = cc
-    from x (message.Prepare q) is = cc
-    from x (message.Vote u b) is = cc
-    from x (message.Tell u o) is = cc
-    from x (message.Ack u) is = cc
-    from x (message.Ask u) is = cc
+    from x said is = cc
 
 ever-new : (h : HeldRead) (o : Option HeldRead) (ever : List HeldRead) (sid : Ident) (x : Node) → ((y : HeldRead) → o ≡ Some y → y.sid ≡ sid) → IsCovered x sid → (IsIn h ever → IsCovered x h.sid) → IsIn h (with_held o ever) → IsCovered x h.sid
 ever-new h None ever sid x is cover go i = go i
@@ -133,11 +125,11 @@ ever-covered d (a ∷ past) due n h i = covered-changed (node d past n) (change 
 
 -- ---- a read that was served
 
-pub record IsKept (d : DocumentData) (past : List Act) (n : NodeId) (sid : Ident) : Type 0 where
+pub record IsSafeRead (d : DocumentData) (past : List Act) (n : NodeId) (sid : Ident) : Type 0 where
   pub covered : IsCovered (node d past n) sid
   pub free : IsFree (node d past n) sid
 
-kept-more : (d : DocumentData) (past : List Act) (a : Act) (n : NodeId) (sid : Ident) → AllDue d (a ∷ past) → IsKept d past n sid → IsKept d (a ∷ past) n sid
+kept-more : (d : DocumentData) (past : List Act) (a : Act) (n : NodeId) (sid : Ident) → AllDue d (a ∷ past) → IsSafeRead d past n sid → IsSafeRead d (a ∷ past) n sid
 kept-more d past a n sid due k =
     record {
       covered = covered-changed (node d past n) (change d (got past) a n) sid k.covered;
@@ -148,7 +140,7 @@ may-covered : (d : DocumentData) (past : List Act) (n : NodeId) (h : HeldRead) �
 may-covered d past n h due (at_once asked cover) = record { floor = cover.floor; next = λ e. cover.next }
 may-covered d past n h due (held i) = ever-covered d past due n h i
 
-kept-now : (d : DocumentData) (past : List Act) (n : NodeId) (h : HeldRead) (vn : Ident) (v : Value) → AllDue d past → ServeDue d past n h vn v → IsKept d past n h.sid
+kept-now : (d : DocumentData) (past : List Act) (n : NodeId) (h : HeldRead) (vn : Ident) (v : Value) → AllDue d past → ServeDue d past n h vn v → IsSafeRead d past n h.sid
 kept-now d past n h vn v all due =
     let P : Option Record → Type 0 = λ o. OverDoubt h.sid o in
     record {
@@ -156,7 +148,7 @@ kept-now d past n h vn v all due =
       free = record { clear = due.clear; doubt = subst P (sym ((nodes-fit d past all n).quiet due.up)) tt };
     }
 
-above-at : (d : DocumentData) (past : List Act) (m n : NodeId) (t : TxId) (p sid : Ident) (b : Bool) → (m == n) ≡ b → RecordDue d past m (head.Prepared t p) → IsKept d past n sid → (if b then nat_lt sid p else true) ≡ true
+above-at : (d : DocumentData) (past : List Act) (m n : NodeId) (t : TxId) (p sid : Ident) (b : Bool) → (m == n) ≡ b → RecordDue d past m (head.Prepared t p) → IsSafeRead d past n sid → (if b then nat_lt sid p else true) ≡ true
 above-at d past m n t p sid false here due k = refl
 above-at d past m n t p sid true here due k =
     let same : m ≡ n = grind (arith, nat_tests) in
@@ -169,16 +161,16 @@ above-at d past m n t p sid true here due k =
     over-max : (s a b : ℕ) → s ≤ a → nat_lt s (1 + max a b) ≡ true
     over-max s a b le = grind (arith, nat_tests, le)
 
-above-more : (d : DocumentData) (past : List Act) (a : Act) (n : NodeId) (sid : Ident) (later : List Act) → IsDue d past a → IsKept d past n sid → are_above n sid later ≡ true → are_above n sid (a ∷ later) ≡ true
+above-more : (d : DocumentData) (past : List Act) (a : Act) (n : NodeId) (sid : Ident) (later : List Act) → IsDue d past a → IsSafeRead d past n sid → are_above n sid later ≡ true → are_above n sid (a ∷ later) ≡ true
 above-more d past (act.Prepared m t p) n sid later due k h = rw (above-at d past m n t p sid (m == n) refl due k) h
 above-more d past (act.Down m (Some (head.Prepared t p))) n sid later due k h = rw (above-at d past m n t p sid (m == n) refl due k) h
 above-more d past a n sid later due k h = h
 
 record KeptLater (d : DocumentData) (past : List Act) (n : NodeId) (sid : Ident) (later : List Act) : Type 0 where
-  kept : IsKept d (later ++ past) n sid
+  kept : IsSafeRead d (later ++ past) n sid
   above : are_above n sid later ≡ true
 
-kept-later : (d : DocumentData) (past : List Act) (n : NodeId) (sid : Ident) (later : List Act) → AllDue d (later ++ past) → IsKept d past n sid → KeptLater d past n sid later
+kept-later : (d : DocumentData) (past : List Act) (n : NodeId) (sid : Ident) (later : List Act) → AllDue d (later ++ past) → IsSafeRead d past n sid → KeptLater d past n sid later
 kept-later d past n sid [] due k = record { kept = k; above = refl }
 kept-later d past n sid (a ∷ later) due k =
     let h : KeptLater d past n sid later = kept-later d past n sid later due.1 k in
@@ -187,9 +179,9 @@ kept-later d past n sid (a ∷ later) due k =
       above = above-more d (later ++ past) a n sid later due.0 h.kept h.above;
     }
 
-due-before : (d : DocumentData) (later past : List Act) → AllDue d (later ++ past) → AllDue d past
-due-before d [] past due = due
-due-before d (a ∷ later) past due = due-before d later past due.1
+pub due-behind : (d : DocumentData) (later past : List Act) → AllDue d (later ++ past) → AllDue d past
+due-behind d [] past due = due
+due-behind d (a ∷ later) past due = due-behind d later past due.1
 
 -- each read that was served is promised
 pub served-promised : (d : DocumentData) (past : List Act) → AllDue d past → ServedPromised d past
@@ -198,8 +190,8 @@ served-promised d past due n t j k sid vn v later before is =
     let Q : List Act → Type 0 = λ p. IsPromised d p n sid later in
     let a : Act = act.Served n t j k sid vn v in
     let all : AllDue d (later ++ a ∷ before) = subst P is due in
-    let here : AllDue d (a ∷ before) = due-before d later (a ∷ before) all in
-    let now : IsKept d (a ∷ before) n sid = kept-more d before a n sid here (kept-now d before n (record { t = t; op = j; sid = sid; key = k; from = here.0.0 }) vn v here.1 here.0.1) in
+    let here : AllDue d (a ∷ before) = due-behind d later (a ∷ before) all in
+    let now : IsSafeRead d (a ∷ before) n sid = kept-more d before a n sid here (kept-now d before n (record { t = t; op = j; sid = sid; key = k; from = here.0.0 }) vn v here.1 here.0.1) in
     let end : KeptLater d (a ∷ before) n sid later = kept-later d (a ∷ before) n sid later all now in
     let x : Node = node d (later ++ a ∷ before) n in
     subst Q (sym is) (record {

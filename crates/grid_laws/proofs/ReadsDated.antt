@@ -62,21 +62,11 @@ RequestsDated d past n y said = Unit {0}
 
 requests-more : (d : DocumentData) (past : List Act) (a : Act) (n y : NodeId) (said : Message) → AllDue d (a ∷ past) → RequestsDated d past n y said → RequestsDated d (a ∷ past) n y said
 requests-more d past a n y (message.ReadReq q) due h = λ c. dated-more d past a q.t q.op (dated q.date c) due (h c)
-requests-more d past a n y (message.ReadRep q) due h = tt
-requests-more d past a n y (message.Prepare q) due h = tt
-requests-more d past a n y (message.Vote t b) due h = tt
-requests-more d past a n y (message.Tell t o) due h = tt
-requests-more d past a n y (message.Ack t) due h = tt
-requests-more d past a n y (message.Ask t) due h = tt
+requests-more d past a n y said due h = tt
 
 requests-due : (d : DocumentData) (past : List Act) (n y : NodeId) (said : Message) → AllDue d past → SendDue d past n y said → RequestsDated d past n y said
 requests-due d past n y (message.ReadReq q) all due = request-due d past n y q all due
-requests-due d past n y (message.ReadRep q) all due = tt
-requests-due d past n y (message.Prepare q) all due = tt
-requests-due d past n y (message.Vote t b) all due = tt
-requests-due d past n y (message.Tell t o) all due = tt
-requests-due d past n y (message.Ack t) all due = tt
-requests-due d past n y (message.Ask t) all due = tt
+requests-due d past n y said all due = tt
 
 -- a read that was requested
 pub requested-dated : (d : DocumentData) (past : List Act) (n : NodeId) (h : HeldRead) → AllDue d past → Requested d past n h → IsDated d past h.t h.op h.sid
@@ -99,12 +89,7 @@ held-is (Some e) t op sid y is = from e.from e.message is
     from x (message.ReadReq q) is =
         let z : record { t = t; op = op; sid = sid; key = q.key; from = x } ≡ y = cc in
         (ap (λ (h : HeldRead). h.t) (sym z), ap (λ (h : HeldRead). h.op) (sym z), ap (λ (h : HeldRead). h.sid) (sym z))
-    from x (message.ReadRep q) is = cc
-    from x (message.Prepare q) is = cc
-    from x (message.Vote u b) is = cc
-    from x (message.Tell u o) is = cc
-    from x (message.Ack u) is = cc
-    from x (message.Ask u) is = cc
+    from x said is = cc
 
 held-new : (d : DocumentData) (past : List Act) (h : HeldRead) (o : Option HeldRead) (ever : List HeldRead) (t : TxId) (op : ℕ) (sid : Ident) → ((y : HeldRead) → o ≡ Some y → (y.t ≡ t) × (y.op ≡ op) × (y.sid ≡ sid)) → IsDated d past t op sid → (IsIn h ever → IsDated d past h.t h.op h.sid) → IsIn h (with_held o ever) → IsDated d past h.t h.op h.sid
 held-new d past h None ever t op sid is new go i = go i
@@ -152,21 +137,11 @@ RepliesDated d past n y said = Unit {0}
 
 replies-more : (d : DocumentData) (past : List Act) (a : Act) (n y : NodeId) (said : Message) → AllDue d (a ∷ past) → RepliesDated d past n y said → RepliesDated d (a ∷ past) n y said
 replies-more d past a n y (message.ReadRep q) due h = dated-more d past a q.t q.op q.sid due h
-replies-more d past a n y (message.ReadReq q) due h = tt
-replies-more d past a n y (message.Prepare q) due h = tt
-replies-more d past a n y (message.Vote t b) due h = tt
-replies-more d past a n y (message.Tell t o) due h = tt
-replies-more d past a n y (message.Ack t) due h = tt
-replies-more d past a n y (message.Ask t) due h = tt
+replies-more d past a n y said due h = tt
 
 replies-due : (d : DocumentData) (past : List Act) (n y : NodeId) (said : Message) → AllDue d past → SendDue d past n y said → RepliesDated d past n y said
 replies-due d past n y (message.ReadRep q) all due = reply-due d past n y q all due
-replies-due d past n y (message.ReadReq q) all due = tt
-replies-due d past n y (message.Prepare q) all due = tt
-replies-due d past n y (message.Vote t b) all due = tt
-replies-due d past n y (message.Tell t o) all due = tt
-replies-due d past n y (message.Ack t) all due = tt
-replies-due d past n y (message.Ask t) all due = tt
+replies-due d past n y said all due = tt
 
 -- each reply that was sent
 pub reply-dated : (d : DocumentData) (past : List Act) (m : ℕ) (x y : NodeId) (q : ReadRep) → AllDue d past → sent_at m (sent past) ≡ Some (record { from = x; to = y; message = message.ReadRep q }) → IsDated d past q.t q.op q.sid

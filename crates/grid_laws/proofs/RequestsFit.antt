@@ -43,12 +43,7 @@ RequestPlaced d y said = Unit {0}
 
 placed-due : (d : DocumentData) (past : List Act) (n y : NodeId) (said : Message) → IsOne d → SendDue d past n y said → RequestPlaced d y said
 placed-due d past n y (message.ReadReq q) one due = request-due d past n y q one due
-placed-due d past n y (message.ReadRep q) one due = tt
-placed-due d past n y (message.Prepare q) one due = tt
-placed-due d past n y (message.Vote t b) one due = tt
-placed-due d past n y (message.Tell t o) one due = tt
-placed-due d past n y (message.Ack t) one due = tt
-placed-due d past n y (message.Ask t) one due = tt
+placed-due d past n y said one due = tt
 
 -- each request that was sent
 pub request-placed : (d : DocumentData) (past : List Act) (m : ℕ) (x y : NodeId) (q : ReadReq) → IsOne d → AllDue d past → sent_at m (sent past) ≡ Some (record { from = x; to = y; message = message.ReadReq q }) → is_placed d y q ≡ true

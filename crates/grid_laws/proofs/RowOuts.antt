@@ -43,8 +43,8 @@ use Rattle.grid_model.specs.Stories.{has_voted, is_open, phase, with_value}
 use Rattle.grid_model.specs.Views.{Apart, Collects, Commits, Open, Participant, Reads, Stage, View, participant, stage, view}
 use Rattle.grid_model.specs.Advances.{advance, advance_end, owns, parts_now, prepares, request_of, to_node}
 use Rattle.grid_model.specs.Fitness.{is_fit_at, tx_in}
-use Rattle.grid_model.specs.Rows.{abort_row, ack_row, answer, answered, are_all_among, ask_outs, ask_row, ballot_row, begin_outs, begun_at, ceiling_of, ceilings, closed_row, commit_row, decides, freed_by, greatest_vote, have_voted, if_pending, judged, not_among, not_voted, prepare_row, raises, read_row, release, reply_row, retry_row, row_of, served, tell_outs, tells, version_for, vote_row}
-use Rattle.grid_model.specs.Schedules.{broken, head_at, kept, lost_at, numbered, start_act, stopped}
+use Rattle.grid_model.specs.Rows.{abort_row, ack_row, answer, answered, are_all_among, ask_row, ballot_row, begin_outs, begun_at, ceiling_of, ceilings, closed_row, commit_row, decides, freed_by, greatest_vote, have_voted, if_pending, judged, not_among, not_voted, prepare_row, raises, read_row, release, reply_row, retry_row, row_of, served, tell_outs, tells, version_for, vote_row}
+use Rattle.grid_model.specs.Schedules.{broken, head_at, head_of, kept, lost_at, numbered, start_act, stopped}
 use Rattle.grid_model.proofs.EventShapes.{IsAgain, asks, retries}
 use Rattle.grid_laws.proofs.Frames.{same-number}
 
@@ -68,7 +68,8 @@ pass-more f g go (out.Act a ∷ os) h =
     and_from (g a) (list_all (on_act g) os) (go a both.0) (pass-more f g go os both.1)
 
 pub pass-append : (f : Act → Bool) (xs ys : List Out) → Pass f xs → Pass f ys → Pass f (xs ++ ys)
-pass-append f xs ys h k = list_all-append (on_act f) xs ys ∙ and_from (list_all (on_act f) xs) (list_all (on_act f) ys) h k
+pass-append f xs ys h k =
+    list_all-append (on_act f) xs ys ∙ and_from (list_all (on_act f) xs) (list_all (on_act f) ys) h k
 
 pub pass-if : (f : Act → Bool) (b : Bool) (xs ys : List Out) → Pass f xs → Pass f ys → Pass f (if b then xs else ys)
 pass-if f true xs ys h k = h
@@ -90,14 +91,16 @@ pass-broken f n (o ∷ os) down h =
     pass-stopped f n (head_at o) o (broken n os) down both.0 (pass-broken f n os down both.1)
 
 -- the acts of outs pass where their messages do
-pub pass-numbered : (f : Act → Bool) (n : NodeId) → ((k : ℕ) (y : NodeId) (said : Message) → f (act.Sent k n y said) ≡ true)
+pub pass-numbered : (f : Act → Bool) (n : NodeId)
+    → ((k : ℕ) (y : NodeId) (said : Message) → f (act.Sent k n y said) ≡ true)
     → (m : ℕ) (os : List Out) → Pass f os → list_all f (numbered m n os) ≡ true
 pass-numbered f n sent m [] h = refl
 pass-numbered f n sent m (out.Act a ∷ os) h =
     let both = and_parts (f a) (list_all (on_act f) os) h in
     and_from (f a) (list_all f (numbered m n os)) both.0 (pass-numbered f n sent m os both.1)
 pass-numbered f n sent m (out.Send y said ∷ os) h =
-    and_from (f (act.Sent m n y said)) (list_all f (numbered (m + 1) n os)) (sent m y said) (pass-numbered f n sent (m + 1) os h)
+    and_from (f (act.Sent m n y said)) (list_all f (numbered (m + 1) n os)) (sent m y said)
+    (pass-numbered f n sent (m + 1) os h)
 
 -- with a stop in a record or without
 pub pass-acts : (f : Act → Bool) (n : NodeId) → ((k : ℕ) (y : NodeId) (said : Message) → f (act.Sent k n y said) ≡ true)
@@ -105,6 +108,22 @@ pub pass-acts : (f : Act → Bool) (n : NodeId) → ((k : ℕ) (y : NodeId) (sai
     → (m : ℕ) (b : Bool) (os : List Out) → Pass f os → list_all f (numbered m n (kept b n os)) ≡ true
 pass-acts f n sent down m true os h = pass-numbered f n sent m os h
 pass-acts f n sent down m false os h = pass-numbered f n sent m (broken n os) (pass-broken f n os down h)
+
+-- an act that stands for no record comes first, with a stop behind it or without
+pub kept-first : (m : ℕ) (n : NodeId) (b : Bool) (a : Act) (os : List Out) → head_of a ≡ None
+    → numbered m n (kept b n (out.Act a ∷ os)) ≡ a ∷ numbered m n (kept b n os)
+kept-first m n true a os none = refl
+kept-first m n false a os none = rw none refl
+
+-- no outs, and outs under a test
+pub kept-none : (m : ℕ) (n : NodeId) (b : Bool) → numbered m n (kept b n []) ≡ []
+kept-none m n true = refl
+kept-none m n false = refl
+
+pub if-outs : (P : List Act → Type 0) (m : ℕ) (n : NodeId) (b c : Bool) (os : List Out) → P []
+    → (c ≡ true → P (numbered m n (kept b n os))) → P (numbered m n (kept b n (if c then os else [])))
+if-outs P m n b true os none go = go refl
+if-outs P m n b false os none go = rw (kept-none m n b) none
 
 -- ---- messages alone
 
@@ -131,11 +150,13 @@ pass-retry f c t (Commits y acks) = pass-tells f t (outcome.Commit y.final) (not
 pass-retry f c t Apart = refl
 
 -- what a home sends again, or what a node asks, has no act
-pub pass-again : (f : Act → Bool) (d : DocumentData) (past : List Act) (n : NodeId) (os : List Out) → IsAgain d past n os → Pass f os
+pub pass-again : (f : Act → Bool) (d : DocumentData) (past : List Act) (n : NodeId) (os : List Out)
+    → IsAgain d past n os → Pass f os
 pass-again f d past n os (retries t is) = rw is (pass-retry f d.cluster t (stage (view d past n) t))
 pass-again f d past n os (asks t is) =
     let p : Participant = participant (view d past n) in
-    rw is (pass-if f (is_some (pending t p.journal)) (to_node (home_of t p.journal) (message.Ask t)) [] (pass-to_node f (home_of t p.journal) (message.Ask t)) refl)
+    rw is
+    (pass-if f (is_some (pending t p.journal)) (to_node (home_of t p.journal) (message.Ask t)) [] (pass-to_node f (home_of t p.journal) (message.Ask t)) refl)
 
 -- ---- Advance
 
@@ -150,14 +171,16 @@ pass-end f finished c x None =
 pass-owns : (f : Act → Bool) → ((t : TxId) (j : ℕ) (v : Value) → f (act.Own t j v) ≡ true)
     → (t : TxId) (ys : List (ℕ × Value)) → Pass f (map (λ y. out.Act (act.Own t y.0 y.1)) ys)
 pass-owns f own t [] = refl
-pass-owns f own t (y ∷ ys) = pass-act f (act.Own t y.0 y.1) (map (λ z. out.Act (act.Own t z.0 z.1)) ys) (own t y.0 y.1) (pass-owns f own t ys)
+pass-owns f own t (y ∷ ys) =
+    pass-act f (act.Own t y.0 y.1) (map (λ z. out.Act (act.Own t z.0 z.1)) ys) (own t y.0 y.1) (pass-owns f own t ys)
 
 pub pass-advance : (f : Act → Bool) → ((t : TxId) (j : ℕ) (v : Value) → f (act.Own t j v) ≡ true)
     → ((t : TxId) → f (act.Finished t) ≡ true) → (c : ClusterData) (x : Open) (i : ℕ) → Pass f (advance c x i)
 pass-advance f own finished c x i =
     let ys : List (ℕ × Value) = own_reads 1 [] unread x.progress.values x.script.ops in
     pass-append f (owns x.script.number i ys) (advance_end c x (waiting x.script.ops x.progress.values))
-    (pass-owns f own x.script.number (filter (λ y. nat_lt i y.0) ys)) (pass-end f finished c x (waiting x.script.ops x.progress.values))
+    (pass-owns f own x.script.number (filter (λ y. nat_lt i y.0) ys))
+    (pass-end f finished c x (waiting x.script.ops x.progress.values))
 
 -- ---- the row of a message
 
@@ -222,34 +245,39 @@ OfRow n said os = Pass (is_of_row n said) os
 own-act : (n : NodeId) → ((n == n) && true) ≡ true
 own-act n = and_from (n == n) true (same-number n) refl
 
-answered-row : (b : Bool) (n x : NodeId) (q : ReadReq) (sid : Ident) (w : Version) → OfRow n (message.ReadReq q) (answered b n x q sid w)
+answered-row : (b : Bool) (n x : NodeId) (q : ReadReq) (sid : Ident) (w : Version)
+    → OfRow n (message.ReadReq q) (answered b n x q sid w)
 answered-row true n x q sid w = own-act n
 answered-row false n x q sid w = own-act n
 
-read-row : (n : NodeId) (p : Participant) (x : NodeId) (q : ReadReq) (sid : Ident) → OfRow n (message.ReadReq q) (read_row n p x q sid)
+read-row : (n : NodeId) (p : Participant) (x : NodeId) (q : ReadReq) (sid : Ident)
+    → OfRow n (message.ReadReq q) (read_row n p x q sid)
 read-row n p x q sid =
     let f : Act → Bool = is_of_row n (message.ReadReq q) in
     let w : Version = version_for p.cluster p.journal q.key sid in
-    pass-append f (ceilings n (floor p.journal) sid) (raises n p.next sid ++ answered (is_clear sid p.journal) n x q sid w)
+    pass-append f (ceilings n (floor p.journal) sid)
+    (raises n p.next sid ++ answered (is_clear sid p.journal) n x q sid w)
     (pass-if f (nat_lt (floor p.journal) sid) (out.Act (act.Ceiling n (ceiling_of sid)) ∷ []) [] (own-act n) refl)
     (pass-append f (raises n p.next sid) (answered (is_clear sid p.journal) n x q sid w)
-    (pass-if f (nat_lt p.next sid) (out.Act (act.Raised n sid) ∷ []) [] (own-act n) refl) (answered-row (is_clear sid p.journal) n x q sid w))
+    (pass-if f (nat_lt p.next sid) (out.Act (act.Raised n sid) ∷ []) [] (own-act n) refl)
+    (answered-row (is_clear sid p.journal) n x q sid w))
 
 reply-row : (n : NodeId) (c : ClusterData) (q : ReadRep) (g : Stage) → OfRow n (message.ReadRep q) (reply_row c q g)
 reply-row n c q (Reads x j) =
     let f : Act → Bool = is_of_row n (message.ReadRep q) in
-    let y : Open = record x { progress = with_value q.op q.sid q.value x.progress } in
-    pass-if f (j == q.op) (out.Act (act.Taken q.t q.op q.sid q.value) ∷ advance c y q.op) [] (pass-advance f (λ t k v. refl) (λ t. refl) c y q.op) refl
-reply-row n c q (Collects x) = refl
-reply-row n c q (Commits y acks) = refl
-reply-row n c q Apart = refl
+    let y : Open = record x { turn = 0; sid = Some (first_sid x.progress.sid q.sid); values = x.progress.values ++ (q.op, q.value) ∷ [] } in
+    pass-if f (j == q.op) (out.Act (act.Taken q.t q.op q.sid q.value) ∷ advance c y q.op) []
+    (pass-advance f (λ t k v. refl) (λ t. refl) c y q.op) refl
+reply-row n c q w = refl
 
-judged-row : (n x : NodeId) (q : Prepare) (u : Option TxId) (y : Option (Key × Ident)) (p : Ident) → OfRow n (message.Prepare q) (judged n x q.t u y p)
+judged-row : (n x : NodeId) (q : Prepare) (u : Option TxId) (y : Option (Key × Ident)) (p : Ident)
+    → OfRow n (message.Prepare q) (judged n x q.t u y p)
 judged-row n x q (Some u) y p = own-act n
 judged-row n x q None (Some y) p = own-act n
 judged-row n x q None None p = own-act n
 
-prepare-row : (n x : NodeId) (q : Prepare) (o : Option Outcome) (mine : Option Ident) (u : Option TxId) (y : Option (Key × Ident)) (p : Ident)
+prepare-row : (n x : NodeId) (q : Prepare) (o : Option Outcome) (mine : Option Ident) (u : Option TxId)
+    (y : Option (Key × Ident)) (p : Ident)
     → OfRow n (message.Prepare q) (prepare_row n x q.t o mine u y p)
 prepare-row n x q (Some o) mine u y p = refl
 prepare-row n x q None (Some mine) u y p = refl
@@ -260,25 +288,24 @@ ballot-row : (n : NodeId) (t : TxId) (ns : List NodeId) (vs : List Voted) (x : N
 ballot-row n t ns vs x (ballot.Yes p) =
     let f : Act → Bool = is_of_row n (message.Vote t (ballot.Yes p)) in
     let votes : List Voted = vs ++ record { from = x; p = p } ∷ [] in
-    pass-if f (have_voted ns votes) (decides t (greatest_vote votes) ns) [] (pass-tells f t (outcome.Commit (greatest_vote votes)) ns) refl
-ballot-row n t ns vs x (ballot.No why) = pass-tells (is_of_row n (message.Vote t (ballot.No why))) t outcome.Abort (others x ns)
+    pass-if f (have_voted ns votes) (decides t (greatest_vote votes) ns) []
+    (pass-tells f t (outcome.Commit (greatest_vote votes)) ns) refl
+ballot-row n t ns vs x (ballot.No why) =
+    pass-tells (is_of_row n (message.Vote t (ballot.No why))) t outcome.Abort (others x ns)
 
-vote-row : (n : NodeId) (c : ClusterData) (t : TxId) (x : NodeId) (b : Ballot) (g : Stage) → OfRow n (message.Vote t b) (vote_row c t x b g)
+vote-row : (n : NodeId) (c : ClusterData) (t : TxId) (x : NodeId) (b : Ballot) (g : Stage)
+    → OfRow n (message.Vote t b) (vote_row c t x b g)
 vote-row n c t x b (Collects o) =
     pass-if (is_of_row n (message.Vote t b)) (has_voted x o.progress.votes) [] (ballot_row t (parts_now c o) o.progress.votes x b) refl
     (ballot-row n t (parts_now c o) o.progress.votes x b)
-vote-row n c t x b (Reads o j) = refl
-vote-row n c t x b (Commits y acks) = refl
-vote-row n c t x b Apart = refl
+vote-row n c t x b w = refl
 
 ack-row : (n : NodeId) (t : TxId) (x : NodeId) (g : Stage) → OfRow n (message.Ack t) (ack_row t x g)
 ack-row n t x (Commits y acks) =
     let f : Act → Bool = is_of_row n (message.Ack t) in
     pass-if f (is_among x acks) [] (closed_row t y.parts (acks ++ x ∷ [])) refl
     (pass-if f (are_all_among y.parts (acks ++ x ∷ [])) (out.Act (act.Closed t) ∷ []) [] refl refl)
-ack-row n t x (Collects o) = refl
-ack-row n t x (Reads o j) = refl
-ack-row n t x Apart = refl
+ack-row n t x w = refl
 
 ask-row : (n : NodeId) (t : TxId) (x : NodeId) (g : Stage) → OfRow n (message.Ask t) (ask_row t x g)
 ask-row n t x (Reads o j) = refl
@@ -307,19 +334,24 @@ commit-row n t f None false ack freed h k = refl
 
 abort-row : (n : NodeId) (t : TxId) (p : Option Ident) (freed : List Out) → OfRow n (message.Tell t outcome.Abort) freed
     → OfRow n (message.Tell t outcome.Abort) (abort_row n t p ++ if_pending p freed)
-abort-row n t (Some p) freed k = pass-act (is_of_row n (message.Tell t outcome.Abort)) (act.Ended n t outcome.Abort) freed (same-number n) k
+abort-row n t (Some p) freed k =
+    pass-act (is_of_row n (message.Tell t outcome.Abort)) (act.Ended n t outcome.Abort) freed (same-number n) k
 abort-row n t None freed k = refl
 
-tell-row : (n : NodeId) (p : Participant) (held : List HeldRead) (t : TxId) (o : Outcome) → OfRow n (message.Tell t o) (tell_outs n p held t o)
+tell-row : (n : NodeId) (p : Participant) (held : List HeldRead) (t : TxId) (o : Outcome)
+    → OfRow n (message.Tell t o) (tell_outs n p held t o)
 tell-row n p held t (outcome.Commit f) =
-    commit-row n t f (pending t p.journal) (is_commit (ended t p.journal)) (to_node (home_of t p.journal) (message.Ack t))
-    (freed_by n p held t (outcome.Commit f)) (pass-to_node (is_of_row n (message.Tell t (outcome.Commit f))) (home_of t p.journal) (message.Ack t))
+    commit-row n t f (pending t p.journal) (is_commit (ended t p.journal))
+    (to_node (home_of t p.journal) (message.Ack t))
+    (freed_by n p held t (outcome.Commit f))
+    (pass-to_node (is_of_row n (message.Tell t (outcome.Commit f))) (home_of t p.journal) (message.Ack t))
     (release-row n t (outcome.Commit f) p.cluster (record'.Ended t (outcome.Commit f) ∷ p.journal) held)
 tell-row n p held t outcome.Abort =
     abort-row n t (pending t p.journal) (freed_by n p held t outcome.Abort)
     (release-row n t outcome.Abort p.cluster (record'.Ended t outcome.Abort ∷ p.journal) held)
 
-each-row : (n : NodeId) (p : Participant) (held : List HeldRead) (g : Stage) (x : NodeId) (said : Message) → OfRow n said (row_of n p held g x said)
+each-row : (n : NodeId) (p : Participant) (held : List HeldRead) (g : Stage) (x : NodeId) (said : Message)
+    → OfRow n said (row_of n p held g x said)
 each-row n p held g x (message.ReadReq q) = read-row n p x q _
 each-row n p held g x (message.ReadRep q) = reply-row n p.cluster q g
 each-row n p held g x (message.Prepare q) = prepare-row n x q _ _ _ _ _
@@ -343,7 +375,8 @@ pub pass-begin : (f : Act → Bool) → ((t : TxId) (n : NodeId) (sid0 : Ident) 
     → (n : NodeId) (p : Participant) (s : ScriptData) → Pass f (begin_outs n p s)
 pass-begin f began own finished n p s =
     let sid0 : Ident = commit_id p.journal in
-    pass-act f (act.Began s.number n sid0) (advance p.cluster (begun_at s sid0) 0) (began s.number n sid0) (pass-advance f own finished p.cluster (begun_at s sid0) 0)
+    pass-act f (act.Began s.number n sid0) (advance p.cluster (begun_at s sid0) 0) (began s.number n sid0)
+    (pass-advance f own finished p.cluster (begun_at s sid0) 0)
 
 -- ---- acts that no row of a message has
 
@@ -358,7 +391,8 @@ pass-loss f d past n (Some s) h = go ((s.home == n) && is_open (phase d past s))
 
 -- the losses of a node that is opened
 pub pass-losses : (f : Act → Bool) (d : DocumentData) (past : List Act) (n : NodeId) (ts : List TxId)
-    → ((t : TxId) → f (act.Lost t) ≡ true) → list_all f (flat_map (λ t. lost_at d past n (script_of t d.scripts)) ts) ≡ true
+    → ((t : TxId) → f (act.Lost t) ≡ true) → list_all f
+    (flat_map (λ t. lost_at d past n (script_of t d.scripts)) ts) ≡ true
 pass-losses f d past n [] h = refl
 pass-losses f d past n (t ∷ ts) h =
     let rest : List Act = flat_map (λ u. lost_at d past n (script_of u d.scripts)) ts in
@@ -366,10 +400,13 @@ pass-losses f d past n (t ∷ ts) h =
     ∙ and_from (list_all f (lost_at d past n (script_of t d.scripts))) (list_all f rest) (pass-loss f d past n (script_of t d.scripts) h) (pass-losses f d past n ts h)
 
 -- the nodes at the start
-pub pass-starts : (f : Act → Bool) (opens : NodeId → Bool) (ns : List NodeId) → ((n : NodeId) → f (act.Up n flag.Untouched) ≡ true)
+pub pass-starts : (f : Act → Bool) (opens : NodeId → Bool) (ns : List NodeId)
+    → ((n : NodeId) → f (act.Up n flag.Untouched) ≡ true)
     → ((n : NodeId) → f (act.StillDown n) ≡ true) → list_all f (map (start_act opens) ns) ≡ true
 pass-starts f opens [] up down = refl
-pass-starts f opens (n ∷ ns) up down = and_from (f (start_act opens n)) (list_all f (map (start_act opens) ns)) (first (opens n)) (pass-starts f opens ns up down)
+pass-starts f opens (n ∷ ns) up down =
+    and_from (f (start_act opens n)) (list_all f (map (start_act opens) ns)) (first (opens n))
+    (pass-starts f opens ns up down)
   where
     first : (b : Bool) → f (if b then act.Up n flag.Untouched else act.StillDown n) ≡ true
     first true = up n

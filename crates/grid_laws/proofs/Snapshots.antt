@@ -1,24 +1,20 @@
 -- When does a transaction have a snapshot, and does it ever change?
-use Rattle.std.proofs.Common.{◌≡◌, ℕ, ◌⊎◌, inl, inr, Bool, true, false, List, [], ◌∷◌, ◌++◌, Option, Some, None, refl, sym, ap, subst, ◌∙◌, arith}
-use Rattle.std.proofs.lemmas.Bool.Decides.{nat_tests}
-use Rattle.std.specs.Prelude.{◌==◌, if◌then◌else◌}
+use Rattle.grid_laws.proofs.StoryClaims.{Stays, else-claim, untaking-claim}
+use Rattle.std.proofs.lemmas.Bool.{eqb-true}
+use Rattle.std.proofs.Common.{◌≡◌, ℕ, ◌⊎◌, inl, inr, Bool, true, false, List, [], ◌∷◌, ◌++◌, Option, Some, None, refl, sym, ap, subst, ◌∙◌}
+use Rattle.std.specs.Prelude.{◌==◌}
 use Rattle.score_base.specs.declared.ids.TxId.{TxId}
 use Rattle.score_base.specs.declared.ids.NodeId.{NodeId}
 use Rattle.score_base.specs.declared.ids.Ident.{Ident}
 use Rattle.score_base.specs.declared.ids.Value.{Value}
-use Rattle.score_base.specs.declared.causes.Ballot.TheVariants as ballot
 use Rattle.script_lang.specs.declared.scripts.Op.{Op}
 use Rattle.script_lang.specs.Scripts.{ScriptData}
 use Rattle.grid_model.specs.declared.acts.Act.{Act}
 use Rattle.grid_model.specs.declared.acts.Act.TheVariants as act
-use Rattle.grid_model.specs.declared.messages.Envelope.{Envelope}
-use Rattle.grid_model.specs.declared.messages.Message.{Message}
-use Rattle.grid_model.specs.declared.messages.Message.TheVariants as message
 use Rattle.grid_model.specs.declared.stories.Story.{Story}
 use Rattle.grid_model.specs.Documents.{DocumentData}
-use Rattle.grid_model.specs.Histories.{sent, sent_at}
-use Rattle.grid_model.specs.Nodes.{Node, node, script_of, parts_of, is_home}
-use Rattle.grid_model.specs.Stories.{Phase, story, asked, heard, heard_at, if_told, phase_at, first_sid, with_vote, with_ack, with_value, has_voted, begun, progressed}
+use Rattle.grid_model.specs.Nodes.{script_of}
+use Rattle.grid_model.specs.Stories.{story, if_told, first_sid, with_value, begun, progressed}
 use Rattle.script_runs.specs.Waits.{value_taken, waiting}
 use Rattle.script_runs.proofs.Walks.{taken-stays, taken-new, waiting-open}
 use Rattle.grid_laws.proofs.Causes.{AllDue, BeganDue, TakenDue}
@@ -30,44 +26,21 @@ abbrev pub OfStory : Type 0 → (Option Ident → List (ℕ × Value) → Type 0
 OfStory N Q None = N
 OfStory N Q (Some x) = Q x.progress.sid x.progress.values
 
-pub if-of : (N : Type 0) (Q : Option Ident → List (ℕ × Value) → Type 0) (b : Bool) (f : Story → Story) (o : Option Story) → ((y : Story) → Q y.progress.sid y.progress.values → Q (f y).progress.sid (f y).progress.values) → OfStory N Q o → OfStory N Q (if_told b f o)
-if-of N Q b f None go h = h
-if-of N Q true f (Some y) go h = go y h
-if-of N Q false f (Some y) go h = h
-
-else-of : (N : Type 0) (Q : Option Ident → List (ℕ × Value) → Type 0) (b : Bool) (o p : Option Story) → (b ≡ true → OfStory N Q o) → OfStory N Q p → OfStory N Q (if b then o else p)
-else-of N Q true o p h k = h refl
-else-of N Q false o p h k = k
-
-heard-of : (N : Type 0) (Q : Option Ident → List (ℕ × Value) → Type 0) (ns : List NodeId) (p : Phase) (h : Node) (t : TxId) (n : NodeId) (said : Message) (o : Option Story) → OfStory N Q o → OfStory N Q (heard ns p h t n said o)
-heard-of N Q ns p h t n (message.Vote u (ballot.Yes q)) o k = if-of N Q _ (progressed (with_vote n q)) o (λ y i. i) k
-heard-of N Q ns p h t n (message.Ack u) o k = if-of N Q _ (with_ack n) o (λ y i. i) k
-heard-of N Q ns p h t n said o k = k
-
-pub got-of : (N : Type 0) (Q : Option Ident → List (ℕ × Value) → Type 0) (d : DocumentData) (past : List Act) (w : Option ScriptData) (e : Option Envelope) (o : Option Story) → OfStory N Q o → OfStory N Q (heard_at d past w e o)
-got-of N Q d past None e o k = k
-got-of N Q d past (Some s) None o k = k
-got-of N Q d past (Some s) (Some e) o k = else-of N Q (e.to == s.home) _ o (λ i. heard-of N Q (parts_of d s) (phase_at s o (node d past s.home)) (node d past s.home) s.number e.from e.message o k) k
-
-pub asked-of : (N : Type 0) (Q : Option Ident → List (ℕ × Value) → Type 0) (d : DocumentData) (t : TxId) (said : Message) (o : Option Story) → OfStory N Q o → OfStory N Q (asked d t said o)
-asked-of N Q d t (message.ReadReq q) o k = if-of N Q (q.t == t) _ o (λ y i. i) k
-asked-of N Q d t said o k = k
-
-equal : (a b : ℕ) → (a == b) ≡ true → a ≡ b
-equal a b e = grind (arith, nat_tests, e)
+pub of-stays : (N : Type 0) (Q : Option Ident → List (ℕ × Value) → Type 0) → Stays (OfStory N Q)
+of-stays N Q = record { votes = λ vs x i. i; acks = λ ns x i. i; turn = λ k x i. i; finished = λ x i. i; aborted = λ x i. i; lost = λ x i. i }
 
 began-of : (N : Type 0) (Q : Option Ident → List (ℕ × Value) → Type 0) (d : DocumentData) (past : List Act) (u t : TxId) (n : NodeId) (sid0 : Ident) → BeganDue d past u n sid0 → (N → Q None []) → OfStory N Q (story d past t) → (u == t) ≡ true → Q None []
 began-of N Q d past u t n sid0 due began k e =
     let P : TxId → Type 0 = λ w. story d past w ≡ None in
     let R : Option Story → Type 0 = λ o. OfStory N Q o in
-    began (subst R (subst P (equal u t e) due.new) k)
+    began (subst R (subst P (eqb-true u t e) due.new) k)
 
 taken-of : (N : Type 0) (Q : Option Ident → List (ℕ × Value) → Type 0) (d : DocumentData) (past : List Act) (u t : TxId) (op : ℕ) (sid : Ident) (v : Value) (b : Bool) (o : Option Story) → (u == t) ≡ b → story d past t ≡ o → TakenDue d past u op sid v → ((w : TakenDue d past t op sid v) → Q w.story.progress.sid w.story.progress.values → Q (Some (first_sid w.story.progress.sid sid)) (w.story.progress.values ++ (op, v) ∷ [])) → OfStory N Q o → OfStory N Q (if_told b (progressed (with_value op sid v)) o)
 taken-of N Q d past u t op sid v b None e told due go k = k
 taken-of N Q d past u t op sid v false (Some x) e told due go k = k
 taken-of N Q d past u t op sid v true (Some x) e told due go k =
     let P : TxId → Type 0 = λ z. TakenDue d past z op sid v in
-    let w : TakenDue d past t op sid v = subst P (equal u t e) due in
+    let w : TakenDue d past t op sid v = subst P (eqb-true u t e) due in
     let R : Story → Type 0 = λ z. Q z.progress.sid z.progress.values → Q (Some (first_sid z.progress.sid sid)) (z.progress.values ++ (op, v) ∷ []) in
     subst R (same w.story x (sym w.at.story ∙ told)) (go w) k
   where
@@ -76,15 +49,9 @@ taken-of N Q d past u t op sid v true (Some x) e told due go k =
 
 -- the claim stays, where it holds of a story that begins and of one that takes a value
 pub of-more : (N : Type 0) (Q : Option Ident → List (ℕ × Value) → Type 0) (d : DocumentData) (past : List Act) (a : Act) (t : TxId) → (N → Q None []) → ((op : ℕ) (sid : Ident) (v : Value) (w : TakenDue d past t op sid v) → Q w.story.progress.sid w.story.progress.values → Q (Some (first_sid w.story.progress.sid sid)) (w.story.progress.values ++ (op, v) ∷ [])) → AllDue d (a ∷ past) → OfStory N Q (story d past t) → OfStory N Q (story d (a ∷ past) t)
-of-more N Q d past (act.Began u n sid0) t began taken due k = else-of N Q (u == t) (Some (begun sid0)) (story d past t) (λ e. began-of N Q d past u t n sid0 due.0 began k e) k
+of-more N Q d past (act.Began u n sid0) t began taken due k = else-claim (OfStory N Q) (u == t) (Some (begun sid0)) (story d past t) (λ e. began-of N Q d past u t n sid0 due.0 began k e) k
 of-more N Q d past (act.Taken u op sid v) t began taken due k = taken-of N Q d past u t op sid v (u == t) (story d past t) refl refl due.0 (taken op sid v) k
-of-more N Q d past (act.Sent m n y said) t began taken due k = asked-of N Q d t said (story d past t) k
-of-more N Q d past (act.Got m) t began taken due k = got-of N Q d past (script_of t d.scripts) (sent_at m (sent past)) (story d past t) k
-of-more N Q d past (act.Finished u) t began taken due k = if-of N Q (u == t) _ (story d past t) (λ y i. i) k
-of-more N Q d past (act.Aborted u n why) t began taken due k = if-of N Q (u == t) _ (story d past t) (λ y i. i) k
-of-more N Q d past (act.Lost u) t began taken due k = if-of N Q (u == t) _ (story d past t) (λ y i. i) k
-of-more N Q d past (act.Down n h) t began taken due k = if-of N Q (is_home d t n) _ (story d past t) (λ y i. i) k
-of-more N Q d past a t began taken due k = k
+of-more N Q d past a t began taken due k = untaking-claim (OfStory N Q) (of-stays N Q) d past a t refl k
 
 -- ---- the snapshot
 

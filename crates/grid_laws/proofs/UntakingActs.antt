@@ -1,4 +1,5 @@
 -- The acts that begin nothing and take no reply: those of each row but two.
+use Rattle.grid_laws.proofs.StoryClaims.{is_untaking}
 use Rattle.std.proofs.Common.{◌≡◌, ℕ, Bool, true, false, List, refl}
 use Rattle.std.specs.Prelude.{map}
 use Rattle.std.specs.List.{flat_map, list_all}
@@ -14,18 +15,20 @@ use Rattle.grid_model.specs.Views.{View}
 use Rattle.grid_model.specs.Rows.{answer}
 use Rattle.grid_model.specs.Schedules.{kept, lost_at, numbered, start_act}
 use Rattle.grid_model.proofs.EventShapes.{idle-pass, is_idle}
-use Rattle.grid_laws.proofs.Answered.{is_untaking}
 use Rattle.grid_laws.proofs.RowOuts.{Pass, is_of_row, is_reply, pass-acts, pass-answer, pass-losses, pass-starts}
 
-pub untaking-acts : (m : ℕ) (n : NodeId) (b : Bool) (os : List Out) → Pass is_untaking os → list_all is_untaking (numbered m n (kept b n os)) ≡ true
+pub untaking-acts : (m : ℕ) (n : NodeId) (b : Bool) (os : List Out) → Pass is_untaking os
+    → list_all is_untaking (numbered m n (kept b n os)) ≡ true
 untaking-acts m n b os h = pass-acts is_untaking n (λ k y said. refl) (λ x. refl) m b os h
 
-row-untaking : (n : NodeId) (said : Message) → is_reply said ≡ false → (a : Act) → is_of_row n said a ≡ true → is_untaking a ≡ true
+row-untaking : (n : NodeId) (said : Message) → is_reply said ≡ false → (a : Act) → is_of_row n said a ≡ true
+    → is_untaking a ≡ true
 row-untaking n said none (act.Began t m sid0) h = h
 row-untaking n said none (act.Taken t op sid v) h = cc
 row-untaking n said none a h = refl
 
-pub untaking-answer : (n : NodeId) (v : View) (x : NodeId) (said : Message) → is_reply said ≡ false → Pass is_untaking (answer n v x said)
+pub untaking-answer : (n : NodeId) (v : View) (x : NodeId) (said : Message) → is_reply said ≡ false
+    → Pass is_untaking (answer n v x said)
 untaking-answer n v x said none = pass-answer is_untaking n v x said (row-untaking n said none)
 
 -- acts that change nothing
@@ -38,5 +41,6 @@ pub untaking-losses : (d : DocumentData) (past : List Act) (n : NodeId) (ts : Li
 untaking-losses d past n ts = pass-losses is_untaking d past n ts (λ t. refl)
 
 -- the nodes at the start
-pub untaking-starts : (opens : NodeId → Bool) (ns : List NodeId) → list_all is_untaking (map (start_act opens) ns) ≡ true
+pub untaking-starts : (opens : NodeId → Bool) (ns : List NodeId)
+    → list_all is_untaking (map (start_act opens) ns) ≡ true
 untaking-starts opens ns = pass-starts is_untaking opens ns (λ n. refl) (λ n. refl)

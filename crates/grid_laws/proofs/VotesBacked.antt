@@ -2,7 +2,7 @@
 use Rattle.std.proofs.Common.{◌≡◌, ℕ, ◌≤◌, ◌<◌, Bool, true, false, List, [], ◌∷◌, ◌++◌, Option, Some, None, refl, subst, ◌∙◌, arith}
 use Rattle.std.proofs.lemmas.Bool.Decides.{nat_tests}
 use Rattle.std.specs.Prelude.{max, ◌==◌, ◌&&◌, ◌||◌, if◌then◌else◌, nat_le}
-use Rattle.std.proofs.lemmas.Bool.{and_parts}
+use Rattle.std.proofs.lemmas.Bool.{and_parts, eqb-true}
 use Rattle.score_base.specs.declared.ids.TxId.{TxId}
 use Rattle.score_base.specs.declared.ids.NodeId.{NodeId}
 use Rattle.score_base.specs.declared.ids.Ident.{Ident}
@@ -20,7 +20,7 @@ use Rattle.grid_model.specs.declared.stories.Voted.{Voted}
 use Rattle.grid_model.specs.Documents.{DocumentData}
 use Rattle.grid_model.specs.Histories.{sent, sent_at}
 use Rattle.grid_model.specs.Nodes.{Node, node, journal, script_of, parts_of, is_home}
-use Rattle.grid_model.specs.Stories.{Phase, Unbegun, Lost, Closed, Decided, Aborted, Answered, Reading, Collecting, story, asked, heard, heard_at, if_told, phase_at, with_vote, with_ack, has_voted, is_counted_vote, is_counted_ack, begun, progressed}
+use Rattle.grid_model.specs.Stories.{Phase, Collecting, story, asked, heard, heard_at, if_told, phase_at, with_vote, with_ack, has_voted, is_counted_vote, is_counted_ack, begun, progressed}
 use Rattle.journal_words.specs.Journals.{has_prepared, has_commit}
 use Rattle.grid_model.specs.Facts.{parts_at, Says}
 use Rattle.grid_model.specs.Rows.{greatest_vote, have_voted, are_all_among}
@@ -92,44 +92,27 @@ with-ack d past t n x false v h = (h.0, acks-last d past t x.acks n h.1 v)
 
 counted-part : (ns : List NodeId) (p : Phase) (r : List Record) (next : Ident) (x : NodeId) (q : Ident) → is_counted_vote ns p r next x q ≡ true → is_among x ns ≡ true
 counted-part ns Collecting r next x q h = grind (arith, h)
-counted-part ns Unbegun r next x q h = cc
-counted-part ns Lost r next x q h = cc
-counted-part ns (Closed f) r next x q h = cc
-counted-part ns (Decided y) r next x q h = cc
-counted-part ns Aborted r next x q h = cc
-counted-part ns Answered r next x q h = cc
-counted-part ns (Reading j) r next x q h = cc
+counted-part ns w r next x q h = cc
 
 backed-heard : (d : DocumentData) (past : List Act) (t : TxId) (s : ScriptData) (p : Phase) (h : Node) (x : NodeId) (said : Message) (o : Option Story) → script_of t d.scripts ≡ Some s → Says d past x said → StoryBacked d past t o → StoryBacked d past t (heard (parts_of d s) p h s.number x said o)
 backed-heard d past t s p h x (message.Vote u (ballot.Yes q)) o is says k =
     if-backed d past t ((u == s.number) && is_counted_vote (parts_of d s) p h.journal h.next x q) (progressed (with_vote x q)) o
     (λ e y i.
     let number : s.number ≡ t = script-number t d.scripts s is in
-    let here : u ≡ s.number = equal u s.number (and_parts (u == s.number) (is_counted_vote (parts_of d s) p h.journal h.next x q) e).0 in
+    let here : u ≡ s.number = eqb-true u s.number (and_parts (u == s.number) (is_counted_vote (parts_of d s) p h.journal h.next x q) e).0 in
     let part : is_among x (parts_of d s) ≡ true = counted-part (parts_of d s) p h.journal h.next x q (and_parts (u == s.number) (is_counted_vote (parts_of d s) p h.journal h.next x q) e).1 in
     let P : TxId → Type 0 = λ w. has_prepared w q (journal d past x) ≡ true in
     with-vote d past t x q y (has_voted x y.progress.votes) (subst P (here ∙ number) says, rw is part) i)
     k
-  where
-    equal : (a b : ℕ) → (a == b) ≡ true → a ≡ b
-    equal a b e = grind (arith, nat_tests, e)
 backed-heard d past t s p h x (message.Ack u) o is says k =
     if-backed d past t ((u == s.number) && is_counted_ack (parts_of d s) p h.journal h.next x) (with_ack x) o
     (λ e y i.
     let number : s.number ≡ t = script-number t d.scripts s is in
-    let here : u ≡ s.number = equal u s.number (and_parts (u == s.number) (is_counted_ack (parts_of d s) p h.journal h.next x) e).0 in
+    let here : u ≡ s.number = eqb-true u s.number (and_parts (u == s.number) (is_counted_ack (parts_of d s) p h.journal h.next x) e).0 in
     let P : TxId → Type 0 = λ w. has_commit w (journal d past x) ≡ true in
     with-ack d past t x y (is_among x y.acks) (subst P (here ∙ number) says) i)
     k
-  where
-    equal : (a b : ℕ) → (a == b) ≡ true → a ≡ b
-    equal a b e = grind (arith, nat_tests, e)
-backed-heard d past t s p h x (message.Vote u (ballot.No why)) o is says k = k
-backed-heard d past t s p h x (message.ReadReq q) o is says k = k
-backed-heard d past t s p h x (message.ReadRep q) o is says k = k
-backed-heard d past t s p h x (message.Prepare q) o is says k = k
-backed-heard d past t s p h x (message.Tell u w) o is says k = k
-backed-heard d past t s p h x (message.Ask u) o is says k = k
+backed-heard d past t s p h x said o is says k = k
 
 backed-got : (d : DocumentData) (now past : List Act) (t : TxId) (w : Option ScriptData) (m : Option Envelope) (o : Option Story) → script_of t d.scripts ≡ w → ((e : Envelope) → m ≡ Some e → Says d now e.from e.message) → StoryBacked d now t o → StoryBacked d now t (heard_at d past w m o)
 backed-got d now past t None m o is says k = k
@@ -138,12 +121,7 @@ backed-got d now past t (Some s) (Some e) o is says k = either-backed d now t (e
 
 backed-asked : (d : DocumentData) (past : List Act) (t : TxId) (said : Message) (o : Option Story) → StoryBacked d past t o → StoryBacked d past t (asked d t said o)
 backed-asked d past t (message.ReadReq q) o k = if-backed d past t (q.t == t) _ o (λ e x i. i) k
-backed-asked d past t (message.ReadRep q) o k = k
-backed-asked d past t (message.Prepare q) o k = k
-backed-asked d past t (message.Vote u b) o k = k
-backed-asked d past t (message.Tell u w) o k = k
-backed-asked d past t (message.Ack u) o k = k
-backed-asked d past t (message.Ask u) o k = k
+backed-asked d past t said o k = k
 
 backed-told : (d : DocumentData) (past : List Act) (a : Act) (t : TxId) → AllDue d past → StoryBacked d (a ∷ past) t (story d past t) → StoryBacked d (a ∷ past) t (story d (a ∷ past) t)
 backed-told d past (act.Began u n sid0) t all k = either-backed d (act.Began u n sid0 ∷ past) t (u == t) (Some (begun sid0)) (story d past t) (λ e. (tt, tt)) k
