@@ -38,7 +38,7 @@ heard-unvoted d s ns p h x (message.Vote u (ballot.Yes q)) o none k =
     stays None h = h
     stays (Some y) h = h
 heard-unvoted d s ns p h x (message.Vote u (ballot.No why)) o none k = k
-heard-unvoted d s ns p h x (message.Ack u) o none k = if-unvoted d s ((u == s.number) && is_counted_ack ns p h.journal h.next x) (with_ack x) o (λ e y i j. acked-unvoted d s x y (is_among x y.acks) j) k
+heard-unvoted d s ns p h x (message.Ack u) o none k = if-unvoted d s ((u == s.number) && is_counted_ack ns p h.journal h.next x) (with_ack x) o (λ e y i j. j) k
 heard-unvoted d s ns p h x said o none k = k
 
 got-unvoted : (d : DocumentData) (past : List Act) (m : ℕ) (e : Envelope) (s : ScriptData) → script_of s.number d.scripts ≡ Some s → sent_at m (sent past) ≡ Some e → is_vote_of s.number e.message ≡ false → is_unvoted d s (story d past s.number) ≡ true → is_unvoted d s (story d (act.Got m ∷ past) s.number) ≡ true

@@ -52,7 +52,7 @@ told-taken d past m n b q x w o all =
     let S : Open → Type 0 = λ z. AllTold d (after now (numbered m n (kept b n (advance d.cluster (with_reply q z) q.op)))) in
     let T : List Act → Type 0 = λ acts. AllTold d (after past acts) in
     subst T (sym (kept-first m n b (act.Taken q.t q.op q.sid q.value) (advance d.cluster (with_reply q x) q.op) refl))
-    (subst S (sym o.is) (told-advance d now m n b o.script (progressed (with_value q.op q.sid q.value o.story)) q.op (subst P (sym number) o.at.script) (subst Q (sym number) at) (subst R (sym number) (others-taken d past q all))))
+    (subst S (sym o.is) (told-advance d now m n b o.script (progressed (with_value q.op q.sid q.value) o.story) q.op (subst P (sym number) o.at.script) (subst Q (sym number) at) (subst R (sym number) (others-taken d past q all))))
 
 reply-outs : (P : List Act → Type 0) (c : ClusterData) (m : ℕ) (n : NodeId) (b : Bool) (q : ReadRep) (g : Stage) → P []
     → ((x : Open) → g ≡ Reads x q.op → P (numbered m n (kept b n (out.Act (act.Taken q.t q.op q.sid q.value) ∷ advance c (with_reply q x) q.op))))

@@ -265,7 +265,7 @@ read-row n p x q sid =
 reply-row : (n : NodeId) (c : ClusterData) (q : ReadRep) (g : Stage) → OfRow n (message.ReadRep q) (reply_row c q g)
 reply-row n c q (Reads x j) =
     let f : Act → Bool = is_of_row n (message.ReadRep q) in
-    let y : Open = record x { turn = 0; sid = Some (first_sid x.progress.sid q.sid); values = x.progress.values ++ (q.op, q.value) ∷ [] } in
+    let y : Open = record x { progress = with_value q.op q.sid q.value x.progress } in
     pass-if f (j == q.op) (out.Act (act.Taken q.t q.op q.sid q.value) ∷ advance c y q.op) []
     (pass-advance f (λ t k v. refl) (λ t. refl) c y q.op) refl
 reply-row n c q w = refl

@@ -15,7 +15,7 @@ use grid_model::{Act, Message, Out, Prepare, ReadReq};
 use placement::Cluster;
 use score_base::{Date, Ident, Key, KeyList, Memory, NodeId, TxId, Value, WriteList, push};
 use script_lang::{Op, Reads, Script, is_update, key_of, read_keys, write_keys};
-use script_runs::walk;
+use script_runs::{op_at, walk};
 use std::alloc::Global;
 
 /// How a read is dated: the first by the identifier of the begin, a later one by the snapshot.
@@ -106,9 +106,7 @@ pub fn push_request(
 ) -> Result<(), Memory>
     ensures { OnOk result (outs.new.items ≡ outs.old.items ++ request cluster.now tx.now j place) }
 {
-    let script = tx.script;
-    let op = script.ops().get(j.saturating_sub(1) as usize);
-    push_request_of(alloc, outs, cluster, tx, j, place, op)
+    push_request_of(alloc, outs, cluster, tx, j, place, op_at(tx.script.ops(), j))
 }
 
 /// Those of the keys that the node holds.

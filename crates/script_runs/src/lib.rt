@@ -9,4 +9,4 @@ mod trails;
 mod waits;
 
 pub use trails::{Trail, walk};
-pub use waits::{first_waiting, value_taken};
+pub use waits::{first_waiting, op_at, value_taken};

@@ -2,9 +2,21 @@
 ghost use Rattle.std.specs.Prelude.{◌≡◌, ◌≤◌, is_some, length, IfSome};
 ghost use Rattle.script_runs.specs.Waits.{value_taken, waiting};
 ghost use Rattle.script_runs.specs.Waits.{is_waiting};
+ghost use Rattle.script_runs.specs.Walks.{op_at};
+ghost use Rattle.std.specs.Option.{option_copied};
 
 use score_base::Value;
 use script_lang::{Op, is_named};
+
+/// Operation `j` of these, numbered from 1.
+pub fn op_at(ops: &[Op], j: u8) -> Option<&Op>
+    ensures { option_copied result ≡ op_at ops.now j }
+{
+    match j.checked_sub(1) {
+        None => None,
+        Some(i) => ops.get(i as usize),
+    }
+}
 
 /// The value that was taken for an operation.
 pub fn value_taken(values: &[(u8, Value)], op: u8) -> Option<Value>
