@@ -1,8 +1,8 @@
 -- Each line of a spelling is read as what it spells.
-use Rattle.std.proofs.Common.{codes, ◌≡◌, ℕ, ◌+◌, ◌<◌, ◌≤◌, ◌^◌, true, false, ◌==◌, List, [], ◌∷◌, ◌++◌, length, nat_le, Bool, cond, Some, None, Result, Ok, refl, sym, ap, ◌∙◌, map, append_assoc, arith}
+use Rattle.std.proofs.Common.{codes, ◌≡◌, ℕ, ◌+◌, ◌<◌, ◌≤◌, ◌^◌, true, false, ◌==◌, List, [], ◌∷◌, ◌++◌, length, nat_le, Some, None, Ok, refl, sym, ap, ◌∙◌, map, append_assoc, arith}
 use Rattle.std.specs.Cmp.Lexicographic.{slice_cmp}
 use Rattle.std.specs.Ordering.{nat_cmp}
-use Rattle.std.specs.BTreeSet.{BTreeSet, insert_key}
+use Rattle.std.specs.BTreeSet.{insert_key}
 use Rattle.std.specs.Fmt.{decimal}
 use Rattle.std.specs.List.{list_any, list_all}
 use Rattle.std.proofs.lemmas.Bool.{eq-eqb, ne_eqb, and_parts}
@@ -14,20 +14,17 @@ use Rattle.score_base.specs.declared.ids.NodeId.{NodeId}
 use Rattle.score_base.specs.declared.ids.TxId.{TxId}
 use Rattle.score_base.specs.declared.ids.Value.{Value}
 use Rattle.score_base.specs.Keys.{is_key}
-use Rattle.score_base.proofs.Spelling.{number-decimal}
 use Rattle.script_lang.specs.Scripts.{ScriptData}
 use Rattle.script_lang.specs.declared.exprs.Expr.{Expr}
 use Rattle.script_lang.specs.declared.scripts.Op.TheVariants as op
 use Rattle.script_lang.specs.Exprs.{is_expr_among}
 use Rattle.script_lang.specs.Reads.{known_keys}
-use Rattle.script_lang.specs.ExprWords.{expr_of}
 use Rattle.script_lang.specs.Spelling.{expr_words, is_plain_expr}
-use Rattle.script_lang.proofs.StepsRead.{expr_again}
 use Rattle.placement.specs.Places.{are_distinct}
 use Rattle.grid_model.specs.declared.items.Item.TheVariants as item
 use Rattle.cluster_file.specs.declared.drafts.Draft.{Draft}
 use Rattle.cluster_file.specs.declared.drafts.Part.TheVariants as part
-use Rattle.script_lang.specs.Reading.{◌>>=◌, number_at, in_range, steps}
+use Rattle.script_lang.specs.Reading.{number_at, in_range, steps}
 use Rattle.cluster_file.specs.Lines.{name_new_key, known_number, nodes_line, new_node, node_step, is_next, partition_line, init_line, tx_line, script_line, with_item, begin_line, deliver_line, drop_line, more_events, next_line}
 use Rattle.script_lang.specs.Words.{node_of, key_of, tx_of}
 use Rattle.cluster_file.specs.Doc.{blank}
@@ -39,8 +36,7 @@ use Rattle.script_lang.specs.declared.script_lines.Stage.TheVariants as stage
 use Rattle.script_lang.proofs.WordsAgain.{goes, passes, number_again, within_again, small, node_of_again, key_again, tx_again}
 use Rattle.script_lang.proofs.NamesRead.{name_again}
 use Rattle.script_lang.proofs.BodyAgain.{first_line_again, read_again, write_again, end_again}
-use Rattle.script_lang.specs.declared.whys.Why.{Why}
-use Rattle.script_lang.specs.declared.limits.TheConstants.{MAX_NODES, MAX_OPS, MAX_TX}
+use Rattle.script_lang.specs.declared.limits.TheConstants.{MAX_NODES, MAX_OPS}
 use Rattle.cluster_file.specs.declared.limits.TheConstants.{MAX_COUNT, MAX_EVENTS, MAX_KEYS, MAX_PARTITIONS, MAX_SCRIPTS}
 
 -- The words.

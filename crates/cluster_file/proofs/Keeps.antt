@@ -17,9 +17,10 @@ use Rattle.cluster_file.specs.Doc.{close, is_whole, pieces_from, at_line, blank,
 use Rattle.std.proofs.lemmas.Bool.{and_parts}
 use Rattle.cluster_file.proofs.Members.{among_numbers}
 use Rattle.script_lang.proofs.Readings.{behind, then, either, at_ok}
+use Rattle.script_lang.proofs.WordsRead.{in_range_read}
 use Rattle.cluster_file.proofs.Steps.{numbered, below}
 use Rattle.cluster_file.proofs.SoFar.{IsNamed, IsPlan, IsStage, IsBegun, all_scripts, planned}
-use Rattle.cluster_file.proofs.PartsKeep.{in_range_keeps, plan_item, no_script}
+use Rattle.cluster_file.proofs.PartsKeep.{plan_item, no_script}
 use Rattle.cluster_file.proofs.LinesKeep.{nodes_keeps, partition_keeps, script_keeps, later_keeps, init_or_later_keeps}
 use Rattle.cluster_file.specs.declared.limits.TheConstants.{MAX_COUNT, MAX_EVENTS}
 
@@ -34,30 +35,24 @@ item_keeps d i h ok room = record {
 one_more : (events : ℕ) → nat_le MAX_EVENTS events ≡ false → events + 1 ≤ MAX_EVENTS
 one_more events room = grind (arith, nat_tests, room)
 
-is_count : (c : ℕ) → 1 ≤ c → c ≤ MAX_EVENTS → (nat_le 1 c && nat_le c MAX_EVENTS) ≡ true
-is_count c low high =
-    let least : nat_le 1 c ≡ true = grind (arith, nat_tests, low) in
-    let most : nat_le c MAX_EVENTS ≡ true = grind (arith, nat_tests, high) in
-    rw (least, most) refl
-
 begin_keeps : (d : Draft) (ws : List (List ℕ)) → IsBegun (planned d) → IfOk (begin_line (planned d) ws) IsBegun
 unfolding begin_line
 begin_keeps d ws h = either (nat_le MAX_EVENTS d.events) _ _ _ (λ e. tt) (λ room. then (word_at ws) _ _ (λ w. then (tx_of w.0) _ _ (λ t. behind (known_number d.numbers t) _ (λ _. is_taken d.numbers t ≡ true) _ (either (is_taken d.numbers t) _ _ _ (λ e. e) (λ e. tt)) (λ z known. then (end_at w.1) _ _ (λ _. item_keeps d (item.Begin t) h (sym (among_numbers t (script_numbers (d.scripts ++ []))) ∙ ap (list_any (λ u. u == t)) (sym h.named.taken) ∙ known) (one_more d.events room))))))
 
 deliver_keeps : (d : Draft) (ws : List (List ℕ)) → IsBegun (planned d) → IfOk (deliver_line (planned d) ws) IsBegun
 unfolding deliver_line
-deliver_keeps d ws h = either (nat_le MAX_EVENTS d.events) _ _ _ (λ e. tt) (λ room. then (number_at ws) _ _ (λ n. behind (in_range 1 MAX_COUNT n.0) _ _ _ (in_range_keeps 1 MAX_COUNT n.0) (λ m low. then (end_at n.1) _ _ (λ _. item_keeps d (item.Deliver m) h (grind (arith, nat_tests, low.0)) (one_more d.events room)))))
+deliver_keeps d ws h = either (nat_le MAX_EVENTS d.events) _ _ _ (λ e. tt) (λ room. then (number_at ws) _ _ (λ n. behind (in_range 1 MAX_COUNT n.0) _ _ _ (in_range_read 1 MAX_COUNT n.0) (λ m low. then (end_at n.1) _ _ (λ _. item_keeps d (item.Deliver m) h low.1 (one_more d.events room)))))
 
 drop_keeps : (d : Draft) (ws : List (List ℕ)) → IsBegun (planned d) → IfOk (drop_line (planned d) ws) IsBegun
 unfolding drop_line
-drop_keeps d ws h = either (nat_le MAX_EVENTS d.events) _ _ _ (λ e. tt) (λ room. then (number_at ws) _ _ (λ n. behind (in_range 1 MAX_COUNT n.0) _ _ _ (in_range_keeps 1 MAX_COUNT n.0) (λ m low. then (end_at n.1) _ _ (λ _. item_keeps d (item.Drop m) h (grind (arith, nat_tests, low.0)) (one_more d.events room)))))
+drop_keeps d ws h = either (nat_le MAX_EVENTS d.events) _ _ _ (λ e. tt) (λ room. then (number_at ws) _ _ (λ n. behind (in_range 1 MAX_COUNT n.0) _ _ _ (in_range_read 1 MAX_COUNT n.0) (λ m low. then (end_at n.1) _ _ (λ _. item_keeps d (item.Drop m) h low.1 (one_more d.events room)))))
 
 more_events_keeps : (events c : ℕ) → IfOk (more_events events c) (λ _. events + c ≤ MAX_EVENTS)
 more_events_keeps events c = either (nat_le (events + c) MAX_EVENTS) _ _ _ (λ e. grind (arith, nat_tests, e)) (λ e. tt)
 
 next_keeps : (d : Draft) (ws : List (List ℕ)) → IsBegun (planned d) → IfOk (next_line (planned d) ws) IsBegun
 unfolding next_line
-next_keeps d ws h = then (number_at ws) _ _ (λ n. behind (in_range 1 MAX_EVENTS n.0) _ _ _ (in_range_keeps 1 MAX_EVENTS n.0) (λ c low. behind (more_events d.events c) _ _ _ (more_events_keeps d.events c) (λ z room. then (end_at n.1) _ _ (λ _. item_keeps d (item.Next c) h (is_count c low.0 low.1) room))))
+next_keeps d ws h = then (number_at ws) _ _ (λ n. behind (in_range 1 MAX_EVENTS n.0) _ _ _ (in_range_read 1 MAX_EVENTS n.0) (λ c low. behind (more_events d.events c) _ _ _ (more_events_keeps d.events c) (λ z room. then (end_at n.1) _ _ (λ _. item_keeps d (item.Next c) h (rw (low.1, low.2) refl) room))))
 
 item_line_keeps : (d : Draft) (w : List ℕ) (ws : List (List ℕ)) → IsBegun (planned d) → IfOk (item_line (planned d) w ws) IsBegun
 item_line_keeps d w ws h = either (is_word w (codes "begin")) _ _ _ (λ e. begin_keeps d ws h) (λ e. either (is_word w (codes "deliver")) _ _ _ (λ e. deliver_keeps d ws h) (λ e. either (is_word w (codes "drop")) _ _ _ (λ e. drop_keeps d ws h) (λ e. either (is_word w (codes "next")) _ _ _ (λ e. next_keeps d ws h) (λ e. either (is_later_item w) _ _ _ (λ e. tt) (λ e. tt)))))

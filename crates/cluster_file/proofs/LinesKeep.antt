@@ -1,20 +1,19 @@
 -- A line of the cluster or of a script leaves what was read well formed.
-use Rattle.std.proofs.Common.{◌≡◌, ℕ, ◌+◌, ◌<◌, ◌≤◌, true, false, ◌==◌, List, [], ◌∷◌, ◌++◌, length, length-append, nat_le, None, IfOk, refl, sym, ◌∙◌, subst, arith, codes}
+use Rattle.std.proofs.Common.{◌≡◌, ℕ, ◌+◌, ◌<◌, ◌≤◌, true, List, [], ◌∷◌, ◌++◌, length, length-append, nat_le, None, IfOk, refl, sym, ap, ◌∙◌, subst, arith, codes}
 use Rattle.std.specs.List.{list_all}
+use Rattle.std.proofs.lemmas.Bool.{and_parts}
 use Rattle.std.proofs.lemmas.Bool.Decides.{nat_tests}
 use Rattle.std.proofs.lemmas.List.{append-nil}
 use Rattle.script_lang.specs.Scripts.{ScriptData}
-use Rattle.script_lang.specs.declared.scripts.Op.TheVariants as op
-use Rattle.script_lang.specs.Reads as reads
-use Rattle.script_lang.specs.ExprWords.{expr_of}
 use Rattle.placement.specs.Places.{is_partition}
 use Rattle.grid_model.specs.Documents.{script_numbers}
 use Rattle.cluster_file.specs.declared.drafts.Draft.{Draft}
 use Rattle.script_lang.specs.Reading.{is_word, word_at, end_at, number_at, in_range, steps}
 use Rattle.cluster_file.specs.Lines.{name_new_key, nodes_line, node_step, is_next, partition_line, init_line, tx_line, with_stage, schedule_line, script_line, later_line, init_or_later}
-use Rattle.script_lang.specs.Words.{node_of, key_of, tx_of}
+use Rattle.script_lang.specs.Words.{key_of}
 use Rattle.cluster_file.specs.Doc.{blank}
 use Rattle.script_lang.proofs.Readings.{behind, then, either}
+use Rattle.script_lang.proofs.WordsRead.{in_range_read}
 use Rattle.cluster_file.proofs.Named.{all_last}
 use Rattle.cluster_file.proofs.SoFar.{IsNamed, IsPlan, IsBegun, all_scripts, inside, outside}
 use Rattle.script_lang.specs.ScriptLines.{first_line, body_line}
@@ -23,16 +22,16 @@ use Rattle.script_lang.specs.declared.script_lines.Stage.TheVariants as stage
 use Rattle.script_lang.proofs.BodyRead.{Follows, first_line_read, body_read}
 use Rattle.std.specs.BTreeSet.{BTreeSet}
 use Rattle.score_base.specs.declared.keys.Key.{Key}
-use Rattle.cluster_file.proofs.PartsKeep.{in_range_keeps, node_of_keeps, steps_keep, is_next_keeps, name_new_key_keeps, named_init, named_tx, named_op, plan_none, no_script}
-use Rattle.script_lang.specs.declared.limits.TheConstants.{MAX_NODES, MAX_OPS}
-use Rattle.cluster_file.specs.declared.limits.TheConstants.{MAX_PARTITIONS, MAX_SCRIPTS}
+use Rattle.cluster_file.proofs.PartsKeep.{steps_keep, is_next_keeps, name_new_key_keeps, named_init, named_tx, named_op, plan_none, no_script}
+use Rattle.script_lang.specs.declared.limits.TheConstants.{MAX_NODES}
+use Rattle.cluster_file.specs.declared.limits.TheConstants.{MAX_KEYS, MAX_PARTITIONS, MAX_SCRIPTS}
 
 -- The lines.
 
 pub nodes_keeps : (ws : List (List ℕ)) → IfOk (nodes_line blank ws) IsBegun
 unfolding nodes_line
-nodes_keeps ws = then (number_at ws) _ _ (λ n. behind (in_range 1 MAX_NODES n.0) _ _ _ (in_range_keeps 1 MAX_NODES n.0) (λ m h. then (end_at n.1) _ _ (λ _. record {
-  head = record { least = h.0; most = h.1; few = omega arith; each = refl; within = refl };
+nodes_keeps ws = then (number_at ws) _ _ (λ n. behind (in_range 1 MAX_NODES n.0) _ _ _ (in_range_read 1 MAX_NODES n.0) (λ m h. then (end_at n.1) _ _ (λ _. record {
+  head = record { least = grind (arith, nat_tests, h.1); most = grind (arith, nat_tests, h.2); few = omega arith; each = refl; within = refl };
   named = record { fresh = refl; few = omega arith; distinct = refl; homes = refl; ordered = refl; few_keys = omega arith; taken = refl };
   plan = record { each = refl; counted = refl; few = omega arith };
   stage = (refl, refl, refl, refl);

@@ -9,8 +9,7 @@ use Rattle.grid_model.specs.declared.items.Item.{Item}
 use Rattle.cluster_file.specs.declared.drafts.Draft.{Draft}
 use Rattle.cluster_file.specs.declared.drafts.Part.{Part}
 use Rattle.cluster_file.specs.declared.drafts.Part.TheVariants as part
-use Rattle.std.specs.Fmt.{decimal}
-use Rattle.cluster_file.specs.Spelling.{is_node, is_tx, is_init_in_range, is_script_in_range, is_item_in_range, is_built_item, node_word, nodes_words, partition_words, init_words, item_words, partition_lines}
+use Rattle.cluster_file.specs.Spelling.{is_node, is_tx, is_init_in_range, is_script_in_range, is_item_in_range, is_built_item, nodes_words, partition_words, init_words, item_words, partition_lines}
 use Rattle.script_lang.specs.declared.limits.TheConstants.{MAX_NODES}
 
 -- The lines of what was read.

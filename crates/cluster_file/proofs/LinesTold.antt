@@ -1,5 +1,5 @@
 -- A line of the cluster or of a script that is read adds its words to those read before.
-use Rattle.std.proofs.Common.{◌≡◌, ℕ, ◌^◌, ◌≤◌, nat_lt, true, false, ◌&&◌, ◌==◌, List, [], ◌∷◌, ◌++◌, length, nat_le, None, Result, Ok, Err, IfOk, refl, sym, ap, ◌∙◌, map, append_assoc, arith, codes}
+use Rattle.std.proofs.Common.{◌≡◌, ℕ, ◌^◌, ◌≤◌, ◌<◌, nat_lt, true, ◌&&◌, ◌==◌, List, [], ◌∷◌, ◌++◌, length, nat_le, None, Some, Result, Ok, Err, IfOk, refl, sym, ap, subst, ◌∙◌, map, append_assoc, arith, codes}
 use Rattle.std.specs.Fmt.{decimal}
 use Rattle.std.specs.List.{list_all, flat_map}
 use Rattle.std.proofs.lemmas.Bool.Decides.{nat_tests}
@@ -8,12 +8,9 @@ use Rattle.std.proofs.lemmas.List.{append-nil, map-append}
 use Rattle.score_base.specs.declared.keys.Key.{Key}
 use Rattle.score_base.specs.declared.ids.NodeId.{NodeId}
 use Rattle.script_lang.specs.Scripts.{ScriptData, are_sound, IsFront}
-use Rattle.script_lang.specs.declared.exprs.Expr.{Expr}
 use Rattle.script_lang.specs.declared.scripts.Op.{Op}
 use Rattle.script_lang.specs.declared.scripts.Op.TheVariants as op
-use Rattle.script_lang.specs.Exprs.{is_expr_among}
 use Rattle.script_lang.specs.Reads.{known_keys}
-use Rattle.script_lang.specs.ExprWords.{expr_of}
 use Rattle.script_lang.specs.Spelling.{op_words, tx_words, script_words, is_plain_op}
 use Rattle.script_lang.proofs.Sound.{IsFront-read, IsFront-write}
 use Rattle.script_lang.proofs.BodyRead.{is_op_among, Follows, first_line_read, body_read}
@@ -24,23 +21,20 @@ use Rattle.std.specs.BTreeSet.{BTreeSet}
 use Rattle.cluster_file.specs.declared.drafts.Draft.{Draft}
 use Rattle.script_lang.specs.Reading.{word_at, end_at, number_at, in_range, steps}
 use Rattle.cluster_file.specs.Lines.{name_new_key, nodes_line, new_node, node_step, is_next, partition_line, init_line, tx_line, with_stage, script_line}
-use Rattle.script_lang.specs.Words.{node_of, key_of, tx_of}
+use Rattle.script_lang.specs.Words.{node_of, key_of}
 use Rattle.cluster_file.specs.Doc.{blank}
 use Rattle.cluster_file.specs.Spelling.{is_node, is_init_in_range, is_script_in_range, node_word, partition_words, init_words, partition_lines}
 use Rattle.std.proofs.lemmas.Bool.{and_parts}
 use Rattle.cluster_file.proofs.Named.{all_last}
 use Rattle.script_lang.proofs.Readings.{behind, then, either, weaken}
-use Rattle.script_lang.proofs.WordsRead.{word_read, end_read, number_read, key_read, tx_read, node_read}
+use Rattle.script_lang.proofs.WordsRead.{word_read, end_read, number_read, in_range_read, key_read, node_read}
 use Rattle.cluster_file.proofs.SoFar.{inside, outside}
 use Rattle.cluster_file.proofs.LinesSoFar.{open_lines, schedule_lines, lines_so_far, IsOpened, Adds, Begins, more_script, more_scripts, more_inits, more_partitions, partition_next}
 use Rattle.script_lang.specs.declared.whys.Why.{Why}
 use Rattle.script_lang.specs.declared.limits.TheConstants.{MAX_NODES, MAX_OPS}
-use Rattle.cluster_file.specs.declared.limits.TheConstants.{MAX_PARTITIONS, MAX_SCRIPTS}
+use Rattle.cluster_file.specs.declared.limits.TheConstants.{MAX_KEYS, MAX_PARTITIONS, MAX_SCRIPTS}
 
 -- The words.
-
-pub in_range_told : (low high n : ℕ) → IfOk (in_range low high n) (λ m. (m ≡ n) × (nat_le m high ≡ true))
-in_range_told low high n = either (nat_le low n && nat_le n high) _ _ _ (λ e. (refl, (and_parts (nat_le low n) (nat_le n high) e).1)) (λ e. tt)
 
 in_cluster : (nodes n : ℕ) → (nat_le 1 n && nat_le n nodes) ≡ true → nodes ≤ MAX_NODES → is_node n ≡ true
 in_cluster nodes n h few =
@@ -74,7 +68,7 @@ one_number ws n m words same none = ap (λ k. decimal k ∷ []) same ∙ ap (λ 
 -- the first line
 pub first_told : (ws : List (List ℕ)) → IfOk (nodes_line blank ws) (Begins (codes "nodes" ∷ ws))
 unfolding nodes_line
-first_told ws = behind (number_at ws) _ _ _ (number_read ws) (λ n words. behind (in_range 1 MAX_NODES n.0) _ _ _ (in_range_told 1 MAX_NODES n.0) (λ c same. behind (end_at n.1) _ _ _ (end_read n.1) (λ z none.
+first_told ws = behind (number_at ws) _ _ _ (number_read ws) (λ n words. behind (in_range 1 MAX_NODES n.0) _ _ _ (in_range_read 1 MAX_NODES n.0) (λ c same. behind (end_at n.1) _ _ _ (end_read n.1) (λ z none.
     record {
       lines = ap (λ l. (codes "nodes" ∷ l) ∷ []) (one_number ws n c words.0 same.0 none);
       ranges = record { places = refl; inits = refl; scripts = refl; opened = tt; items = refl; built = refl };

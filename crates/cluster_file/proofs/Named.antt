@@ -17,12 +17,15 @@ use Rattle.score_base.specs.Keys.{same_key}
 use Rattle.script_lang.specs.Scripts.{ScriptData}
 use Rattle.script_lang.specs.Reads.{keys_named, key_of}
 use Rattle.script_lang.specs.declared.scripts.Op.{Op}
-use Rattle.script_lang.proofs.Seen.{keys_named_last}
+use Rattle.script_lang.proofs.Seen.{keys_named_more}
 use Rattle.grid_model.specs.Documents.{script_numbers, keys_in, key_order, number_order}
 
+pub numbers_more : (ss ts : List ScriptData) → script_numbers (ss ++ ts) ≡ script_numbers ss ++ script_numbers ts
+numbers_more [] ts = refl
+numbers_more (s ∷ ss) ts = ap (λ l. s.number ∷ l) (numbers_more ss ts)
+
 pub numbers_last : (ss : List ScriptData) (s : ScriptData) → script_numbers (ss ++ s ∷ []) ≡ script_numbers ss ++ s.number ∷ []
-numbers_last [] s = refl
-numbers_last (x ∷ ss) s = ap (λ ts. x.number ∷ ts) (numbers_last ss s)
+numbers_last ss s = numbers_more ss (s ∷ [])
 
 pub key_order_last : (ks : List Key) (k : Key) → key_order (ks ++ k ∷ []) ≡ insert_key (slice_cmp nat_cmp) (key_order ks) k
 key_order_last ks k = fold-append (insert_key (slice_cmp nat_cmp)) [] ks (k ∷ [])
@@ -39,7 +42,7 @@ last_keys inits ss s =
 pub keys_op : (inits : List (Key × Value)) (ss : List ScriptData) (s : ScriptData) (o : Op) → keys_in inits (ss ++ record s { ops = s.ops ++ o ∷ [] } ∷ []) ≡ keys_in inits (ss ++ s ∷ []) ++ key_of o ∷ []
 keys_op inits ss s o =
     last_keys inits ss (record s { ops = s.ops ++ o ∷ [] })
-    ∙ ap (λ ks. keys_in inits ss ++ ks) (keys_named_last s.ops o)
+    ∙ ap (λ ks. keys_in inits ss ++ ks) (keys_named_more s.ops (o ∷ []))
     ∙ sym (append_assoc (keys_in inits ss) (keys_named s.ops) (key_of o ∷ []))
     ∙ ap (λ ks. ks ++ key_of o ∷ []) (sym (last_keys inits ss s))
 
@@ -74,17 +77,9 @@ keys_more_inits xs ys = append-nil (map (λ x. x.0) (xs ++ ys)) ∙ map-append (
 pub keys_more_scripts : (inits : List (Key × Value)) (ss ts : List ScriptData) → keys_in inits (ss ++ ts) ≡ keys_in inits ss ++ flat_map (λ s. keys_named s.ops) ts
 keys_more_scripts inits ss ts = ap (λ l. map (λ x. x.0) inits ++ l) (flat_map-append (λ s. keys_named s.ops) ss ts) ∙ sym (append_assoc (map (λ x. x.0) inits) (flat_map (λ s. keys_named s.ops) ss) (flat_map (λ s. keys_named s.ops) ts))
 
-keys_named_more : (os rest : List Op) → keys_named (os ++ rest) ≡ keys_named os ++ keys_named rest
-keys_named_more [] rest = refl
-keys_named_more (o ∷ os) rest = ap (λ ks. key_of o ∷ ks) (keys_named_more os rest)
-
 pub keys_more_ops : (inits : List (Key × Value)) (ss : List ScriptData) (s : ScriptData) (os rest : List Op) → keys_in inits (ss ++ record s { ops = os ++ rest } ∷ []) ≡ keys_in inits (ss ++ record s { ops = os } ∷ []) ++ keys_named rest
 keys_more_ops inits ss s os rest =
     last_keys inits ss (record s { ops = os ++ rest })
     ∙ ap (λ l. keys_in inits ss ++ l) (keys_named_more os rest)
     ∙ sym (append_assoc (keys_in inits ss) (keys_named os) (keys_named rest))
     ∙ ap (λ l. l ++ keys_named rest) (sym (last_keys inits ss (record s { ops = os })))
-
-pub numbers_more : (ss ts : List ScriptData) → script_numbers (ss ++ ts) ≡ script_numbers ss ++ script_numbers ts
-numbers_more [] ts = refl
-numbers_more (s ∷ ss) ts = ap (λ l. s.number ∷ l) (numbers_more ss ts)

@@ -1,5 +1,5 @@
 -- Words that were read are well formed, and so are the parts of a document with one more member.
-use Rattle.std.proofs.Common.{◌≡◌, ℕ, ◌+◌, ◌<◌, ◌≤◌, true, false, ◌&&◌, ◌==◌, List, [], ◌∷◌, ◌++◌, length, length-append, nat_le, Option, None, Result, Ok, Err, IfOk, refl, sym, ap, ◌∙◌, subst, arith}
+use Rattle.std.proofs.Common.{◌≡◌, ℕ, ◌+◌, ◌<◌, ◌≤◌, true, false, ◌==◌, List, [], ◌∷◌, ◌++◌, length, length-append, nat_le, Option, None, IfOk, refl, sym, ap, ◌∙◌, subst, arith}
 use Rattle.std.specs.Ordering.{nat_cmp}
 use Rattle.std.specs.Cmp.Lexicographic.{slice_cmp}
 use Rattle.std.specs.List.{list_any, list_all}
@@ -20,7 +20,7 @@ use Rattle.placement.specs.Places.{are_distinct}
 use Rattle.placement.specs.Clusters.{are_keys_distinct}
 use Rattle.grid_model.specs.Documents.{script_numbers, are_numbers_distinct, events_of, keys_in, is_item, key_order, number_order}
 use Rattle.grid_model.specs.declared.items.Item.{Item}
-use Rattle.script_lang.specs.Reading.{in_range, steps}
+use Rattle.script_lang.specs.Reading.{steps}
 use Rattle.cluster_file.specs.Lines.{name_new_key, new_node, node_step, is_next}
 use Rattle.script_lang.specs.Words.{node_of}
 use Rattle.std.proofs.lemmas.Bool.{and_parts}
@@ -31,13 +31,9 @@ use Rattle.script_lang.specs.Names.{has_name, name_key}
 use Rattle.script_lang.proofs.NamesRead.{name_read}
 use Rattle.cluster_file.proofs.Named.{numbers_last, key_order_last, number_order_last, keys_op, keys_begun, keys_init, all_last, all_but_last, known_in_inits}
 use Rattle.cluster_file.proofs.SoFar.{IsNamed, IsPlan, opened}
-use Rattle.script_lang.specs.declared.whys.Why.{Why}
 use Rattle.cluster_file.specs.declared.limits.TheConstants.{MAX_EVENTS, MAX_KEYS, MAX_SCRIPTS}
 
 -- The words.
-
-pub in_range_keeps : (low high n : ℕ) → IfOk (in_range low high n) (λ m. (low ≤ m) × (m ≤ high))
-in_range_keeps low high n = either (nat_le low n && nat_le n high) _ _ _ (λ e. let both = and_parts (nat_le low n) (nat_le n high) e in (grind (arith, nat_tests, both.0), grind (arith, nat_tests, both.1))) (λ e. tt)
 
 pub node_of_keeps : (nodes : ℕ) (w : List ℕ) → IfOk (node_of nodes w) (λ n. nat_le n nodes ≡ true)
 node_of_keeps nodes w = weaken (node_of nodes w) _ _ (node_read nodes w) (λ n h. (and_parts (nat_le 1 n) (nat_le n nodes) h.1).1)

@@ -18,10 +18,10 @@ use Rattle.cluster_file.specs.Doc.{blank}
 use Rattle.cluster_file.specs.Spelling.{is_item_in_range, is_built_item, init_words, item_words, partition_lines}
 use Rattle.cluster_file.proofs.Named.{all_last}
 use Rattle.script_lang.proofs.Readings.{behind, then, either}
-use Rattle.script_lang.proofs.WordsRead.{word_read, end_read, number_read, tx_read}
-use Rattle.cluster_file.proofs.SoFar.{IsStage, IsBegun, inside, outside, planned}
+use Rattle.script_lang.proofs.WordsRead.{word_read, end_read, number_read, in_range_read, tx_read}
+use Rattle.cluster_file.proofs.SoFar.{IsStage, IsBegun, planned}
 use Rattle.cluster_file.proofs.LinesSoFar.{open_lines, schedule_lines, Adds, Begins, more_schedule}
-use Rattle.cluster_file.proofs.LinesTold.{in_range_told, one_number, first_told, partition_told, init_told, tx_lines_told, script_told}
+use Rattle.cluster_file.proofs.LinesTold.{one_number, first_told, partition_told, init_told, tx_lines_told, script_told}
 use Rattle.script_lang.specs.Spelling.{script_words}
 use Rattle.script_lang.specs.declared.whys.Why.{Why}
 use Rattle.cluster_file.specs.declared.limits.TheConstants.{MAX_COUNT, MAX_EVENTS}
@@ -50,18 +50,18 @@ begin_told d ws = either (nat_le MAX_EVENTS d.events) _ _ _ (λ _. tt) (λ _. be
 
 deliver_told : (d : Draft) (ws : List (List ℕ)) → IfOk (deliver_line (planned d) ws) (Adds (planned d) (codes "deliver" ∷ ws))
 unfolding deliver_line
-deliver_told d ws = either (nat_le MAX_EVENTS d.events) _ _ _ (λ _. tt) (λ _. behind (number_at ws) _ _ _ (number_read ws) (λ n words. behind (in_range 1 MAX_COUNT n.0) _ _ _ (in_range_told 1 MAX_COUNT n.0) (λ m same. behind (end_at n.1) _ _ _ (end_read n.1) (λ z none_left.
-    item_told d (item.Deliver m) 1 _ (ap (λ l. codes "deliver" ∷ l) (one_number ws n m words.0 same.0 none_left)) same.1 refl))))
+deliver_told d ws = either (nat_le MAX_EVENTS d.events) _ _ _ (λ _. tt) (λ _. behind (number_at ws) _ _ _ (number_read ws) (λ n words. behind (in_range 1 MAX_COUNT n.0) _ _ _ (in_range_read 1 MAX_COUNT n.0) (λ m same. behind (end_at n.1) _ _ _ (end_read n.1) (λ z none_left.
+    item_told d (item.Deliver m) 1 _ (ap (λ l. codes "deliver" ∷ l) (one_number ws n m words.0 same.0 none_left)) same.2 refl))))
 
 drop_told : (d : Draft) (ws : List (List ℕ)) → IfOk (drop_line (planned d) ws) (Adds (planned d) (codes "drop" ∷ ws))
 unfolding drop_line
-drop_told d ws = either (nat_le MAX_EVENTS d.events) _ _ _ (λ _. tt) (λ _. behind (number_at ws) _ _ _ (number_read ws) (λ n words. behind (in_range 1 MAX_COUNT n.0) _ _ _ (in_range_told 1 MAX_COUNT n.0) (λ m same. behind (end_at n.1) _ _ _ (end_read n.1) (λ z none_left.
-    item_told d (item.Drop m) 1 _ (ap (λ l. codes "drop" ∷ l) (one_number ws n m words.0 same.0 none_left)) same.1 refl))))
+drop_told d ws = either (nat_le MAX_EVENTS d.events) _ _ _ (λ _. tt) (λ _. behind (number_at ws) _ _ _ (number_read ws) (λ n words. behind (in_range 1 MAX_COUNT n.0) _ _ _ (in_range_read 1 MAX_COUNT n.0) (λ m same. behind (end_at n.1) _ _ _ (end_read n.1) (λ z none_left.
+    item_told d (item.Drop m) 1 _ (ap (λ l. codes "drop" ∷ l) (one_number ws n m words.0 same.0 none_left)) same.2 refl))))
 
 next_item_told : (d : Draft) (ws : List (List ℕ)) → IfOk (next_line (planned d) ws) (Adds (planned d) (codes "next" ∷ ws))
 unfolding next_line
-next_item_told d ws = behind (number_at ws) _ _ _ (number_read ws) (λ n words. behind (in_range 1 MAX_EVENTS n.0) _ _ _ (in_range_told 1 MAX_EVENTS n.0) (λ c same. then (more_events d.events c) _ _ (λ _. behind (end_at n.1) _ _ _ (end_read n.1) (λ z none_left.
-    let low : nat_le c MAX_COUNT ≡ true = grind (arith, nat_tests, same.1) in
+next_item_told d ws = behind (number_at ws) _ _ _ (number_read ws) (λ n words. behind (in_range 1 MAX_EVENTS n.0) _ _ _ (in_range_read 1 MAX_EVENTS n.0) (λ c same. then (more_events d.events c) _ _ (λ _. behind (end_at n.1) _ _ _ (end_read n.1) (λ z none_left.
+    let low : nat_le c MAX_COUNT ≡ true = grind (arith, nat_tests, same.2) in
     item_told d (item.Next c) c _ (ap (λ l. codes "next" ∷ l) (one_number ws n c words.0 same.0 none_left)) low refl))))
 
 -- Which lines may stand where.

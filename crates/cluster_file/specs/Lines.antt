@@ -19,7 +19,7 @@ use Rattle.script_lang.specs.Reading.{◌>>=◌, is_word, word_at, end_at, numbe
 use Rattle.script_lang.specs.Words.{node_of, key_of, tx_of, is_printed}
 use Rattle.script_lang.specs.declared.whys.Why.{Why}
 use Rattle.script_lang.specs.declared.whys.Why.TheVariants as why
-use Rattle.script_lang.specs.declared.limits.TheConstants.{MAX_NODES, MAX_OPS}
+use Rattle.script_lang.specs.declared.limits.TheConstants.{MAX_NODES}
 use Rattle.cluster_file.specs.declared.limits.TheConstants.{MAX_COUNT, MAX_EVENTS, MAX_KEYS, MAX_PARTITIONS, MAX_SCRIPTS}
 
 -- What was named before.

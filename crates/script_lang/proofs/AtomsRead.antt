@@ -1,5 +1,5 @@
 -- How an atom that was read is spelled, and that its spelling is read as it.
-use Rattle.std.proofs.Common.{◌≡◌, ℕ, ◌+◌, ◌-◌, ◌*◌, ◌<◌, ◌^◌, ◌&&◌, not, nat_le, nat_lt, Bool, true, false, cond, List, [], ◌∷◌, length, Option, Some, None, Ok, Err, IfOk, refl, sym, ap, ◌∙◌, arith}
+use Rattle.std.proofs.Common.{◌≡◌, ℕ, ◌+◌, ◌-◌, ◌*◌, ◌<◌, ◌^◌, ◌&&◌, not, nat_le, nat_lt, Bool, true, false, cond, List, [], ◌∷◌, length, Option, Some, None, Ok, IfOk, refl, arith}
 use Rattle.std.specs.Char.{is_ascii_digit}
 use Rattle.std.specs.Fmt.{decimal}
 use Rattle.std.specs.List.{list_all}
@@ -15,10 +15,10 @@ use Rattle.script_lang.specs.Exprs.{is_atom_among}
 use Rattle.script_lang.specs.Reads.{is_key_among}
 use Rattle.script_lang.specs.Reading.{◌>>=◌, or_why}
 use Rattle.script_lang.specs.Words.{key_of, begins_with_digit}
-use Rattle.script_lang.specs.ExprWords.{number_atom, known_atom, key_atom, atom_of}
+use Rattle.script_lang.specs.ExprWords.{number_atom, key_atom, atom_of}
 use Rattle.script_lang.specs.Spelling.{atom_word, is_plain_atom}
 use Rattle.script_lang.proofs.Readings.{behind, either}
-use Rattle.script_lang.proofs.WordsRead.{number_small}
+use Rattle.script_lang.proofs.WordsRead.{number_small, key_read}
 use Rattle.script_lang.specs.declared.whys.Why.TheVariants as why
 
 -- the word spells the atom, over the known keys
@@ -27,21 +27,21 @@ pub record IsAtomOf (known : List Key) (w : List ℕ) (a : Atom) : Type 0 where
   pub among : is_atom_among known a ≡ true
   pub plain : is_plain_atom a ≡ true
 
-number_read : (known : List Key) (w : List ℕ) → IfOk (number_atom w) (IsAtomOf known w)
+number_atom_read : (known : List Key) (w : List ℕ) → IfOk (number_atom w) (IsAtomOf known w)
 unfolding number_atom
-number_read known w = by (number w) refl
+number_atom_read known w = by (number w) refl
   where
     by : (o : Option ℕ) → number w ≡ o → IfOk (or_why why.Number o >>= λ n. Ok (atom.Number n)) (IsAtomOf known w)
     by None e = tt
     by (Some n) e = record { spelled = decimal-number w n e; among = refl; plain = grind (arith, nat_tests, number_small w n e) }
 
-key_read : (known : List Key) (w : List ℕ) → IfOk (key_atom known w) (IsAtomOf known w)
+key_atom_read : (known : List Key) (w : List ℕ) → IfOk (key_atom known w) (IsAtomOf known w)
 unfolding key_atom
-key_read known w = behind (key_of w) (known_atom known) (λ k. (k ≡ w) × (is_key w ≡ true)) (IsAtomOf known w) (either (is_key w) (Ok w) (Err why.Key) (λ k. (k ≡ w) × (is_key w ≡ true)) (λ e. (refl, e)) (λ e. tt)) (λ k h. either (is_key_among k known) (Ok (atom.Key k)) (Err why.Unread) (IsAtomOf known w) (λ e. record { spelled = sym h.0; among = e; plain = ap is_key h.0 ∙ h.1 }) (λ e. tt))
+key_atom_read known w = behind (key_of w) _ _ _ (key_read w) (λ k h. either (is_key_among k known) _ _ _ (λ e. record { spelled = h.0; among = e; plain = h.1 }) (λ _. tt))
 
 pub atom_read : (known : List Key) (w : List ℕ) → IfOk (atom_of known w) (IsAtomOf known w)
 unfolding atom_of
-atom_read known w = either (begins_with_digit w) (number_atom w) (key_atom known w) (IsAtomOf known w) (λ e. number_read known w) (λ e. key_read known w)
+atom_read known w = either (begins_with_digit w) (number_atom w) (key_atom known w) (IsAtomOf known w) (λ e. number_atom_read known w) (λ e. key_atom_read known w)
 
 is_first : (b : Bool) (x : Option ℕ) (n : ℕ) → cond b x None ≡ Some n → b ≡ true
 is_first true x n e = refl

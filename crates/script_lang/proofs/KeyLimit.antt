@@ -1,5 +1,5 @@
 -- A script alone names no more keys than it has operations, so a limit of that many is never met.
-use Rattle.std.proofs.Common.{◌≡◌, ℕ, ◌+◌, ◌<◌, ◌≤◌, ◌==◌, ◌&&◌, nat_le, Bool, true, false, cond, List, [], ◌∷◌, ◌++◌, length, length-append, Option, Some, None, Result, Ok, Err, IfOk, refl, sym, ap, ◌∙◌, arith, codes}
+use Rattle.std.proofs.Common.{◌≡◌, ℕ, ◌+◌, ◌<◌, ◌≤◌, ◌==◌, nat_le, Bool, true, false, cond, List, [], ◌∷◌, length, length-append, Option, Some, None, Result, Ok, Err, IfOk, refl, ap, ◌∙◌, arith, codes}
 use Rattle.std.specs.BTreeSet.{BTreeSet}
 use Rattle.std.specs.Cmp.Lexicographic.{slice_cmp}
 use Rattle.std.specs.Ordering.{nat_cmp}
@@ -10,14 +10,13 @@ use Rattle.script_lang.specs.declared.limits.TheConstants.{MAX_OPS}
 use Rattle.script_lang.specs.declared.script_lines.Stage.{Stage}
 use Rattle.script_lang.specs.declared.script_lines.Stage.TheVariants as stage
 use Rattle.script_lang.specs.declared.script_texts.TextDraft.{TextDraft}
-use Rattle.script_lang.specs.declared.whys.At.{At}
 use Rattle.script_lang.specs.declared.whys.Why.{Why}
 use Rattle.script_lang.specs.Scripts.{ScriptData}
 use Rattle.script_lang.specs.Reads as reads
 use Rattle.script_lang.specs.Reading.{◌>>=◌, is_word, word_at}
 use Rattle.script_lang.specs.Words.{key_of, is_printed}
 use Rattle.script_lang.specs.Names.{with_key, name_key}
-use Rattle.script_lang.specs.ScriptLines.{◌>>>◌, first_line, read_line, write_line, body_line, begin_line, text_line, words_line, line_of, at_line, close, unread, lines_from, script_within, script_of_text}
+use Rattle.script_lang.specs.ScriptLines.{◌>>>◌, first_line, read_line, write_line, body_line, begin_line, text_line, words_line, line_of, at_line, unread, lines_from, script_within, script_of_text}
 use Rattle.script_lang.proofs.Readings.{behind, then, either, weaken}
 use Rattle.script_lang.proofs.NamesRead.{insert_longer}
 use Rattle.script_lang.proofs.BodyRead.{Follows, body_read}

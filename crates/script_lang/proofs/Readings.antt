@@ -1,5 +1,5 @@
 -- What holds of whatever a reading gives.
-use Rattle.std.proofs.Common.{◌≡◌, ℕ, Bool, true, false, cond, Result, Ok, Err, IfOk, refl, subst}
+use Rattle.std.proofs.Common.{◌≡◌, Bool, true, false, cond, Result, Ok, Err, IfOk, refl, subst}
 use Rattle.script_lang.specs.Reading.{◌>>=◌}
 use Rattle.script_lang.specs.declared.whys.Why.{Why}
 

@@ -19,7 +19,7 @@ use Rattle.script_lang.specs.Spelling.{op_words, tx_words, script_lines, script_
 use Rattle.script_lang.specs.ScriptLines.{◌>>>◌, first_line, begin_line, body_line, text_line, words_line, line_of, at_line, close, unread, lines_from, script_within, script_of_text}
 use Rattle.script_lang.specs.declared.limits.TheConstants.{MAX_OPS}
 use Rattle.script_lang.proofs.Readings.{behind, either, weaken, at_ok}
-use Rattle.script_lang.proofs.BodyRead.{first_line_read, body_read, body_words, stage_words, follows_words}
+use Rattle.script_lang.proofs.BodyRead.{first_line_read, body_read, stage_words, follows_words}
 
 -- the words of the lines that were read
 abbrev words_so_far : Option Stage → List (List (List ℕ))

@@ -84,9 +84,10 @@ written_told ops rest o seen new whole first told more =
     ∙ ap (λ l. seen ++ written_keys seen l) (sym first)
     ∙ told
 
-pub keys_named_last : (ops : List Op) (o : Op) → keys_named (ops ++ o ∷ []) ≡ keys_named ops ++ key_of o ∷ []
-keys_named_last [] o = refl
-keys_named_last (x ∷ ops) o = ap (λ ks. key_of x ∷ ks) (keys_named_last ops o)
+-- the keys of operations, and of others behind them
+pub keys_named_more : (ops rest : List Op) → keys_named (ops ++ rest) ≡ keys_named ops ++ keys_named rest
+keys_named_more [] rest = refl
+keys_named_more (o ∷ ops) rest = ap (λ ks. key_of o ∷ ks) (keys_named_more ops rest)
 
 remote_more : (named : List Key) (rest : List Op) (o : Op) → remote_keys named (o ∷ rest) ≡ remote_key named o ++ remote_keys (named ++ key_of o ∷ []) rest
 remote_more named rest (op.Write k e) = remote_same (k ∷ named) (named ++ k ∷ []) rest (at_end named k)
@@ -99,7 +100,7 @@ remote_more named rest (op.Read k) = by (is_key_among k named) refl
 -- one more operation, in the keys that are read remotely
 pub remote_told : (before longer ops rest : List Op) (o : Op) (keys new whole : List Key) → longer ≡ before ++ o ∷ [] → ops ≡ o ∷ rest → keys ++ remote_keys (keys_named before) ops ≡ whole → new ≡ keys ++ remote_key (keys_named before) o → new ++ remote_keys (keys_named longer) rest ≡ whole
 remote_told before longer ops rest o keys new whole more first told added =
-    ap (λ ns. new ++ remote_keys ns rest) (ap keys_named more ∙ keys_named_last before o)
+    ap (λ ns. new ++ remote_keys ns rest) (ap keys_named more ∙ keys_named_more before (o ∷ []))
     ∙ ap (λ l. l ++ remote_keys (keys_named before ++ key_of o ∷ []) rest) added
     ∙ append_assoc keys (remote_key (keys_named before) o) (remote_keys (keys_named before ++ key_of o ∷ []) rest)
     ∙ ap (λ l. keys ++ l) (sym (remote_more (keys_named before) rest o))

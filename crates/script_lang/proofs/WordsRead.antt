@@ -1,11 +1,12 @@
 -- How the words of a line that were read are spelled: numbers, keys, transactions, nodes.
 use Rattle.std.proofs.Common.{◌≡◌, ℕ, ◌<◌, ◌^◌, lit<, ◌==◌, ◌&&◌, nat_le, true, List, [], ◌∷◌, Option, Some, None, Ok, IfOk, refl, ap, ◌∙◌, arith}
 use Rattle.std.specs.Fmt.{decimal}
+use Rattle.std.proofs.lemmas.Bool.{and_parts}
 use Rattle.std.proofs.lemmas.Bool.Decides.{nat_tests}
 use Rattle.score_base.specs.Keys.{is_key}
 use Rattle.score_base.specs.Numbers.{number, digits_from}
 use Rattle.score_base.proofs.Spelling.{decimal-number, plain, said}
-use Rattle.script_lang.specs.Reading.{◌>>=◌, word_at, end_at, or_why, number_at}
+use Rattle.script_lang.specs.Reading.{◌>>=◌, word_at, end_at, or_why, number_at, in_range}
 use Rattle.script_lang.specs.Words.{node_in, node_of, key_of, tx_in, tx_of}
 use Rattle.script_lang.proofs.Readings.{either}
 use Rattle.script_lang.specs.declared.whys.Why.TheVariants as why
@@ -32,6 +33,9 @@ number_read (w ∷ ws) = by (number w) refl
     by : (o : Option ℕ) → number w ≡ o → IfOk {T = ℕ × List (List ℕ)} (or_why why.Number o >>= λ n. Ok (n, ws)) (λ x. (w ∷ ws ≡ decimal x.0 ∷ x.1) × (x.0 < 2 ^ 64))
     by None e = tt
     by (Some n) e = (ap (λ v. v ∷ ws) (decimal-number w n e), number_small w n e)
+
+pub in_range_read : (low high n : ℕ) → IfOk (in_range low high n) (λ m. (m ≡ n) × (nat_le low m ≡ true) × (nat_le m high ≡ true))
+in_range_read low high n = either (nat_le low n && nat_le n high) _ _ _ (λ e. let both = and_parts (nat_le low n) (nat_le n high) e in (refl, both.0, both.1)) (λ _. tt)
 
 pub key_read : (w : List ℕ) → IfOk (key_of w) (λ k. (w ≡ k) × (is_key k ≡ true))
 key_read w = either (is_key w) _ _ _ (λ e. (refl, e)) (λ _. tt)

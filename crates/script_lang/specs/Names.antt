@@ -1,5 +1,5 @@
 -- What was named before: the keys, and the numbers of the scripts.
-use Rattle.std.specs.Prelude.{ℕ, ◌==◌, nat_le, Bool, List, length, Result, Ok, Err, if◌then◌else◌}
+use Rattle.std.specs.Prelude.{ℕ, ◌==◌, nat_le, Bool, length, Result, Ok, Err, if◌then◌else◌}
 use Rattle.std.specs.List.{list_any}
 use Rattle.std.specs.Ordering.{nat_cmp}
 use Rattle.std.specs.Cmp.Lexicographic.{slice_cmp}

@@ -6,7 +6,9 @@
 //!
 //! [`read_script`] reads a script by the grammar of `specs/ScriptLines.antt`, and [`expr_words`] an
 //! expression by that of `specs/ExprWords.antt`; how they are written stands in `specs/Spelling.antt`.
-//! The readers of words in [`words`] serve every format whose lines are words between single spaces.
+//! The readers of words in [`words`] serve every format whose lines are words between single spaces, and
+//! those of a script's lines in [`script_lines`] every text in which scripts stand: they go over the keys
+//! that were named so far ([`names`]) and how many may be. What may stand at most is in [`limits`].
 #![tactic(auto)]
 
 pub mod expr_words;
