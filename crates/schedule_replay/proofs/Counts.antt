@@ -27,7 +27,7 @@ use Rattle.grid_model.specs.declared.stories.HeldRead.{HeldRead}
 use Rattle.grid_model.specs.declared.stories.Voted.{Voted}
 use Rattle.journal_words.specs.declared.versions.Version.{Version}
 use Rattle.journal_words.specs.Journals.{commit_id, floor, is_clear, ended, is_commit, pending, home_of}
-use Rattle.grid_model.specs.Stories.{has_voted, first_sid}
+use Rattle.grid_model.specs.Stories.{has_voted, with_value}
 use Rattle.script_runs.specs.Waits.{waiting}
 use Rattle.grid_model.specs.Views.{Participant, Open, Stage, Apart, Reads, Collects, Commits}
 use Rattle.grid_model.specs.Advances.{advance, advance_end, owns, request, request_of, prepares, prepare_for, parts_now, to_node}
