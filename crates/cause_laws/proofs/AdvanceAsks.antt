@@ -86,8 +86,12 @@ asked-later d past acts s None h = tt
 asked-later d past acts s (Some x) h = asked-by d past acts s (waiting s.ops x.progress.values) h
 
 -- acts that leave the values leave what was asked
-pub untaking-asked : (d : DocumentData) (past acts : List Act) (s : ScriptData) → list_all is_untaking acts ≡ true → IsAsked d past s (story d past s.number) → IsAsked d (after past acts) s (story d (after past acts) s.number)
-untaking-asked d past acts s calm h = untaking-later (Unit {0}) (λ i values. AskedBy d (after past acts) s (waiting s.ops values)) d past acts s.number calm (asked-later d past acts s (story d past s.number) h)
+pub untaking-asked : (d : DocumentData) (past acts : List Act) (s : ScriptData) → list_all is_untaking acts ≡ true
+    → IsAsked d past s (story d past s.number) → IsAsked d (after past acts) s (story d (after past acts) s.number)
+untaking-asked d past acts s calm h =
+    untaking-later (Unit {0})
+    (λ i values. AskedBy d (after past acts) s (waiting s.ops values)) d past acts s.number calm
+    (asked-later d past acts s (story d past s.number) h)
 
 -- ---- Advance asks
 

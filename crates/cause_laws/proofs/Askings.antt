@@ -89,7 +89,8 @@ asked-taken d past m n b q o w one h all =
     let S : Open → Type 0 = λ z. AllAsked d (after now (numbered m n (kept b n (advance d.cluster (with_reply q z) q.op)))) in
     let T : List Act → Type 0 = λ acts. AllAsked d (after past acts) in
     let more : AllAsked d (after now rest) = all-but d past now rest u (subst P (sym number) h.at.script) (λ s other script. other-if d now s (q.t == s.number) (progressed (with_value q.op q.sid q.value)) (story d past s.number) (let ne : q.t ≢ s.number = (λ e. other (number ∙ e)) in grind (arith, nat_tests, ne)) (asked-later d past (act.Taken q.t q.op q.sid q.value ∷ []) s (story d past s.number) (all s script))) (advance-untaking d.cluster (open_of u y) q.op b m n) (self-asked d now m n b u y q.op one (subst Q (sym number) (story-taken d past q h.story h.at.story))) in
-    subst T (sym (kept-first m n b (act.Taken q.t q.op q.sid q.value) (advance d.cluster (with_reply q o) q.op) refl)) (subst S (sym h.is) more)
+    subst T (sym (kept-first m n b (act.Taken q.t q.op q.sid q.value) (advance d.cluster (with_reply q o) q.op) refl))
+    (subst S (sym h.is) more)
 
 asked-answered : (d : DocumentData) (past acts : List Act) (k : ℕ) (n x : NodeId) (q : ReadRep) (b : Bool) → IsOne d → sent_at k (sent past) ≡ Some (record { from = x; to = n; message = message.ReadRep q }) → acts ≡ act.Got k ∷ numbered (next_number past) n (kept b n (answer n (view d past n) x (message.ReadRep q))) → AllAsked d past → AllAsked d (after past acts)
 asked-answered d past acts k n x q b one is e all =

@@ -99,7 +99,8 @@ needs_no_cause (act.Lost t) = false
 needs_no_cause a = true
 
 -- acts that need no cause keep the claim
-pub uncaused-kept : (d : DocumentData) (later past : List Act) → IsTrue (list_all needs_no_cause later) → EachBehind (IsCausedAct d) past → EachBehind (IsCausedAct d) (later ++ past)
+pub uncaused-kept : (d : DocumentData) (later past : List Act) → IsTrue (list_all needs_no_cause later)
+    → EachBehind (IsCausedAct d) past → EachBehind (IsCausedAct d) (later ++ past)
 uncaused-kept d [] past are rest = rest
 uncaused-kept d (x ∷ later) past are rest = (
     let both : IsTrue (needs_no_cause x) × IsTrue (list_all needs_no_cause later) = and_parts (needs_no_cause x) (list_all needs_no_cause later) are in
@@ -117,7 +118,9 @@ crashed = after [] presumed_abort_acts
 
 -- the transaction that it loses was collecting when its home was opened
 pub crash-caused : Caused presumed_abort presumed_abort_acts
-crash-caused = uncaused-kept presumed_abort (take 11 crashed) (drop 11 crashed) refl (refl, uncaused-kept presumed_abort (drop 12 crashed) [] refl tt)
+crash-caused =
+    uncaused-kept presumed_abort (take 11 crashed) (drop 11 crashed) refl
+    (refl, uncaused-kept presumed_abort (drop 12 crashed) [] refl tt)
 
 -- where no act needs a cause, there is none to show
 pub bystander-caused : Caused bystander_gets_nothing bystander_gets_nothing_acts

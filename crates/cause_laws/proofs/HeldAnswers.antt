@@ -161,12 +161,15 @@ kept-ended d now m k t o ack true quiet up h = ended-row d now m k t o ack quiet
 kept-ended d now m k t o ack false quiet up h = row-unheld d now (act.Down k (Some (head.Ended t o)) ∷ []) k refl h
 
 -- a row that neither holds nor serves
-pub unheld-row : (d : DocumentData) (now : List Act) (m : ℕ) (k : NodeId) (b : Bool) (os : List Out) → Pass is_unheld os → HoldsWaiting (node d now k) → RowKept d now (numbered m k (kept b k os)) k nothing
+pub unheld-row : (d : DocumentData) (now : List Act) (m : ℕ) (k : NodeId) (b : Bool) (os : List Out) → Pass is_unheld os
+    → HoldsWaiting (node d now k) → RowKept d now (numbered m k (kept b k os)) k nothing
 unheld-row d now m k b os u h = row-unheld d now (numbered m k (kept b k os)) k (unheld-acts m k b os u) h
 
 commit-kept : (d : DocumentData) (now : List Act) (m : ℕ) (k : NodeId) (t : TxId) (f : Ident) (p : Option Ident) (done : Bool) (ack : Option NodeId) (b : Bool) → is_request (said_by (got now)) ≡ false → (node d now k).up ≡ true → HoldsWaiting (node d now k) → RowKept d now (numbered m k (kept b k (commit_row k t f p done (to_node ack (message.Ack t)) ++ if_pending p (release d.cluster (record'.Ended t (outcome.Commit f) ∷ journal d now k) k (node d now k).held)))) k nothing
 commit-kept d now m k t f (Some p) done ack b quiet up h = kept-ended d now m k t (outcome.Commit f) ack b quiet up h
-commit-kept d now m k t f None true ack b quiet up h = unheld-row d now m k b (to_node ack (message.Ack t) ++ []) (pass-append is_unheld (to_node ack (message.Ack t)) [] (pass-to_node is_unheld ack (message.Ack t)) refl) h
+commit-kept d now m k t f None true ack b quiet up h =
+    unheld-row d now m k b (to_node ack (message.Ack t) ++ [])
+    (pass-append is_unheld (to_node ack (message.Ack t)) [] (pass-to_node is_unheld ack (message.Ack t)) refl) h
 commit-kept d now m k t f None false ack b quiet up h = unheld-row d now m k b [] refl h
 
 abort-kept : (d : DocumentData) (now : List Act) (m : ℕ) (k : NodeId) (t : TxId) (p : Option Ident) (b : Bool) → is_request (said_by (got now)) ≡ false → (node d now k).up ≡ true → HoldsWaiting (node d now k) → RowKept d now (numbered m k (kept b k (abort_row k t p ++ if_pending p (release d.cluster (record'.Ended t outcome.Abort ∷ journal d now k) k (node d now k).held)))) k nothing

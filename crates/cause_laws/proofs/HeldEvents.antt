@@ -147,7 +147,9 @@ shape-kept d past h i c (crashes n up) fit = unheld-event d past (act.Down n Non
 shape-kept d past h i c (restarts n up) fit = restart-event d past n (flag_of (node d past n).doubt c.finds) c.opens up h
 shape-kept d past h i c (begins s is new up) fit = unheld-event d past (acts_of past c s.home (begin_outs s.home (participant (view d past s.home)) s)) (unheld-acts (next_number past) s.home c.keeps (begin_outs s.home (participant (view d past s.home)) s) (unheld-advance d.cluster (begun_at s (commit_id (journal d past s.home))) 0)) h
 shape-kept d past h i c (delivers m e is up) fit = got-event d past m e c.keeps is (fit-first d past m e (acts_of past c e.to (answer e.to (view d past e.to) e.from e.message)) is fit) up h
-shape-kept d past h i c (again n os up is) fit = unheld-event d past (acts_of past c n os) (unheld-acts (next_number past) n c.keeps os (pass-again is_unheld d past n os is)) h
+shape-kept d past h i c (again n os up is) fit =
+    unheld-event d past (acts_of past c n os)
+    (unheld-acts (next_number past) n c.keeps os (pass-again is_unheld d past n os is)) h
 
 pub event-kept : (d : DocumentData) (past acts : List Act) → Event d past acts → ((n : NodeId) → HoldsWaiting (node d past n)) → EventKept d past acts
 event-kept d past acts event h =

@@ -31,7 +31,8 @@ well-outs d m n b os h = well-numbered d m n (kept b n os) (well-kept d n b os h
 
 well-restart : (d : DocumentData) (past : List Act) (n : NodeId) (f : Flag) (opens : Bool)
     → list_all (is_well_act d) (if opens then opened_row d past n f else act.StillDown n ∷ []) ≡ true
-well-restart d past n f true = pass-losses (is_well_act d) d (act.Up n f ∷ past) n (number_order (script_numbers d.scripts)) (λ t. refl)
+well-restart d past n f true =
+    pass-losses (is_well_act d) d (act.Up n f ∷ past) n (number_order (script_numbers d.scripts)) (λ t. refl)
 well-restart d past n f false = refl
 
 well-shape : (d : DocumentData) (past : List Act) → IsOne d → AllDue d past → (i : Item) (c : Choice) (s : Shape d past i)

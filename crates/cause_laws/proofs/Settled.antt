@@ -1,5 +1,6 @@
 -- A transaction that began, and is neither reading nor collecting, stays so.
 use Rattle.grid_laws.proofs.DueActs.{due-before}
+use Rattle.journal_words.proofs.Decisions.{decision-some}
 use Rattle.cause_laws.proofs.StoryTests.{KeepsHeard, began-kept, else-kept, got-kept, if-kept}
 use Rattle.grid_laws.proofs.Causes.{AllDue, IsDue}
 use Rattle.grid_laws.proofs.Frames.{journal-more}
@@ -98,14 +99,10 @@ shut-more s d past (act.Lost u) t due k = if-kept (is_shut s) (u == t) _ (story 
 shut-more s d past (act.Down n h) t due k = if-kept (is_shut s) (is_home d t n) _ (story d past t) (λ y i. i) k
 shut-more s d past a t due k = k
 
-decided-stays : (t : TxId) (x : Record) (r : List Record) → is_some (decision t r) ≡ true → is_some (decision t (x ∷ r)) ≡ true
-decided-stays t (record'.Decided u f parts) r h = grind (arith, h)
-decided-stays t x r h = h
-
 pub settled-more : (d : DocumentData) (past : List Act) (a : Act) (s : ScriptData) → IsDue d past a → is_settled d past s ≡ true → is_settled d (a ∷ past) s ≡ true
 settled-more d past a s due h = elim (or_cases (is_shut s (story d past s.number)) (is_some (decision s.number (journal d past s.home))) h) [
   | inl shut ↦ or_left (is_shut s (story d (a ∷ past) s.number)) (is_some (decision s.number (journal d (a ∷ past) s.home))) (shut-more s d past a s.number due shut)
-  | inr some ↦ or_right (is_shut s (story d (a ∷ past) s.number)) (is_some (decision s.number (journal d (a ∷ past) s.home))) (journal-more (λ r. is_some (decision s.number r) ≡ true) (λ x r k. decided-stays s.number x r k) d past a s.home some)
+  | inr some ↦ or_right (is_shut s (story d (a ∷ past) s.number)) (is_some (decision s.number (journal d (a ∷ past) s.home))) (journal-more (λ r. is_some (decision s.number r) ≡ true) (λ x r k. decision-some s.number x r k) d past a s.home some)
 ]
 
 -- over more acts

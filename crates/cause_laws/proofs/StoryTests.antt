@@ -25,7 +25,8 @@ else-kept p b o w h k = else-claim (λ z. p z ≡ true) b o w h k
 abbrev pub KeepsHeard : (Option Story → Bool) → Type 0
 KeepsHeard p = Hears (λ z. p z ≡ true)
 
-pub got-kept : (p : Option Story → Bool) (d : DocumentData) (past : List Act) (w : Option ScriptData) (e : Option Envelope) (o : Option Story)
+pub got-kept : (p : Option Story → Bool) (d : DocumentData) (past : List Act) (w : Option ScriptData)
+    (e : Option Envelope) (o : Option Story)
     → KeepsHeard p → p o ≡ true → p (heard_at d past w e o) ≡ true
 got-kept p d past w e o keeps k = got-claim (λ z. p z ≡ true) keeps d past w e o k
 

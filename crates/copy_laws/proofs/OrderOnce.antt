@@ -70,7 +70,9 @@ insert-once x (y ∷ ys) new h = go (is_before y x) (insert-once x ys (grind (ar
 
 fold-once : (ys xs : List (Ident × TxId)) → AreOnce xs → AreOnce ys → AreApart xs ys → AreOnce (fold insert_last ys xs)
 fold-once ys [] h k apart = k
-fold-once ys (x ∷ xs) h k apart = fold-once (insert_last ys x) xs h.1 (insert-once x ys (apart x.1 (tx-here x xs)) k) (λ t i. insert-tx t x ys ∙ or_from (x.1 == t) (has_tx t ys) (other t i) (apart t (tx-later t x xs i)))
+fold-once ys (x ∷ xs) h k apart =
+    fold-once (insert_last ys x) xs h.1 (insert-once x ys (apart x.1 (tx-here x xs)) k)
+    (λ t i. insert-tx t x ys ∙ or_from (x.1 == t) (has_tx t ys) (other t i) (apart t (tx-later t x xs i)))
   where
     other : (t : TxId) → has_tx t xs ≡ true → (x.1 == t) ≡ false
     other t i = differ (x.1 == t) refl

@@ -48,7 +48,8 @@ shown-owns d now m n b s x (y ∷ ys) rest is at so others go =
     let own : Act = act.Own s.number y.0 y.1 in
     let so' : shown (own ∷ now) s.number ++ ys ≡ reads_by x.progress.values s.ops = ap (λ zs. zs ++ ys) (own-shown now s.number y.0 y.1) ∙ append_assoc (shown now s.number) (y ∷ []) ys ∙ so in
     let P : List Act → Type 0 = λ acts. AllShown d (after now acts) in
-    subst P (sym (kept-first m n b (act.Own s.number y.0 y.1) (map (λ y. out.Act (act.Own s.number y.0 y.1)) ys ++ rest) refl))
+    subst P
+    (sym (kept-first m n b (act.Own s.number y.0 y.1) (map (λ y. out.Act (act.Own s.number y.0 y.1)) ys ++ rest) refl))
     (shown-owns d (own ∷ now) m n b s x ys rest is at so' (λ t w other e. other-own d now s.number t y.0 y.1 w other (others t w other e)) go)
 
 -- Advance behind operation i

@@ -49,7 +49,8 @@ use Rattle.copy_laws.proofs.ShownRows.{shown-advance}
 
 -- ---- acts that begin, take and show nothing
 
-unshowing-acts : (m : ℕ) (n : NodeId) (b : Bool) (os : List Out) → Pass is_unshowing os → list_all is_unshowing (numbered m n (kept b n os)) ≡ true
+unshowing-acts : (m : ℕ) (n : NodeId) (b : Bool) (os : List Out) → Pass is_unshowing os
+    → list_all is_unshowing (numbered m n (kept b n os)) ≡ true
 unshowing-acts m n b os h = pass-acts is_unshowing n (λ k y said. refl) (λ x. refl) m b os h
 
 -- ---- a reply
@@ -108,27 +109,35 @@ shown-begin d past m b s is new all =
     let owns : List (ℕ × Value) = filter (λ y. nat_lt 0 y.0) (own_reads 1 [] unread [] s.ops) in
     let left : shown now s.number ++ owns ≡ reads_by [] s.ops = ap (λ zs. zs ++ owns) none ∙ sym (first-reads s.ops) in
     let T : List Act → Type 0 = λ acts. AllShown d (after past acts) in
-    subst T (sym (kept-first m s.home b (act.Began s.number s.home sid0) (advance d.cluster (open_of s (begun sid0)) 0) refl))
+    subst T
+    (sym (kept-first m s.home b (act.Began s.number s.home sid0) (advance d.cluster (open_of s (begun sid0)) 0) refl))
     (shown-advance d now m s.home b s (begun sid0) 0 is (story-began d past s.number s.home sid0) left (λ t w other e. other-began d past s.number t s.home sid0 w other (all t w e)))
 
 -- ---- the shapes of an event
 
 unshowing-restart : (d : DocumentData) (past : List Act) (n : NodeId) (f : Flag) (opens : Bool)
     → list_all is_unshowing (if opens then opened_row d past n f else act.StillDown n ∷ []) ≡ true
-unshowing-restart d past n f true = pass-losses is_unshowing d (act.Up n f ∷ past) n (number_order (script_numbers d.scripts)) (λ t. refl)
+unshowing-restart d past n f true =
+    pass-losses is_unshowing d (act.Up n f ∷ past) n (number_order (script_numbers d.scripts)) (λ t. refl)
 unshowing-restart d past n f false = refl
 
 shown-shape : (d : DocumentData) (past : List Act) (i : Item) (c : Choice) → AllDue d past → AllShown d past
     → (s : Shape d past i) → AllShown d (after past (acts_by d past i c s))
-shown-shape d past i c due all (idle acts is) = unshowing-all d past acts (idle-pass is_unshowing (λ code. refl) (λ m. refl) (λ m. refl) acts is) all
+shown-shape d past i c due all (idle acts is) =
+    unshowing-all d past acts (idle-pass is_unshowing (λ code. refl) (λ m. refl) (λ m. refl) acts is) all
 shown-shape d past i c due all (arms n k how is) = unshowing-all d past (act.Armed n k how ∷ []) refl all
 shown-shape d past i c due all (crashes n up) = unshowing-all d past (act.Down n None ∷ []) refl all
 shown-shape d past i c due all (restarts n up) =
     let f : Flag = flag_of (node d past n).doubt c.finds in
-    unshowing-all d past (if c.opens then opened_row d past n f else act.StillDown n ∷ []) (unshowing-restart d past n f c.opens) all
+    unshowing-all d past (if c.opens then opened_row d past n f else act.StillDown n ∷ [])
+    (unshowing-restart d past n f c.opens) all
 shown-shape d past i c due all (begins s is new up) = shown-begin d past (next_number past) c.keeps s is new all
-shown-shape d past i c due all (delivers m e is up) = shown-answer d past m (next_number past) e.to e.from c.keeps e.message (is_reply e.message) refl is ((e, is, up), due) (λ t s f. unshowing-by d past (act.Got m) t s refl (all t s f))
-shown-shape d past i c due all (again n os up is) = unshowing-all d past (acts_of past c n os) (unshowing-acts (next_number past) n c.keeps os (pass-again is_unshowing d past n os is)) all
+shown-shape d past i c due all (delivers m e is up) =
+    shown-answer d past m (next_number past) e.to e.from c.keeps e.message (is_reply e.message) refl is
+    ((e, is, up), due) (λ t s f. unshowing-by d past (act.Got m) t s refl (all t s f))
+shown-shape d past i c due all (again n os up is) =
+    unshowing-all d past (acts_of past c n os)
+    (unshowing-acts (next_number past) n c.keeps os (pass-again is_unshowing d past n os is)) all
 
 -- an event leaves each transaction shown its reads
 shown-row : (d : DocumentData) (past : List Act) (e : Item) (c : Choice) → AllDue d past → AllShown d past

@@ -45,7 +45,8 @@ is_unshowing (act.Own t op v) = false
 is_unshowing a = true
 
 -- those of each row but two
-pub row-unshowing : (n : NodeId) (said : Message) → is_reply said ≡ false → (a : Act) → is_of_row n said a ≡ true → is_unshowing a ≡ true
+pub row-unshowing : (n : NodeId) (said : Message) → is_reply said ≡ false → (a : Act) → is_of_row n said a ≡ true
+    → is_unshowing a ≡ true
 row-unshowing n said none (act.Began t m sid0) h = h
 row-unshowing n said none (act.Taken t op sid v) h = cc
 row-unshowing n said none (act.Own t op v) h = cc
@@ -61,7 +62,8 @@ unshowing-untaking a quiet = refl
 
 unshowing-says : (s : ScriptData) (ys : List (ℕ × Value)) (d : DocumentData) (past : List Act) (a : Act) (t : TxId)
     → is_unshowing a ≡ true → Says s ys (story d past t) → Says s ys (story d (a ∷ past) t)
-unshowing-says s ys d past a t quiet h = untaking-claim (Says s ys) (says-stays s ys) d past a t (unshowing-untaking a quiet) h
+unshowing-says s ys d past a t quiet h =
+    untaking-claim (Says s ys) (says-stays s ys) d past a t (unshowing-untaking a quiet) h
 
 unshowing-shown : (past : List Act) (a : Act) (t : TxId) → is_unshowing a ≡ true → shown (a ∷ past) t ≡ shown past t
 unshowing-shown past (act.Taken u op sid v) t quiet = cc
@@ -75,7 +77,8 @@ abbrev pub ShownBy : DocumentData → List Act → TxId → ScriptData → Type 
 ShownBy d past t s = Says s (shown past t) (story d past t)
 
 -- such an act leaves what was shown
-pub unshowing-by : (d : DocumentData) (past : List Act) (a : Act) (t : TxId) (s : ScriptData) → is_unshowing a ≡ true → ShownBy d past t s → ShownBy d (a ∷ past) t s
+pub unshowing-by : (d : DocumentData) (past : List Act) (a : Act) (t : TxId) (s : ScriptData) → is_unshowing a ≡ true
+    → ShownBy d past t s → ShownBy d (a ∷ past) t s
 unshowing-by d past a t s quiet h = unshowing-shown past a t quiet ∙ unshowing-says s (shown past t) d past a t quiet h
 
 -- an act of another transaction
@@ -109,9 +112,12 @@ abbrev pub OthersShown : DocumentData → List Act → TxId → Type 0
 OthersShown d past u = (t : TxId) (s : ScriptData) → u ≢ t → script_of t d.scripts ≡ Some s → ShownBy d past t s
 
 -- so do such acts
-pub unshowing-all : (d : DocumentData) (past acts : List Act) → list_all is_unshowing acts ≡ true → AllShown d past → AllShown d (after past acts)
+pub unshowing-all : (d : DocumentData) (past acts : List Act) → list_all is_unshowing acts ≡ true → AllShown d past
+    → AllShown d (after past acts)
 unshowing-all d past [] quiet all = all
-unshowing-all d past (a ∷ acts) quiet all = unshowing-all d (a ∷ past) acts (grind (arith, quiet)) (λ t s e. unshowing-by d past a t s (grind (arith, quiet)) (all t s e))
+unshowing-all d past (a ∷ acts) quiet all =
+    unshowing-all d (a ∷ past) acts (grind (arith, quiet))
+    (λ t s e. unshowing-by d past a t s (grind (arith, quiet)) (all t s e))
 
 -- ---- the values of each transaction are taken in the order of its script
 

@@ -46,21 +46,29 @@ meant-more : (a : Act) (past : List Act) (t : TxId) (o : Option Story) → Meant
 meant-more a past t None h = tt
 meant-more a past t (Some x) h = (λ e. given-more a past t (h.0 e), λ e. given-more a past t (h.1 e))
 
-meant-told : (d : DocumentData) (past now : List Act) (a : Act) (t : TxId) → now ≡ a ∷ past → Meant now t (story d past t) → Meant now t (story d (a ∷ past) t)
-meant-told d past now (act.Began u n sid0) t at k = else-claim (Meant now t) (u == t) (Some (begun sid0)) (story d past t) (λ same. (λ e. cc, λ e. cc)) k
+meant-told : (d : DocumentData) (past now : List Act) (a : Act) (t : TxId) → now ≡ a ∷ past
+    → Meant now t (story d past t) → Meant now t (story d (a ∷ past) t)
+meant-told d past now (act.Began u n sid0) t at k =
+    else-claim (Meant now t) (u == t) (Some (begun sid0)) (story d past t) (λ same. (λ e. cc, λ e. cc)) k
 meant-told d past now (act.Sent m x y said) t at k = asked-claim (Meant now t) (λ j x i. i) d t said (story d past t) k
 meant-told d past now (act.Got m) t at k =
-    got-claim (Meant now t) (hears-any (Meant now t) (λ vs x i. i) (λ ns x i. i)) d past (script_of t d.scripts) (sent_at m (sent past)) (story d past t) k
+    got-claim (Meant now t) (hears-any (Meant now t) (λ vs x i. i) (λ ns x i. i)) d past (script_of t d.scripts)
+    (sent_at m (sent past)) (story d past t) k
 meant-told d past now (act.Taken u j sid v) t at k = if-claim (Meant now t) (u == t) _ (story d past t) (λ e x i. i) k
 meant-told d past now (act.Finished u) t at k = if-claim (Meant now t) (u == t) _ (story d past t) (λ e x i. i) k
-meant-told d past now (act.Aborted u n why) t at k = if-claim (Meant now t) (u == t) _ (story d past t) (λ e x i. (i.0, λ f. rw at (or_left (u == t) (is_given_up t past) e))) k
-meant-told d past now (act.Lost u) t at k = if-claim (Meant now t) (u == t) _ (story d past t) (λ e x i. (λ f. rw at (or_left (u == t) (is_given_up t past) e), i.1)) k
+meant-told d past now (act.Aborted u n why) t at k =
+    if-claim (Meant now t) (u == t) _ (story d past t)
+    (λ e x i. (i.0, λ f. rw at (or_left (u == t) (is_given_up t past) e))) k
+meant-told d past now (act.Lost u) t at k =
+    if-claim (Meant now t) (u == t) _ (story d past t)
+    (λ e x i. (λ f. rw at (or_left (u == t) (is_given_up t past) e), i.1)) k
 meant-told d past now (act.Down n h) t at k = if-claim (Meant now t) (is_home d t n) _ (story d past t) (λ e x i. i) k
 meant-told d past now a t at k = k
 
 flags-meant : (d : DocumentData) (past : List Act) (t : TxId) → Meant past t (story d past t)
 flags-meant d [] t = tt
-flags-meant d (a ∷ past) t = meant-told d past (a ∷ past) a t refl (meant-more a past t (story d past t) (flags-meant d past t))
+flags-meant d (a ∷ past) t =
+    meant-told d past (a ∷ past) a t refl (meant-more a past t (story d past t) (flags-meant d past t))
 
 -- ---- a part that asks has a Prepared
 

@@ -68,11 +68,15 @@ AllTold d past = (t : TxId) (s : ScriptData) → script_of t d.scripts ≡ Some 
 abbrev pub OthersTold : DocumentData → List Act → TxId → Type 0
 OthersTold d past u = (t : TxId) (s : ScriptData) → u ≢ t → script_of t d.scripts ≡ Some s → is_told s (story d past t) ≡ true
 
-pub untaking-all : (d : DocumentData) (past acts : List Act) → list_all is_untaking acts ≡ true → AllTold d past → AllTold d (after past acts)
+pub untaking-all : (d : DocumentData) (past acts : List Act) → list_all is_untaking acts ≡ true → AllTold d past
+    → AllTold d (after past acts)
 untaking-all d past [] free all = all
-untaking-all d past (a ∷ acts) free all = untaking-all d (a ∷ past) acts (grind (arith, free)) (λ t s e. untaking-told s d past a t (grind (arith, free)) (all t s e))
+untaking-all d past (a ∷ acts) free all =
+    untaking-all d (a ∷ past) acts (grind (arith, free))
+    (λ t s e. untaking-told s d past a t (grind (arith, free)) (all t s e))
 
-pub untaking-others : (d : DocumentData) (past : List Act) (a : Act) (u : TxId) → is_untaking a ≡ true → OthersTold d past u → OthersTold d (a ∷ past) u
+pub untaking-others : (d : DocumentData) (past : List Act) (a : Act) (u : TxId) → is_untaking a ≡ true
+    → OthersTold d past u → OthersTold d (a ∷ past) u
 untaking-others d past a u free others t s other e = untaking-told s d past a t free (others t s other e)
 
 pub all-from : (d : DocumentData) (past : List Act) (u : TxId) (s : ScriptData) → script_of u d.scripts ≡ Some s → is_told s (story d past u) ≡ true → OthersTold d past u → AllTold d past

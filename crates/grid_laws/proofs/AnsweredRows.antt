@@ -34,7 +34,8 @@ use Rattle.grid_laws.proofs.Answered.{is_told, untaking-all, or-true, AllTold, O
 abbrev is_unrecorded : Act → Bool
 is_unrecorded a = is_none (head_of a)
 
-kept-step : (n : NodeId) (o : Out) (os : List Out) → on_act is_unrecorded o ≡ true → broken n os ≡ os → broken n (o ∷ os) ≡ o ∷ os
+kept-step : (n : NodeId) (o : Out) (os : List Out) → on_act is_unrecorded o ≡ true → broken n os ≡ os
+    → broken n (o ∷ os) ≡ o ∷ os
 kept-step n (out.Send to said) os none same = ap (λ z. out.Send to said ∷ z) same
 kept-step n (out.Act a) os none same = grind (arith, none, same)
 
@@ -45,9 +46,11 @@ broken-unrecorded n (o ∷ os) none =
     kept-step n o os both.0 (broken-unrecorded n os both.1)
 
 -- Advance stops in no record
-pub advance-kept : (c : ClusterData) (x : Open) (i : ℕ) (b : Bool) (n : NodeId) → kept b n (advance c x i) ≡ advance c x i
+pub advance-kept : (c : ClusterData) (x : Open) (i : ℕ) (b : Bool) (n : NodeId)
+    → kept b n (advance c x i) ≡ advance c x i
 advance-kept c x i true n = refl
-advance-kept c x i false n = broken-unrecorded n (advance c x i) (pass-advance is_unrecorded (λ t j v. refl) (λ t. refl) c x i)
+advance-kept c x i false n =
+    broken-unrecorded n (advance c x i) (pass-advance is_unrecorded (λ t j v. refl) (λ t. refl) c x i)
 
 -- ---- what stands at the end
 
@@ -71,7 +74,9 @@ told-end d now m n s x None false is at others e u =
 
 told-owns : (d : DocumentData) (now : List Act) (m : ℕ) (n : NodeId) (s : ScriptData) (x : Story) (ys : List (ℕ × Value)) (rest : List Out) → story d now s.number ≡ Some x → OthersTold d now s.number → ((now : List Act) → story d now s.number ≡ Some x → OthersTold d now s.number → AllTold d (after now (numbered m n rest))) → AllTold d (after now (numbered m n (map (λ y. out.Act (act.Own s.number y.0 y.1)) ys ++ rest)))
 told-owns d now m n s x [] rest at others go = go now at others
-told-owns d now m n s x (y ∷ ys) rest at others go = told-owns d (act.Own s.number y.0 y.1 ∷ now) m n s x ys rest at (untaking-others d now (act.Own s.number y.0 y.1) s.number refl others) go
+told-owns d now m n s x (y ∷ ys) rest at others go =
+    told-owns d (act.Own s.number y.0 y.1 ∷ now) m n s x ys rest at
+    (untaking-others d now (act.Own s.number y.0 y.1) s.number refl others) go
 
 pub told-advance : (d : DocumentData) (now : List Act) (m : ℕ) (n : NodeId) (b : Bool) (s : ScriptData) (x : Story) (i : ℕ) → script_of s.number d.scripts ≡ Some s → story d now s.number ≡ Some x → OthersTold d now s.number → AllTold d (after now (numbered m n (kept b n (advance d.cluster (open_of s x) i))))
 told-advance d now m n b s x i is at others =

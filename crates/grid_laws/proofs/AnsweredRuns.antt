@@ -67,7 +67,8 @@ pub answer-reply : (P : List Act → Type 0) (m : ℕ) (n x : NodeId) (b : Bool)
     → ((y : Open) → stage v q.t ≡ Reads y q.op → P (numbered m n (kept b n (out.Act (act.Taken q.t q.op q.sid q.value) ∷ advance v.cluster (with_reply q y) q.op))))
     → P (numbered m n (kept b n (answer n v x (message.ReadRep q))))
 answer-reply P m n x b v q none go =
-    if-outs P m n b (is_fit_at n (participant v) (stage v q.t) x (message.ReadRep q)) (reply_row v.cluster q (stage v q.t)) none
+    if-outs P m n b (is_fit_at n (participant v) (stage v q.t) x (message.ReadRep q))
+    (reply_row v.cluster q (stage v q.t)) none
     (λ fit. reply-outs P v.cluster m n b q (stage v q.t) none go)
 
 told-answer : (d : DocumentData) (past : List Act) (k m : ℕ) (n x : NodeId) (b : Bool) (said : Message) (c : Bool) → is_reply said ≡ c → sent_at k (sent past) ≡ Some (record { from = x; to = n; message = said }) → AllTold d (act.Got k ∷ past) → AllTold d (after (act.Got k ∷ past) (numbered m n (kept b n (answer n (view d past n) x said))))
@@ -77,7 +78,9 @@ told-answer d past k m n x b (message.ReadRep q) c quiet is all =
     answer-reply (λ acts. AllTold d (after now acts)) m n x b (view d past n) q all
     (λ y reads. told-taken d now m n b q y (Some q.op) (opens-reads d now n q.t y q.op (same ∙ reads)) all)
 told-answer d past k m n x b said true quiet is all = cc
-told-answer d past k m n x b said false quiet is all = untaking-all d (act.Got k ∷ past) (numbered m n (kept b n (answer n (view d past n) x said))) (untaking-acts m n b (answer n (view d past n) x said) (untaking-answer n (view d past n) x said quiet)) all
+told-answer d past k m n x b said false quiet is all =
+    untaking-all d (act.Got k ∷ past) (numbered m n (kept b n (answer n (view d past n) x said)))
+    (untaking-acts m n b (answer n (view d past n) x said) (untaking-answer n (view d past n) x said quiet)) all
 
 -- ---- a begin
 
@@ -86,14 +89,17 @@ told-begin d past m b s is all =
     let sid0 : Ident = commit_id (journal d past s.home) in
     let now : List Act = act.Began s.number s.home sid0 ∷ past in
     let T : List Act → Type 0 = λ acts. AllTold d (after past acts) in
-    subst T (sym (kept-first m s.home b (act.Began s.number s.home sid0) (advance d.cluster (open_of s (begun sid0)) 0) refl))
+    subst T
+    (sym (kept-first m s.home b (act.Began s.number s.home sid0) (advance d.cluster (open_of s (begun sid0)) 0) refl))
     (told-advance d now m s.home b s (begun sid0) 0 is (story-began d past s.number s.home sid0) (λ t w other e. other-told w d past (act.Void 0) s.number t s.home sid0 other (all t w e)))
 
 -- ---- the shapes of an event
 
 told-restart : (d : DocumentData) (past : List Act) (n : NodeId) (f : Flag) (opens : Bool) → AllTold d past
     → AllTold d (after past (if opens then opened_row d past n f else act.StillDown n ∷ []))
-told-restart d past n f true all = untaking-all d past (opened_row d past n f) (untaking-losses d (act.Up n f ∷ past) n (number_order (script_numbers d.scripts))) all
+told-restart d past n f true all =
+    untaking-all d past (opened_row d past n f)
+    (untaking-losses d (act.Up n f ∷ past) n (number_order (script_numbers d.scripts))) all
 told-restart d past n f false all = all
 
 told-shape : (d : DocumentData) (past : List Act) (i : Item) (c : Choice) → AllTold d past → (s : Shape d past i)
@@ -103,8 +109,12 @@ told-shape d past i c all (arms n k how is) = all
 told-shape d past i c all (crashes n up) = λ t s e. untaking-told s d past (act.Down n None) t refl (all t s e)
 told-shape d past i c all (restarts n up) = told-restart d past n (flag_of (node d past n).doubt c.finds) c.opens all
 told-shape d past i c all (begins s is new up) = told-begin d past (next_number past) c.keeps s is all
-told-shape d past i c all (delivers m e is up) = told-answer d past m (next_number past) e.to e.from c.keeps e.message (is_reply e.message) refl is (λ t s f. untaking-told s d past (act.Got m) t refl (all t s f))
-told-shape d past i c all (again n os up is) = untaking-all d past (acts_of past c n os) (untaking-acts (next_number past) n c.keeps os (pass-again is_untaking d past n os is)) all
+told-shape d past i c all (delivers m e is up) =
+    told-answer d past m (next_number past) e.to e.from c.keeps e.message (is_reply e.message) refl is
+    (λ t s f. untaking-told s d past (act.Got m) t refl (all t s f))
+told-shape d past i c all (again n os up is) =
+    untaking-all d past (acts_of past c n os)
+    (untaking-acts (next_number past) n c.keeps os (pass-again is_untaking d past n os is)) all
 
 -- an event leaves all told
 pub told-row : (d : DocumentData) (past : List Act) (e : Item) (c : Choice) → AllTold d past → AllTold d (after past (row d past e c))

@@ -345,7 +345,8 @@ first-same false n xs ys same e = cc
 start-same : (opens : NodeId → Bool) (ns : List NodeId) → are_unfailing (map (start_act opens) ns) ≡ true
     → map (start_act opens) ns ≡ map (start_act (λ n. true)) ns
 start-same opens [] e = refl
-start-same opens (n ∷ ns) e = first-same (opens n) n (map (start_act opens) ns) (map (start_act (λ m. true)) ns) (start-same opens ns) e
+start-same opens (n ∷ ns) e =
+    first-same (opens n) n (map (start_act opens) ns) (map (start_act (λ m. true)) ns) (start-same opens ns) e
 
 start-unfailing : (ns : List NodeId) → are_unfailing (map (start_act (λ n. true)) ns) ≡ true
 start-unfailing [] = refl

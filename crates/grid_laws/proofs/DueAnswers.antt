@@ -69,7 +69,9 @@ due-reply d past n m y q w e got fit = tt
 
 -- ---- a vote
 
-pub phase-collecting : (d : DocumentData) (past : List Act) (n : NodeId) (s : ScriptData) (x : Story) → is_open (phase_at s (Some x) (node d past n)) ≡ true → waiting s.ops x.progress.values ≡ None → phase_at s (Some x) (node d past n) ≡ Collecting
+pub phase-collecting : (d : DocumentData) (past : List Act) (n : NodeId) (s : ScriptData) (x : Story)
+    → is_open (phase_at s (Some x) (node d past n)) ≡ true → waiting s.ops x.progress.values ≡ None
+    → phase_at s (Some x) (node d past n) ≡ Collecting
 phase-collecting d past n s x unended full = grind (arith, unended, full)
 
 abbrev with_yes : NodeId → Ident → Story → Story

@@ -52,8 +52,12 @@ keeps-full d past now n t s sid values f (Some y) e k =
 keeps-self : (d : DocumentData) (past : List Act) (t : TxId) (x : Story) → story d past t ≡ Some x → Keeps x (story d past t)
 keeps-self d past t x e = let P : Option Story → Type 0 = λ o. Keeps x o in subst P (sym e) (refl, refl, refl)
 
-untaking-full : (d : DocumentData) (past : List Act) (a : Act) (n : NodeId) (t : TxId) (s : ScriptData) (sid : Ident) (values : List (ℕ × Value)) → is_untaking a ≡ true → Full d past n t s sid values → Full d (a ∷ past) n t s sid values
-untaking-full d past a n t s sid values calm f = keeps-full d past (a ∷ past) n t s sid values f (story d (a ∷ past) t) refl (untaking-keeps f.story d past a t calm (keeps-self d past t f.story f.at.story))
+untaking-full : (d : DocumentData) (past : List Act) (a : Act) (n : NodeId) (t : TxId) (s : ScriptData) (sid : Ident)
+    (values : List (ℕ × Value))
+    → is_untaking a ≡ true → Full d past n t s sid values → Full d (a ∷ past) n t s sid values
+untaking-full d past a n t s sid values calm f =
+    keeps-full d past (a ∷ past) n t s sid values f (story d (a ∷ past) t) refl
+    (untaking-keeps f.story d past a t calm (keeps-self d past t f.story f.at.story))
 
 if-other : (x : Story) (b : Bool) (f : Story → Story) (o : Option Story) → b ≡ false → Keeps x o → Keeps x (if_told b f o)
 if-other x b f None e k = k

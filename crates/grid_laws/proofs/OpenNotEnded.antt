@@ -59,25 +59,3 @@ TellSettled d past said = Unit {0}
 
 settled-more : (d : DocumentData) (past : List Act) (a : Act) (t : TxId) → IsSettled d past t → IsSettled d (a ∷ past) t
 settled-more d past a t h = elim h [ inl g ↦ inl (given-more a past t g) | inr w ↦ inr (w.0, is_decided-more d past a t w.0 w.1) ]
-
-tell-more : (d : DocumentData) (past : List Act) (a : Act) (said : Message) → TellSettled d past said → TellSettled d (a ∷ past) said
-tell-more d past a (message.Tell t outcome.Abort) h = settled-more d past a t h
-tell-more d past a said h = tt
-
-closed-settled : (d : DocumentData) (past : List Act) (n : NodeId) (t : TxId) → AllDue d past → is_closed t (journal d past n) ≡ true → IsSettled d past t
-closed-settled d past n t all e =
-    let fit = nodes-fit d past all n in
-    let x = closed-decided d.cluster n t (journal d past n) fit.fits e in
-    inr (x.0.final, (n, (decision-home d n t x.0 (journal d past n) fit.homes x.1).home, decision-has t x.0 (journal d past n) x.1))
-
-abort-settled : (d : DocumentData) (past : List Act) (n y : NodeId) (t : TxId) → AllDue d past → AbortDue d past n y t → IsSettled d past t
-abort-settled d past n y t all (given_up h) = inl h
-abort-settled d past n y t all (apart got is) = elim (apart-gone d past n y t all got is) [ inl g ↦ inl g | inr c ↦ closed-settled d past n t all c ]
-
-tell-due : (d : DocumentData) (past : List Act) (n y : NodeId) (said : Message) → AllDue d past → SendDue d past n y said → TellSettled d past said
-tell-due d past n y (message.Tell t outcome.Abort) all due = abort-settled d past n y t all due
-tell-due d past n y said all due = tt
-
--- of an abort that was told
-abort-sent : (d : DocumentData) (past : List Act) → AllDue d past → (m : ℕ) (x y : NodeId) (t : TxId) → sent_at m (sent past) ≡ Some (record { from = x; to = y; message = message.Tell t outcome.Abort }) → IsSettled d past t
-abort-sent d past due m x y t is = sent-hold (λ now n y said. TellSettled d now said) d past (λ now a n y said all h. tell-more d now a said h) (λ now n y said all h. tell-due d now n y said all h) due m (record { from = x; to = y; message = message.Tell t outcome.Abort }) is

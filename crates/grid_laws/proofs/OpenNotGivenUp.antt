@@ -97,4 +97,5 @@ open-not-given-up d past due s t is e given =
     let a = open'.aborted in
     let l = open'.lost in
     let none : (w.0.aborted || w.0.lost) ≡ false = rw (a, l) refl in
-    both_ways (w.0.aborted || w.0.lost) none (given-up-told d past due t w.0 (subst P (script-number t d.scripts s is) told) given)
+    both_ways (w.0.aborted || w.0.lost) none
+    (given-up-told d past due t w.0 (subst P (script-number t d.scripts s is) told) given)

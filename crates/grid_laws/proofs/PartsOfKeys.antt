@@ -104,7 +104,8 @@ named-part d s n k one holds' named =
     let least : 1 ≤ n = holder-least d n k one holds' in
     let low : n ≤ d.cluster.nodes = holder-most d n k one holds' in
     let most : d.cluster.nodes ≤ 16 = one.document.cluster.most in
-    filter-range (λ m. list_any (holds d.cluster.places m) (keys_of s.ops)) n 1 16 least (omega arith) (any-among (holds d.cluster.places n) k (keys_of s.ops) holds' (distinct-among k [] (keys_named s.ops) refl named))
+    filter-range (λ m. list_any (holds d.cluster.places m) (keys_of s.ops)) n 1 16 least (omega arith)
+    (any-among (holds d.cluster.places n) k (keys_of s.ops) holds' (distinct-among k [] (keys_named s.ops) refl named))
 
 -- the same, for the parts of the transaction
 pub named-part-at : (d : DocumentData) (t : TxId) (s : ScriptData) (n : NodeId) (k : Key) → IsOne d → script_of t d.scripts ≡ Some s → IsTrue (holds d.cluster.places n k) → is_key_among k (keys_named s.ops) ≡ true → is_among n (parts_at d t) ≡ true

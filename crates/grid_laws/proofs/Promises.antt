@@ -129,7 +129,8 @@ pub record IsSafeRead (d : DocumentData) (past : List Act) (n : NodeId) (sid : I
   pub covered : IsCovered (node d past n) sid
   pub free : IsFree (node d past n) sid
 
-kept-more : (d : DocumentData) (past : List Act) (a : Act) (n : NodeId) (sid : Ident) → AllDue d (a ∷ past) → IsSafeRead d past n sid → IsSafeRead d (a ∷ past) n sid
+kept-more : (d : DocumentData) (past : List Act) (a : Act) (n : NodeId) (sid : Ident) → AllDue d (a ∷ past)
+    → IsSafeRead d past n sid → IsSafeRead d (a ∷ past) n sid
 kept-more d past a n sid due k =
     record {
       covered = covered-changed (node d past n) (change d (got past) a n) sid k.covered;
@@ -140,7 +141,8 @@ may-covered : (d : DocumentData) (past : List Act) (n : NodeId) (h : HeldRead) �
 may-covered d past n h due (at_once asked cover) = record { floor = cover.floor; next = λ e. cover.next }
 may-covered d past n h due (held i) = ever-covered d past due n h i
 
-kept-now : (d : DocumentData) (past : List Act) (n : NodeId) (h : HeldRead) (vn : Ident) (v : Value) → AllDue d past → ServeDue d past n h vn v → IsSafeRead d past n h.sid
+kept-now : (d : DocumentData) (past : List Act) (n : NodeId) (h : HeldRead) (vn : Ident) (v : Value) → AllDue d past
+    → ServeDue d past n h vn v → IsSafeRead d past n h.sid
 kept-now d past n h vn v all due =
     let P : Option Record → Type 0 = λ o. OverDoubt h.sid o in
     record {
@@ -148,7 +150,8 @@ kept-now d past n h vn v all due =
       free = record { clear = due.clear; doubt = subst P (sym ((nodes-fit d past all n).quiet due.up)) tt };
     }
 
-above-at : (d : DocumentData) (past : List Act) (m n : NodeId) (t : TxId) (p sid : Ident) (b : Bool) → (m == n) ≡ b → RecordDue d past m (head.Prepared t p) → IsSafeRead d past n sid → (if b then nat_lt sid p else true) ≡ true
+above-at : (d : DocumentData) (past : List Act) (m n : NodeId) (t : TxId) (p sid : Ident) (b : Bool) → (m == n) ≡ b
+    → RecordDue d past m (head.Prepared t p) → IsSafeRead d past n sid → (if b then nat_lt sid p else true) ≡ true
 above-at d past m n t p sid false here due k = refl
 above-at d past m n t p sid true here due k =
     let same : m ≡ n = grind (arith, nat_tests) in
@@ -161,7 +164,8 @@ above-at d past m n t p sid true here due k =
     over-max : (s a b : ℕ) → s ≤ a → nat_lt s (1 + max a b) ≡ true
     over-max s a b le = grind (arith, nat_tests, le)
 
-above-more : (d : DocumentData) (past : List Act) (a : Act) (n : NodeId) (sid : Ident) (later : List Act) → IsDue d past a → IsSafeRead d past n sid → are_above n sid later ≡ true → are_above n sid (a ∷ later) ≡ true
+above-more : (d : DocumentData) (past : List Act) (a : Act) (n : NodeId) (sid : Ident) (later : List Act)
+    → IsDue d past a → IsSafeRead d past n sid → are_above n sid later ≡ true → are_above n sid (a ∷ later) ≡ true
 above-more d past (act.Prepared m t p) n sid later due k h = rw (above-at d past m n t p sid (m == n) refl due k) h
 above-more d past (act.Down m (Some (head.Prepared t p))) n sid later due k h = rw (above-at d past m n t p sid (m == n) refl due k) h
 above-more d past a n sid later due k h = h
@@ -170,7 +174,8 @@ record KeptLater (d : DocumentData) (past : List Act) (n : NodeId) (sid : Ident)
   kept : IsSafeRead d (later ++ past) n sid
   above : are_above n sid later ≡ true
 
-kept-later : (d : DocumentData) (past : List Act) (n : NodeId) (sid : Ident) (later : List Act) → AllDue d (later ++ past) → IsSafeRead d past n sid → KeptLater d past n sid later
+kept-later : (d : DocumentData) (past : List Act) (n : NodeId) (sid : Ident) (later : List Act)
+    → AllDue d (later ++ past) → IsSafeRead d past n sid → KeptLater d past n sid later
 kept-later d past n sid [] due k = record { kept = k; above = refl }
 kept-later d past n sid (a ∷ later) due k =
     let h : KeptLater d past n sid later = kept-later d past n sid later due.1 k in

@@ -397,7 +397,8 @@ pass-losses f d past n [] h = refl
 pass-losses f d past n (t ∷ ts) h =
     let rest : List Act = flat_map (λ u. lost_at d past n (script_of u d.scripts)) ts in
     list_all-append f (lost_at d past n (script_of t d.scripts)) rest
-    ∙ and_from (list_all f (lost_at d past n (script_of t d.scripts))) (list_all f rest) (pass-loss f d past n (script_of t d.scripts) h) (pass-losses f d past n ts h)
+    ∙ and_from (list_all f (lost_at d past n (script_of t d.scripts))) (list_all f rest)
+    (pass-loss f d past n (script_of t d.scripts) h) (pass-losses f d past n ts h)
 
 -- the nodes at the start
 pub pass-starts : (f : Act → Bool) (opens : NodeId → Bool) (ns : List NodeId)

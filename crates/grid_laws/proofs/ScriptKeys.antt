@@ -124,7 +124,8 @@ any-distinct p seen (k ∷ ks) h = go (is_key_among k seen) h (λ s e. any-disti
       | inr later ↦ or_right (p k) (list_any p ks) (more (k ∷ seen) later)
     ]
 
-pub any-among : (p : Key → Bool) (k : Key) (ks : List Key) → p k ≡ true → is_key_among k ks ≡ true → list_any p ks ≡ true
+pub any-among : (p : Key → Bool) (k : Key) (ks : List Key) → p k ≡ true → is_key_among k ks ≡ true
+    → list_any p ks ≡ true
 any-among p k [] h e = cc
 any-among p k (x ∷ ks) h e = elim (or_cases (same_key k x) (is_key_among k ks) e) [
   | inl same ↦ or_left (p x) (list_any p ks) (subst (λ (y : Key). p y ≡ true) (same_key-is k x same) h)

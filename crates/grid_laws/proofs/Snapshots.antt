@@ -49,7 +49,9 @@ taken-of N Q d past u t op sid v true (Some x) e told due go k =
 
 -- the claim stays, where it holds of a story that begins and of one that takes a value
 pub of-more : (N : Type 0) (Q : Option Ident → List (ℕ × Value) → Type 0) (d : DocumentData) (past : List Act) (a : Act) (t : TxId) → (N → Q None []) → ((op : ℕ) (sid : Ident) (v : Value) (w : TakenDue d past t op sid v) → Q w.story.progress.sid w.story.progress.values → Q (Some (first_sid w.story.progress.sid sid)) (w.story.progress.values ++ (op, v) ∷ [])) → AllDue d (a ∷ past) → OfStory N Q (story d past t) → OfStory N Q (story d (a ∷ past) t)
-of-more N Q d past (act.Began u n sid0) t began taken due k = else-claim (OfStory N Q) (u == t) (Some (begun sid0)) (story d past t) (λ e. began-of N Q d past u t n sid0 due.0 began k e) k
+of-more N Q d past (act.Began u n sid0) t began taken due k =
+    else-claim (OfStory N Q) (u == t) (Some (begun sid0)) (story d past t)
+    (λ e. began-of N Q d past u t n sid0 due.0 began k e) k
 of-more N Q d past (act.Taken u op sid v) t began taken due k = taken-of N Q d past u t op sid v (u == t) (story d past t) refl refl due.0 (taken op sid v) k
 of-more N Q d past a t began taken due k = untaking-claim (OfStory N Q) (of-stays N Q) d past a t refl k
 

@@ -27,14 +27,6 @@ pub at-put : {A : Type 0} (k : ℕ) (a : A) (xs : List (ℕ × A)) → at_key k 
 at-put k a [] = grind (arith, nat_tests)
 at-put k a (x ∷ xs) = grind (arith, nat_tests, at-put k a xs)
 
-pub put-put : {A : Type 0} (k : ℕ) (a b : A) (xs : List (ℕ × A)) → put_key k b (put_key k a xs) ≡ put_key k b xs
-put-put k a b [] = grind (arith, nat_tests)
-put-put k a b (x ∷ xs) = grind (arith, nat_tests, put-put k a b xs)
-
-pub put-same : {A : Type 0} (k : ℕ) (a : A) (xs : List (ℕ × A)) → at_key k xs ≡ Some a → put_key k a xs ≡ xs
-put-same k a [] e = grind arith
-put-same k a (x ∷ xs) e = grind (arith, nat_tests, put-same k a xs)
-
 pub put-other : {A : Type 0} (k j : ℕ) (a : A) (xs : List (ℕ × A)) → k ≢ j → at_key k (put_key j a xs) ≡ at_key k xs
 put-other k j a [] e = grind (arith, nat_tests)
 put-other k j a (x ∷ xs) e = grind (arith, nat_tests, put-other k j a xs)

@@ -49,16 +49,6 @@ among-filter p k (x ∷ ks) = go (p x) same (among-filter p k ks)
 
 -- ---- the Prepare for a node
 
--- a key is read there where it is read remotely and the node holds it
-pub prepare-reads : (c : ClusterData) (x : Open) (n : NodeId) (k : Key) → is_key_among k (prepare_for c x n).reads ≡ (is_key_among k (remote_keys [] x.script.ops) && holds c.places n k)
-prepare-reads c x n k = among-filter (holds c.places n) k (remote_keys [] x.script.ops)
-
--- a key is written there where it is written and the node holds it
-pub prepare-keys : (c : ClusterData) (x : Open) (n : NodeId) (k : Key) → is_key_among k (keys_in (prepare_for c x n).writes) ≡ (is_key_among k (written_keys [] x.script.ops) && holds c.places n k)
-prepare-keys c x n k =
-    ap (is_key_among k) (with_values-keys (own_map x.script.ops x.progress.values) (filter (holds c.places n) (written_keys [] x.script.ops)))
-    ∙ among-filter (holds c.places n) k (written_keys [] x.script.ops)
-
 -- with the value that the transaction wrote last
 pub prepare-value : (c : ClusterData) (x : Open) (n : NodeId) (k : Key) → written_value k (prepare_for c x n).writes ≡ (if is_key_among k (written_keys [] x.script.ops) && holds c.places n k then Some (own_map x.script.ops x.progress.values k) else None)
 prepare-value c x n k =

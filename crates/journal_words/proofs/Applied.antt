@@ -103,28 +103,13 @@ applied-grows c n t f y r fit h =
     let a = and_parts (has_pair t f (commits r)) (is_clear f r) (sym (applied-is t f r) ∙ h) in
     applied-is t f (y ∷ r) ∙ and_from (has_pair t f (commits (y ∷ r))) (is_clear f (y ∷ r)) (commits-grow t f y r a.0) (clear-more f y r (commit-under c n t f y r fit a.0) a.1)
 
-pub applied-later : (c : ClusterData) (n : NodeId) (t : TxId) (f : Ident) (s r : List Record) → all_fit c n (s ++ r) ≡ true → has_pair t f (applied r) ≡ true → has_pair t f (applied (s ++ r)) ≡ true
-applied-later c n t f [] r fit h = h
-applied-later c n t f (y ∷ s) r fit h = applied-grows c n t f y (s ++ r) (newest-fits c n y (s ++ r) fit) (applied-later c n t f s r (rest-fits c n y (s ++ r) fit) h)
-
 -- below every pending proposal nothing is applied anew
 pub applied-below : (c : ClusterData) (n : NodeId) (s : Ident) (t : TxId) (f : Ident) (y : Record) (r : List Record) → all_fit c n (y ∷ r) ≡ true → is_clear s r ≡ true → f ≤ s → has_pair t f (applied (y ∷ r)) ≡ true → has_pair t f (applied r) ≡ true
 applied-below c n s t f y r fit clear le h =
     let a = and_parts (has_pair t f (commits (y ∷ r))) (is_clear f (y ∷ r)) (sym (applied-is t f (y ∷ r)) ∙ h) in
     applied-is t f r ∙ and_from (has_pair t f (commits r)) (is_clear f r) (commits-below c n s t f y r fit clear le a.0) (clear-below s f r le clear)
 
--- what is applied anew has a final identifier at or above a pending proposal
-pub applied-anew : (c : ClusterData) (n : NodeId) (t : TxId) (f : Ident) (y : Record) (r : List Record) → all_fit c n (y ∷ r) ≡ true → has_pair t f (applied (y ∷ r)) ≡ true → has_pair t f (applied r) ≡ false → IsHeldBy f r
-applied-anew c n t f y r fit h new = elim (cases_Bool (is_clear f r)) [
-  | inl clear ↦ absurd (let old = applied-below c n f t f y r fit clear (omega arith) h in grind (arith, old, new))
-  | inr held ↦ not-clear c n f r (rest-fits c n y r fit) held
-]
-
 -- ---- the commit identifier
-
-pub greatest-bound : (t : TxId) (f : Ident) (xs : List (TxId × Ident)) → has_pair t f xs ≡ true → f ≤ greatest xs
-greatest-bound t f [] h = absurd (grind (arith, h))
-greatest-bound t f (x ∷ xs) h = grind (arith, nat_tests, greatest-bound t f xs)
 
 pub greatest-one : (xs : List (TxId × Ident)) → (greatest xs ≡ 0) ⊎ ((t : TxId) × (has_pair t (greatest xs) xs ≡ true))
 greatest-one [] = inl refl
@@ -139,9 +124,6 @@ greatest-one (x ∷ xs) = elim (cases_Bool (nat_lt (greatest xs) x.1)) [
         | inr one ↦ inr (one.0, (let P : Ident → Type 0 = λ g. has_pair one.0 g (x ∷ xs) ≡ true in subst P (sym is) (or_right (x.0 == one.0 && x.1 == greatest xs) (has_pair one.0 (greatest xs) xs) one.1)))
       ]
 ]
-
-pub applied-commit_id : (t : TxId) (f : Ident) (r : List Record) → has_pair t f (applied r) ≡ true → f ≤ commit_id r
-applied-commit_id t f r h = greatest-bound t f (applied r) h
 
 pub zero-clear : (c : ClusterData) (n : NodeId) (r : List Record) → all_fit c n r ≡ true → is_clear 0 r ≡ true
 zero-clear c n [] fit = refl
@@ -158,25 +140,8 @@ commit_id-clear c n r fit = elim (greatest-one (applied r)) [
   | inr one ↦ (applied-says c n one.0 (commit_id r) r fit one.1).clear
 ]
 
-pub commit_id-pending : (c : ClusterData) (n : NodeId) (t : TxId) (p : Ident) (r : List Record) → all_fit c n r ≡ true → pending t r ≡ Some p → commit_id r < p
-commit_id-pending c n t p r fit h = clear-pending (commit_id r) t p r (commit_id-clear c n r fit) h
-
 pub commit_id-floor : (r : List Record) → commit_id r ≤ floor r
 commit_id-floor r = elim (greatest-one (applied r)) [
   | inl none ↦ (let e : commit_id r ≡ 0 = none in omega arith)
   | inr one ↦ applied-floor one.0 (commit_id r) r one.1
 ]
-
-pub commit_id-grows : (c : ClusterData) (n : NodeId) (y : Record) (r : List Record) → fits c n r y ≡ true → commit_id r ≤ commit_id (y ∷ r)
-commit_id-grows c n y r fit = elim (greatest-one (applied r)) [
-  | inl none ↦ (let e : commit_id r ≡ 0 = none in omega arith)
-  | inr one ↦ applied-commit_id one.0 (commit_id r) (y ∷ r) (applied-grows c n one.0 (commit_id r) y r fit one.1)
-]
-
-pub commit_id-later : (c : ClusterData) (n : NodeId) (s r : List Record) → all_fit c n (s ++ r) ≡ true → commit_id r ≤ commit_id (s ++ r)
-commit_id-later c n [] r fit = omega arith
-commit_id-later c n (y ∷ s) r fit = omega (arith, commit_id-later c n s r (rest-fits c n y (s ++ r) fit), commit_id-grows c n y (s ++ r) (newest-fits c n y (s ++ r) fit))
-
--- each commit up to it is applied
-pub commit-applied : (c : ClusterData) (n : NodeId) (t : TxId) (f : Ident) (r : List Record) → all_fit c n r ≡ true → ended t r ≡ Some (outcome.Commit f) → f ≤ commit_id r → has_pair t f (applied r) ≡ true
-commit-applied c n t f r fit e le = clear-applied (commit_id r) t f r e (commit_id-clear c n r fit) le

@@ -24,34 +24,13 @@ abbrev pub closes : TxId → Record → Bool
 closes t (record'.Closed u) = u == t
 closes t y = false
 
-pub decision-other : (t : TxId) (y : Record) (r : List Record) → decides t y ≡ false → decision t (y ∷ r) ≡ decision t r
-decision-other t (record'.Decided u f parts) r h = rw h refl
-decision-other t y r h = refl
-
-pub closed-other : (t : TxId) (y : Record) (r : List Record) → decides t y ≡ false → closes t y ≡ false → is_closed t (y ∷ r) ≡ is_closed t r
-closed-other t (record'.Decided u f parts) r h k = rw h refl
-closed-other t (record'.Closed u) r h k = rw k refl
-closed-other t y r h k = refl
-
-pub undone-other : (t : TxId) (y : Record) (r : List Record) → decides t y ≡ false → closes t y ≡ false → undone t (y ∷ r) ≡ undone t r
-undone-other t y r h k = rw (closed-other t y r h k, decision-other t y r h) refl
-
 -- a Decided
 pub decided-here : (t : TxId) (f : Ident) (parts : List NodeId) (r : List Record) → decision t (record'.Decided t f parts ∷ r) ≡ Some (record { final = f; parts = parts })
 decided-here t f parts r = (let self : t == t ≡ true = grind (arith, nat_tests) in rw self refl)
 
-pub decided-open : (t : TxId) (f : Ident) (parts : List NodeId) (r : List Record) → is_closed t (record'.Decided t f parts ∷ r) ≡ false
-decided-open t f parts r = (let self : t == t ≡ true = grind (arith, nat_tests) in rw self refl)
-
-pub decided-undone : (t : TxId) (f : Ident) (parts : List NodeId) (r : List Record) → undone t (record'.Decided t f parts ∷ r) ≡ Some (record { final = f; parts = parts })
-decided-undone t f parts r = rw (decided-open t f parts r) (decided-here t f parts r)
-
 -- a Closed
 pub closed-here : (t : TxId) (r : List Record) → is_closed t (record'.Closed t ∷ r) ≡ true
 closed-here t r = (let self : t == t ≡ true = grind (arith, nat_tests) in rw self refl)
-
-pub closed-done : (t : TxId) (r : List Record) → undone t (record'.Closed t ∷ r) ≡ None
-closed-done t r = rw (closed-here t r) refl
 
 -- ---- undone is: decided, and not closed
 
@@ -67,30 +46,15 @@ undone-says t x r h = go (is_closed t r) refl h
     go true e h = absurd (grind (arith, h))
     go false e h = record { decided = h; open' = e }
 
-pub says-undone : (t : TxId) (x : Decision) (r : List Record) → IsUndone t x r → undone t r ≡ Some x
-says-undone t x r h = (let e = h.open' in rw e h.decided)
-
--- who is not undone and has a decision is closed
-pub done-closed : (t : TxId) (x : Decision) (r : List Record) → undone t r ≡ None → decision t r ≡ Some x → is_closed t r ≡ true
-done-closed t x r h e = go (is_closed t r) refl h
-  where
-    go : (b : Bool) → is_closed t r ≡ b → (if b then None else decision t r) ≡ None → b ≡ true
-    go true is h = refl
-    go false is h = absurd (grind (arith, h, e))
-
 -- ---- what stands
 
 some-decision : (o : Option Decision) → is_some o ≡ true → (x : Decision) × (o ≡ Some x)
 some-decision None h = absurd (grind (arith, h))
 some-decision (Some x) h = (x, refl)
 
-decision-some : (t : TxId) (y : Record) (r : List Record) → is_some (decision t r) ≡ true → is_some (decision t (y ∷ r)) ≡ true
+pub decision-some : (t : TxId) (y : Record) (r : List Record) → is_some (decision t r) ≡ true → is_some (decision t (y ∷ r)) ≡ true
 decision-some t (record'.Decided u f parts) r h = grind (arith, h)
 decision-some t y r h = h
-
--- a decision stays, though a later Decided may take its place
-pub decision-grows : (t : TxId) (x : Decision) (y : Record) (r : List Record) → decision t r ≡ Some x → (x' : Decision) × (decision t (y ∷ r) ≡ Some x')
-decision-grows t x y r h = some-decision (decision t (y ∷ r)) (decision-some t y r (rw h refl))
 
 -- who is closed was decided
 pub closed-decided : (c : ClusterData) (n : NodeId) (t : TxId) (r : List Record) → all_fit c n r ≡ true → is_closed t r ≡ true → (x : Decision) × (decision t r ≡ Some x)
@@ -113,20 +77,6 @@ closed-decided c n t (record'.Decided u f parts ∷ r) fit h = elim (cases_eq u 
       (x.0, rw self x.1)
 ]
 closed-decided c n t (y ∷ r) fit h = closed-decided c n t r (rest-fits c n y r fit) h
-
--- a final identifier is at least 1
-pub decision-positive : (c : ClusterData) (n : NodeId) (t : TxId) (x : Decision) (r : List Record) → all_fit c n r ≡ true → decision t r ≡ Some x → 1 ≤ x.final
-decision-positive c n t x [] fit h = absurd (grind (arith, h))
-decision-positive c n t x (record'.Decided u f parts ∷ r) fit h =
-    go (u == t) h (decided-fits c n r u f parts (newest-fits c n (record'.Decided u f parts) r fit)).1 (decision-positive c n t x r (rest-fits c n (record'.Decided u f parts) r fit))
-  where
-    go : (b : Bool) → (if b then Some (record { final = f; parts = parts }) else decision t r) ≡ Some x → 1 ≤ f → (decision t r ≡ Some x → 1 ≤ x.final) → 1 ≤ x.final
-    go true h le rest =
-        let is : (let y : Decision = record { final = f; parts = parts } in y ≡ x) = grind (arith, h) in
-        let P : Decision → Type 0 = λ y. 1 ≤ y.final in
-        subst P is le
-    go false h le rest = rest h
-decision-positive c n t x (y ∷ r) fit h = decision-positive c n t x r (rest-fits c n y r fit) h
 
 -- ---- a Decided with a final identifier
 
@@ -153,7 +103,3 @@ has_decided-says t f r h = some-decision (decision t r) (has_decided-any t f r h
 pub has_decided-grows : (t : TxId) (f : Ident) (y : Record) (r : List Record) → has_decided t f r ≡ true → has_decided t f (y ∷ r) ≡ true
 has_decided-grows t f (record'.Decided u e parts) r h = or_right (u == t && e == f) (has_decided t f r) h
 has_decided-grows t f y r h = h
-
-pub has_decided-later : (t : TxId) (f : Ident) (s r : List Record) → has_decided t f r ≡ true → has_decided t f (s ++ r) ≡ true
-has_decided-later t f [] r h = h
-has_decided-later t f (y ∷ s) r h = has_decided-grows t f y (s ++ r) (has_decided-later t f s r h)

@@ -72,13 +72,6 @@ commit-fits c n r t f h = go (pending t r) h
     go None h = absurd (grind (arith, h))
     go (Some p) h = (p, refl, grind (arith, nat_tests, h))
 
--- the other way
-pub fits-commit : (c : ClusterData) (n : NodeId) (r : List Record) (t : TxId) (p f : Ident) → pending t r ≡ Some p → p ≤ f → fits c n r (record'.Ended t (outcome.Commit f)) ≡ true
-fits-commit c n r t p f e le = rw e (grind (arith, nat_tests))
-
-pub fits-abort : (c : ClusterData) (n : NodeId) (r : List Record) (t : TxId) (p : Ident) → pending t r ≡ Some p → fits c n r (record'.Ended t outcome.Abort) ≡ true
-fits-abort c n r t p e = rw e refl
-
 -- a Decided that fits
 pub decided-fits : (c : ClusterData) (n : NodeId) (r : List Record) (t : TxId) (f : Ident) (parts : List NodeId) → fits c n r (record'.Decided t f parts) ≡ true → (undone t r ≡ None) × (1 ≤ f)
 decided-fits c n r t f parts h =
@@ -100,11 +93,3 @@ newest-fits c n x r h = (and_parts (fits c n r x) (all_fit c n r) h).0
 
 pub rest-fits : (c : ClusterData) (n : NodeId) (x : Record) (r : List Record) → all_fit c n (x ∷ r) ≡ true → all_fit c n r ≡ true
 rest-fits c n x r h = (and_parts (fits c n r x) (all_fit c n r) h).1
-
-pub more-fits : (c : ClusterData) (n : NodeId) (x : Record) (r : List Record) → fits c n r x ≡ true → all_fit c n r ≡ true → all_fit c n (x ∷ r) ≡ true
-more-fits c n x r f h = and_from (fits c n r x) (all_fit c n r) f h
-
--- the older records fit
-pub older-fit : (c : ClusterData) (n : NodeId) (s r : List Record) → all_fit c n (s ++ r) ≡ true → all_fit c n r ≡ true
-older-fit c n [] r h = h
-older-fit c n (x ∷ s) r h = older-fit c n s r (rest-fits c n x (s ++ r) h)

@@ -22,33 +22,7 @@ floor-grows (record'.Ended u outcome.Abort) r = omega arith
 floor-grows (record'.Ceiling c) r = omega arith
 floor-grows y r = omega arith
 
-pub floor-later : (s r : List Record) → floor r ≤ floor (s ++ r)
-floor-later [] r = omega arith
-floor-later (y ∷ s) r = omega (arith, floor-later s r, floor-grows y (s ++ r))
-
--- a Ceiling that fits is above the floor, and is the floor
-pub ceiling-floor : (c : ClusterData) (n : NodeId) (d : Ident) (r : List Record) → fits c n r (record'.Ceiling d) ≡ true → (floor r < d) × (floor (record'.Ceiling d ∷ r) ≡ d)
-ceiling-floor c n d r h =
-    let lt : floor r < d = (let a = (and_parts _ (nat_lt (floor r) d) h).1 in grind (arith, nat_tests, a)) in
-    (lt, omega arith)
-
 -- ---- the floor covers each proposal and each final identifier
-
-prepared-covered : (t : TxId) (r : List Record) → (x : Prepared) → prepared_of t r ≡ Some x → x.proposal ≤ floor r
-prepared-covered t [] x h = absurd (grind (arith, h))
-prepared-covered t (record'.Prepared u home parts sid p reads writes ∷ r) x h = go (λ y e. prepared-covered t r y e) (u == t) (prepared_of t r) refl h
-  where
-    go : ((y : Prepared) → prepared_of t r ≡ Some y → y.proposal ≤ floor r) → (b : Bool) (o : Option Prepared) → prepared_of t r ≡ o → (let y : Prepared = record { home = home; sid = sid; proposal = p; reads = reads; writes = writes } in (if b then older o y else o) ≡ Some x) → x.proposal ≤ max p (floor r)
-    go more true (Some y) e h = (let le = more y e in let is : y ≡ x = grind (arith, h) in let le' : x.proposal ≤ floor r = rw is at le in omega arith)
-    go more true None e h = (let P : Prepared → Type 0 = λ y. y.proposal ≤ max p (floor r) in let is : (let y : Prepared = record { home = home; sid = sid; proposal = p; reads = reads; writes = writes } in y ≡ x) = grind (arith, h) in subst P is (omega arith))
-    go more false o e h = (let le = more x (e ∙ h) in omega arith)
-prepared-covered t (record'.Ended u (outcome.Commit f) ∷ r) x h = omega (arith, prepared-covered t r x h)
-prepared-covered t (record'.Ended u outcome.Abort ∷ r) x h = prepared-covered t r x h
-prepared-covered t (record'.Ceiling d ∷ r) x h = omega (arith, prepared-covered t r x h)
-prepared-covered t (y ∷ r) x h = prepared-covered t r x h
-
-pub prepared-floor : (t : TxId) (x : Prepared) (r : List Record) → prepared_of t r ≡ Some x → x.proposal ≤ floor r
-prepared-floor t x r h = prepared-covered t r x h
 
 pub pending-floor : (t : TxId) (p : Ident) (r : List Record) → pending t r ≡ Some p → p ≤ floor r
 pending-floor t p [] h = absurd (grind (arith, h))
@@ -57,14 +31,6 @@ pending-floor t p (record'.Ended u (outcome.Commit f) ∷ r) h = grind (arith, n
 pending-floor t p (record'.Ended u outcome.Abort ∷ r) h = grind (arith, nat_tests, pending-floor t p r)
 pending-floor t p (record'.Ceiling d ∷ r) h = omega (arith, pending-floor t p r h)
 pending-floor t p (y ∷ r) h = pending-floor t p r h
-
-pub final-floor : (t : TxId) (f : Ident) (r : List Record) → ended t r ≡ Some (outcome.Commit f) → f ≤ floor r
-final-floor t f [] h = absurd (grind (arith, h))
-final-floor t f (record'.Prepared u home parts sid q reads writes ∷ r) h = omega (arith, final-floor t f r h)
-final-floor t f (record'.Ended u (outcome.Commit e) ∷ r) h = grind (arith, nat_tests, final-floor t f r)
-final-floor t f (record'.Ended u outcome.Abort ∷ r) h = grind (arith, nat_tests, final-floor t f r)
-final-floor t f (record'.Ceiling d ∷ r) h = omega (arith, final-floor t f r h)
-final-floor t f (y ∷ r) h = final-floor t f r h
 
 pub commits-floor : (t : TxId) (f : Ident) (r : List Record) → has_pair t f (commits r) ≡ true → f ≤ floor r
 commits-floor t f [] h = absurd (grind (arith, h))
@@ -92,13 +58,6 @@ above-higher p q (record'.Prepared u home parts sid e reads writes ∷ r) le h =
 above-higher p q (record'.Ended u (outcome.Commit f) ∷ r) le h = grind (arith, nat_tests, above-higher p q r le)
 above-higher p q (record'.Ended u outcome.Abort ∷ r) le h = above-higher p q r le h
 above-higher p q (y ∷ r) le h = above-higher p q r le h
-
-pub above-pending : (p : Ident) (t : TxId) (q : Ident) (r : List Record) → is_above p r ≡ true → pending t r ≡ Some q → q < p
-above-pending p t q [] a h = absurd (grind (arith, h))
-above-pending p t q (record'.Prepared u home parts sid e reads writes ∷ r) a h = grind (arith, nat_tests, above-pending p t q r)
-above-pending p t q (record'.Ended u (outcome.Commit f) ∷ r) a h = grind (arith, nat_tests, above-pending p t q r)
-above-pending p t q (record'.Ended u outcome.Abort ∷ r) a h = grind (arith, nat_tests, above-pending p t q r)
-above-pending p t q (y ∷ r) a h = above-pending p t q r a h
 
 pub above-final : (p : Ident) (t : TxId) (f : Ident) (r : List Record) → is_above p r ≡ true → ended t r ≡ Some (outcome.Commit f) → f < p
 above-final p t f [] a h = absurd (grind (arith, h))

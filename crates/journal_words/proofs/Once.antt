@@ -29,10 +29,6 @@ prepared-stays t (record'.Prepared u home parts sid p reads writes) r x h = rw h
     go false = refl
 prepared-stays t y r x h = h
 
-pub prepared-later : (t : TxId) (s r : List Record) (x : Prepared) → prepared_of t r ≡ Some x → prepared_of t (s ++ r) ≡ Some x
-prepared-later t [] r x h = h
-prepared-later t (y ∷ s) r x h = prepared-stays t y (s ++ r) x (prepared-later t s r x h)
-
 -- the record is a Prepared of t
 abbrev pub prepares : TxId → Record → Bool
 prepares t (record'.Prepared u home parts sid p reads writes) = u == t
@@ -179,12 +175,3 @@ ended-later c n t o (y ∷ s) r fit h = ended-stays c n t o y (s ++ r) fit (ende
 abbrev pub ends : TxId → Record → Bool
 ends t (record'.Ended u o) = u == t
 ends t y = false
-
-pub ended-other : (t : TxId) (y : Record) (r : List Record) → ends t y ≡ false → ended t (y ∷ r) ≡ ended t r
-ended-other t (record'.Ended u o) r h = rw h refl
-ended-other t y r h = refl
-
-pub pending-other : (t : TxId) (y : Record) (r : List Record) → prepares t y ≡ false → ends t y ≡ false → pending t (y ∷ r) ≡ pending t r
-pending-other t (record'.Prepared u home parts sid p reads writes) r h k = rw h refl
-pending-other t (record'.Ended u o) r h k = rw k refl
-pending-other t y r h k = refl

@@ -77,12 +77,6 @@ not-clear c n s r fit h =
     let x = not-above s (pendings r) h in
     record { of = x.0; proposal = x.1; pending = listed-pending c n x.0 x.1 r fit x.2; most = x.3 }
 
-pub pending-clear : (c : ClusterData) (n : NodeId) (s : Ident) (r : List Record) → all_fit c n r ≡ true → ((t : TxId) (p : Ident) → pending t r ≡ Some p → s < p) → is_clear s r ≡ true
-pending-clear c n s r fit h = elim (cases_Bool (is_clear s r)) [
-  | inl clear ↦ clear
-  | inr held ↦ absurd (let x = not-clear c n s r fit held in let lt = h x.of x.proposal x.pending in let le = x.most in omega arith)
-]
-
 -- ---- what the next record leaves clear
 
 -- a proposal of the record is above s
@@ -94,9 +88,3 @@ pub clear-more : (s : Ident) (y : Record) (r : List Record) → is_over s y ≡ 
 clear-more s (record'.Prepared t home parts sid p reads writes) r a h = and_from (nat_lt s p) (all_above s (pendings r)) a h
 clear-more s (record'.Ended t o) r a h = above-without s t (pendings r) h
 clear-more s y r a h = h
-
--- behind a Prepared nothing is clear that was not
-pub prepared-clear : (s : Ident) (t : TxId) (home : NodeId) (parts : List NodeId) (sid p : Ident) (reads : List Key) (writes : List (Key × Value)) (r : List Record) → is_clear s (record'.Prepared t home parts sid p reads writes ∷ r) ≡ true → (s < p) × (is_clear s r ≡ true)
-prepared-clear s t home parts sid p reads writes r h =
-    let a = and_parts (nat_lt s p) (all_above s (pendings r)) h in
-    (grind (arith, nat_tests, a.0), a.1)

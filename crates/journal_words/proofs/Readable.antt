@@ -84,10 +84,6 @@ version-stays c n k start s y r fit clear =
     ∙ best-same (writer (y ∷ r) k) (writer r k) start (up_to s (applied (y ∷ r))) (up_to s (applied r)) (readable-before c n s k y r fit clear) (readable-after c n s k y r fit)
     ∙ sym (version-is r k start s)
 
--- so it is up to the commit identifier
-pub version-kept : (c : ClusterData) (n : NodeId) (k : Key) (start : Value) (s : Ident) (y : Record) (r : List Record) → all_fit c n (y ∷ r) ≡ true → s ≤ commit_id r → version_at (y ∷ r) k start s ≡ version_at r k start s
-version-kept c n k start s y r fit le = version-stays c n k start s y r fit (clear-below (commit_id r) s r le (commit_id-clear c n r (rest-fits c n y r fit)))
-
 -- ---- the newest version
 
 -- who is applied and wrote the key has a final identifier of at most the newest version's
@@ -97,20 +93,6 @@ newest-bound t f k v r h w =
     let e : newest r k ≡ (best_of (writer r k) 0 (applied r)).ident = ap (λ (x : Version). x.ident) (best-is r k 0 (applied r)) in
     rw e (grind (arith, b))
 
-pub newest-grows : (c : ClusterData) (n : NodeId) (k : Key) (y : Record) (r : List Record) → all_fit c n (y ∷ r) ≡ true → newest r k ≤ newest (y ∷ r) k
-newest-grows c n k y r fit = go (best-one (writer r k) 0 (applied r)) (ap (λ (x : Version). x.ident) (best-is r k 0 (applied r)))
-  where
-    go : IsOneOf (writer r k) 0 (applied r) (best_of (writer r k) 0 (applied r)) → newest r k ≡ (best_of (writer r k) 0 (applied r)).ident → newest r k ≤ newest (y ∷ r) k
-    go (initial e) is =
-        let zero : newest r k ≡ 0 = is ∙ ap (λ (x : Version). x.ident) e in
-        omega arith
-    go (written u f v h w e) is =
-        let f' : newest r k ≡ f = is ∙ ap (λ (x : Version). x.ident) e in
-        let rest = rest-fits c n y r fit in
-        let says = applied-says c n u f r rest h in
-        let le : f ≤ newest (y ∷ r) k = newest-bound u f k v (y ∷ r) (applied-grows c n u f y r (newest-fits c n y r fit) h) (writer-stays c n k u f y r rest says.committed ∙ w) in
-        omega arith
-
 -- ---- the versions of a key
 
 -- t wrote this value to the key, and its commit is applied
@@ -118,26 +100,7 @@ pub record IsVersion (r : List Record) (k : Key) (t : TxId) (f : Ident) (v : Val
   pub applied : has_pair t f (applied r) ≡ true
   pub wrote : wrote_in (prepared_of t r) k ≡ Some v
 
-pub versions-grow : (c : ClusterData) (n : NodeId) (k : Key) (t : TxId) (f : Ident) (v : Value) (y : Record) (r : List Record) → all_fit c n (y ∷ r) ≡ true → IsVersion r k t f v → IsVersion (y ∷ r) k t f v
-versions-grow c n k t f v y r fit h =
-    let rest = rest-fits c n y r fit in
-    let says = applied-says c n t f r rest h.applied in
-    record { applied = applied-grows c n t f y r (newest-fits c n y r fit) h.applied; wrote = writer-stays c n k t f y r rest says.committed ∙ h.wrote }
-
 -- what a read gives: the initial value, or a version up to the identifier
 pub data IsRead (r : List Record) (k : Key) (start : Value) (s : Ident) (b : Version) : Type 0 where
   first : b ≡ record { ident = 0; of = 0; value = start } → IsRead r k start s b
   wrote : (t : TxId) (f : Ident) (v : Value) → IsVersion r k t f v → f ≤ s → b ≡ record { ident = f; of = t; value = v } → IsRead r k start s b
-
-pub version-read : (r : List Record) (k : Key) (start : Value) (s : Ident) → IsRead r k start s (version_at r k start s)
-version-read r k start s = go (best-one (writer r k) start (up_to s (applied r)))
-  where
-    go : IsOneOf (writer r k) start (up_to s (applied r)) (best_of (writer r k) start (up_to s (applied r))) → IsRead r k start s (version_at r k start s)
-    go (initial e) = first (version-is r k start s ∙ e)
-    go (written u f v h w e) = (let a = up_to-says s u f r h in wrote u f v (record { applied = a.applied; wrote = w }) a.most (version-is r k start s ∙ e))
-
--- and no version up to the identifier comes behind it
-pub version-most : (r : List Record) (k : Key) (start : Value) (s : Ident) (t : TxId) (f : Ident) (v : Value) → IsVersion r k t f v → f ≤ s → IsAtMost f t (version_at r k start s)
-version-most r k start s t f v h le =
-    let b = best-bound (writer r k) start t f v (up_to s (applied r)) (says-up_to s t f r (record { applied = h.applied; most = le })) h.wrote in
-    rw (version-is r k start s) b

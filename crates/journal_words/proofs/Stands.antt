@@ -54,19 +54,6 @@ has_prepared-says c n t p (record'.Prepared u home parts sid q reads writes ∷ 
 ]
 has_prepared-says c n t p (y ∷ r) fit h = has_prepared-says c n t p r (rest-fits c n y r fit) h
 
-pub prepared-has : (t : TxId) (x : Prepared) (r : List Record) → prepared_of t r ≡ Some x → has_prepared t x.proposal r ≡ true
-prepared-has t x [] h = absurd (grind (arith, h))
-prepared-has t x (record'.Prepared u home parts sid p reads writes ∷ r) h = go (λ e. prepared-has t x r e) (u == t) (prepared_of t r) refl refl h
-  where
-    go : (prepared_of t r ≡ Some x → has_prepared t x.proposal r ≡ true) → (b : Bool) (o : Option Prepared) → prepared_of t r ≡ o → u == t ≡ b → (let y : Prepared = record { home = home; sid = sid; proposal = p; reads = reads; writes = writes } in (if b then older o y else o) ≡ Some x) → ((u == t && p == x.proposal) || has_prepared t x.proposal r) ≡ true
-    go more true (Some y) e is h = or_right (u == t && p == x.proposal) (has_prepared t x.proposal r) (more (e ∙ h))
-    go more true None e is h =
-        let same : (let y : Prepared = record { home = home; sid = sid; proposal = p; reads = reads; writes = writes } in y ≡ x) = grind (arith, h) in
-        let P : Prepared → Type 0 = λ y. ((u == t && p == y.proposal) || has_prepared t y.proposal r) ≡ true in
-        subst P same (grind (arith, nat_tests, is))
-    go more false o e is h = or_right (u == t && p == x.proposal) (has_prepared t x.proposal r) (more (e ∙ h))
-prepared-has t x (y ∷ r) h = prepared-has t x r h
-
 -- two proposals of one transaction are one
 pub prepared-once : (c : ClusterData) (n : NodeId) (t : TxId) (p q : Ident) (r : List Record) → all_fit c n r ≡ true → has_prepared t p r ≡ true → has_prepared t q r ≡ true → p ≡ q
 prepared-once c n t p q r fit h k =
@@ -80,10 +67,6 @@ prepared-once c n t p q r fit h k =
 pub has_prepared-grows : (t : TxId) (p : Ident) (y : Record) (r : List Record) → has_prepared t p r ≡ true → has_prepared t p (y ∷ r) ≡ true
 has_prepared-grows t p (record'.Prepared u home parts sid q reads writes) r h = or_right (u == t && q == p) (has_prepared t p r) h
 has_prepared-grows t p y r h = h
-
-pub has_prepared-later : (t : TxId) (p : Ident) (s r : List Record) → has_prepared t p r ≡ true → has_prepared t p (s ++ r) ≡ true
-has_prepared-later t p [] r h = h
-has_prepared-later t p (y ∷ s) r h = has_prepared-grows t p y (s ++ r) (has_prepared-later t p s r h)
 
 -- ---- an Ended with commit
 
@@ -150,17 +133,7 @@ has_commit-says c n t r fit h = go (ended t r) (sym (has_commit-is c n t r fit) 
     go (Some outcome.Abort) h = absurd (grind (arith, h))
     go (Some (outcome.Commit f)) h = (f, refl)
 
-pub commit-has : (t : TxId) (f : Ident) (r : List Record) → ended t r ≡ Some (outcome.Commit f) → has_commit t r ≡ true
-commit-has t f [] h = absurd (grind (arith, h))
-commit-has t f (record'.Ended u (outcome.Commit e) ∷ r) h = grind (arith, nat_tests, commit-has t f r)
-commit-has t f (record'.Ended u outcome.Abort ∷ r) h = grind (arith, nat_tests, commit-has t f r)
-commit-has t f (y ∷ r) h = commit-has t f r h
-
 pub has_commit-grows : (t : TxId) (y : Record) (r : List Record) → has_commit t r ≡ true → has_commit t (y ∷ r) ≡ true
 has_commit-grows t (record'.Ended u (outcome.Commit f)) r h = or_right (u == t) (has_commit t r) h
 has_commit-grows t (record'.Ended u outcome.Abort) r h = h
 has_commit-grows t y r h = h
-
-pub has_commit-later : (t : TxId) (s r : List Record) → has_commit t r ≡ true → has_commit t (s ++ r) ≡ true
-has_commit-later t [] r h = h
-has_commit-later t (y ∷ s) r h = has_commit-grows t y (s ++ r) (has_commit-later t s r h)

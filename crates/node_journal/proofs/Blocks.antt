@@ -34,16 +34,9 @@ log_open : (place : ℕ) (block rest : List ℕ) (r : Record) → block_at (bloc
 unfolding log_from
 log_open place block rest r e = ap (λ o. opened place o (λ n. log_from (place + 1) n (block ++ rest))) e ∙ ap (behind (r ∷ [])) (log_skip (place + 1) block rest)
 
-behind-nil : (x : Result (List Record) ℕ) → x ≡ behind [] x
-behind-nil (Ok rs) = refl
-behind-nil (Err p) = refl
-
 behind-behind : (a b : List Record) (x : Result (List Record) ℕ) → behind a (behind b x) ≡ behind (a ++ b) x
 behind-behind a b (Ok rs) = ap Ok (sym (append_assoc a b rs))
 behind-behind a b (Err p) = refl
-
-pub spells_nil : Spells [] []
-spells_nil = record { read = λ place rest h. behind-nil (log_from place 0 rest) ∙ ap (λ p. behind [] (log_from p 0 rest)) (sym (add-zero place)) }
 
 -- Before any rest, this is the block of this record.
 pub record IsBlock (block : List ℕ) (r : Record) : Type 0 where

@@ -8,36 +8,6 @@ use Rattle.score_disk.specs.Files.{File, IsImage, IsSettled, Missed, Unsynced, p
 use Rattle.score_disk.proofs.Places.{both, uncovered, length-put_at, get_or-put_at, take-put_at}
 use Rattle.node_journal.specs.Torn.{Near, LeavesClosed, LeavesOneOf}
 
-touched_written : (f : File) (at : ℕ) (bytes : List ℕ) (i : ℕ) → IsSettled f → (i < at) ⊎ (at + length bytes ≤ i) → (written at bytes f).touched i ≡ false
-touched_written f at bytes i s h = both (f.touched i) _ (s.touched i) (uncovered at (length bytes) i h)
-
-pub near_missed : (f now : File) (at : ℕ) (bytes : List ℕ) → IsSettled f → Missed f (written at bytes f) now → Near f at (length bytes) now
-near_missed f now at bytes s m = record {
-  touched = λ i h. m.touched i (touched_written f at bytes i s h);
-  least = omega (arith, m.least, s.least);
-  greatest = omega (arith, m.greatest, s.greatest);
-  same = λ i h. m.same i (m.touched i (touched_written f at bytes i s h));
-}
-
-near_written : (f : File) (at : ℕ) (bytes : List ℕ) → IsSettled f → at ≤ length f.seen → Near f at (length bytes) (written at bytes f)
-near_written f at bytes s h = record {
-  touched = λ i e. touched_written f at bytes i s e;
-  least = omega (arith, s.least);
-  greatest = omega (arith, s.greatest);
-  same = λ i e. get_or-put_at f.seen at bytes i h e;
-}
-
-near_unsynced : (f g now : File) (at n : ℕ) → Near f at n g → Unsynced g now → Near f at n now
-near_unsynced f g now at n a u = record {
-  touched = λ i e. u.touched i ∙ a.touched i e;
-  least = omega (arith, u.least, a.least);
-  greatest = omega (arith, u.greatest, a.greatest);
-  same = λ i e. u.same i (a.touched i e) ∙ a.same i e;
-}
-
-pub near_put : (f now : File) (at : ℕ) (bytes : List ℕ) → IsSettled f → at ≤ length f.seen → Unsynced (written at bytes f) now → Near f at (length bytes) now
-near_put f now at bytes s h u = near_unsynced f (written at bytes f) now at (length bytes) (near_written f at bytes s h) u
-
 pub settled_synced : (f : File) → IsSettled (synced f)
 settled_synced f = record { touched = λ i. refl; least = refl; greatest = refl }
 
@@ -56,17 +26,6 @@ take_near f g at n k c a m low h =
     same_number_lists (take k c) (take k f.seen) (here ∙ sym there) (λ i e.
     let below : i < k = omega (arith, here) in
     get_or-take k c i 0 below ∙ image_near f g at n c a m i (omega arith) (inl (omega arith)) ∙ sym (get_or-take k f.seen i 0 below))
-
--- behind the gate
-pub closed_near : (f g : File) (gate n : ℕ) → gate < length f.seen → slice_index f.seen gate ≢ 1 → Near f (gate + 1) n g → LeavesClosed f.seen gate g
-closed_near f g gate n h closed a c m =
-    let long : length f.seen ≤ length c = no_shorter f g (gate + 1) n c a m in
-    let same : get_or c gate 0 ≡ get_or f.seen gate 0 = image_near f g (gate + 1) n c a m gate (omega arith) (inl (omega arith)) in
-    record {
-      front = take_near f g (gate + 1) n gate c a m (omega arith) (omega arith);
-      place = omega arith;
-      closed = λ e. closed (sym same ∙ e);
-    }
 
 apart : (i gate : ℕ) → i ≢ gate → (i < gate) ⊎ (gate + 1 ≤ i)
 apart i gate h = elim (cases_lt i gate) [ inl e ↦ inl e | inr e ↦ inr (omega (arith, h)) ]

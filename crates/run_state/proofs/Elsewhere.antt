@@ -33,10 +33,6 @@ elsewhere d e (act.Up m f) n h = not-there (m == n) _ h
 elsewhere d e (act.StillDown m) n h = not-there (m == n) _ h
 elsewhere d e a n h = refl
 
--- an act of no node
-pub nodes-none : (d : DocumentData) (e : Option Envelope) (a : Act) (x : Node) (n : ℕ) → place_of d a ≡ None → x ≡ changed (change d e a n) x
-nodes-none d e a x n h = rw (elsewhere d e a n (rw h refl)) refl
-
 places-apart : (m n : ℕ) → 1 ≤ m → 1 ≤ n → n ≢ m → m - 1 ≢ n - 1
 places-apart m n p q other = omega (arith, other)
 

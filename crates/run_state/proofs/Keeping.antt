@@ -42,16 +42,6 @@ keeps-more d past a ms marks marks' last nodes nodes' stories k marked count eac
   stories_are = stories-more d past a stories k.stories_are;
 }
 
--- nothing is kept of no act
-pub keeps-none : (d : DocumentData) (nodes : List Node) → length nodes ≡ 16 → ((n : ℕ) → node_in nodes n ≡ blank) → Keeps d [] [] [] None nodes []
-keeps-none d nodes count each = record {
-  sent_is = refl;
-  gone_is = λ m. refl;
-  got_is = refl;
-  nodes_are = record { count = count; each = λ n p q. each n };
-  stories_are = λ t. refl;
-}
-
 -- the same of lists that are what they should be
 pub keeps-act : (d : DocumentData) (acts acts' : List Act) (a : Act) (ms ms' : List Envelope) (marks marks' : List Bool) (last last' : Option Envelope) (nodes nodes' : List Node) (stories stories' : List (ℕ × Story)) (o : Option (ℕ × Story))
     → Keeps d (after [] acts) ms marks last nodes stories

@@ -116,6 +116,3 @@ plays-more d acts xs ys =
     append_assoc acts (plays d (after [] acts) xs) _
     ∙ ap (λ z. acts ++ (plays d (after [] acts) xs ++ plays d z ys)) (after-append [] acts (plays d (after [] acts) xs))
     ∙ ap (λ z. acts ++ z) (sym (plays-append d (after [] acts) xs ys))
-
-pub plays-one : (d : DocumentData) (past : List Act) (i : Item) → plays d past (i ∷ []) ≡ played d past i
-plays-one d past i = append-nil (played d past i)

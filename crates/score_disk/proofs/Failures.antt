@@ -3,16 +3,6 @@ use Rattle.std.proofs.Common.{◌≡◌, ℕ, ◌+◌, ◌≤◌, max, List, len
 use Rattle.score_disk.specs.Files.{File, Missed, IsSound, written, covers, put_at}
 use Rattle.score_disk.proofs.Places.{neither, outside, length-put_at, get_or-put_at}
 
-pub missed_nothing : (f : File) (at : ℕ) (bytes : List ℕ) → IsSound f → Missed f (written at bytes f) f
-missed_nothing f at bytes s = record {
-  touched = λ i e. (neither (f.touched i) (covers at (length bytes) i) e).0;
-  least = le_refl _;
-  greatest = omega arith;
-  no_shorter = s.no_shorter;
-  no_longer = s.no_longer;
-  same = λ i e. refl;
-}
-
 pub missed_written : (f : File) (at : ℕ) (bytes : List ℕ) → IsSound f → at ≤ length f.seen → Missed f (written at bytes f) (written at bytes f)
 missed_written f at bytes s h =
     let here : length (put_at f.seen at bytes) ≡ max (length f.seen) (at + length bytes) = length-put_at f.seen at bytes h in

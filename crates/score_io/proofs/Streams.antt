@@ -5,23 +5,9 @@ use Rattle.std.proofs.KnownBytes.{Appends-trans, Consumes-trans}
 use Rattle.std.proofs.Math.Seq.{take-add}
 use Rattle.score_io.specs.Streams.{ReadWhole, Lost, LostAtMost, Gained}
 
--- one piece more came
-pub gained_more : (a b c : Option (List ℕ)) (xs ys zs : List ℕ) → Gained a b xs ys → Gained b c ys zs → Gained a c xs zs
-gained_more a b c xs ys zs p q = record {
-  came = p.came ++ q.came;
-  more = q.more ∙ ap (λ l. l ++ q.came) p.more ∙ append_assoc xs p.came q.came;
-  lost = Consumes-trans a b c _ _ p.lost q.lost;
-}
-
 -- what came from the first turn on is all that was lost
 pub gained_all : (a b : Option (List ℕ)) (xs : List ℕ) → Gained a b [] xs → Consumes a b xs
 gained_all a b xs p = subst (λ (l : List ℕ). Consumes a b l) (sym p.more) p.lost
-
-pub gained_whole : (a b : Option (List ℕ)) (xs : List ℕ) → Gained a b [] xs → IsAtEnd b → ReadWhole a b xs
-gained_whole a b xs p e = record { lost = gained_all a b xs p; end = e }
-
-pub gained_lost : (a b : Option (List ℕ)) (xs : List ℕ) (n : ℕ) → Gained a b [] xs → length xs ≡ n → Lost a b n
-gained_lost a b xs n p e = record { came = xs; counted = e; lost = gained_all a b xs p }
 
 -- a turn that fails loses a few bytes more
 pub lost_more : (a b c : Option (List ℕ)) (xs : List ℕ) (n m : ℕ) → Gained a b [] xs → LostAtMost b c n → length xs + n ≤ m → LostAtMost a c m

@@ -89,21 +89,3 @@ pub record IsSameWalk (j : ℕ) (seen : List Key) (w : Walk) (values values' : L
   pub owns : own_reads j seen w values' ops ≡ own_reads j seen w values ops
   pub reads : all_reads j seen w values' ops ≡ all_reads j seen w values ops
   pub walk : walked j seen w values' ops ≡ walked j seen w values ops
-
-pub same-walk : (j i : ℕ) (seen : List Key) (w : Walk) (values values' : List (ℕ × Value)) (ops : List Op) → SameTo i values values' → waiting_from j seen values ops ≡ Some i → IsSameWalk j seen w values values' ops
-same-walk j i seen w values values' [] same h = absurd (grind (arith, h))
-same-walk j i seen w values values' (op.Read k ∷ ops) same h =
-    let le = (waiting-open j i seen values (op.Read k ∷ ops) h).least in
-    go (is_key_among k seen) (value_taken j values) refl refl (same j le) h (same-walk (j + 1) i seen (read_step k w) values values' ops same) (λ u. same-walk (j + 1) i (k ∷ seen) (taken_step k u w) values values' ops same)
-  where
-    go : (b : Bool) (o : Option Value) → is_key_among k seen ≡ b → value_taken j values ≡ o → value_taken j values' ≡ o → (if b then waiting_from (j + 1) seen values ops else first_open o j (waiting_from (j + 1) (k ∷ seen) values ops)) ≡ Some i → (waiting_from (j + 1) seen values ops ≡ Some i → IsSameWalk (j + 1) seen (read_step k w) values values' ops) → ((u : Value) → waiting_from (j + 1) (k ∷ seen) values ops ≡ Some i → IsSameWalk (j + 1) (k ∷ seen) (taken_step k u w) values values' ops) → IsSameWalk j seen w values values' (op.Read k ∷ ops)
-    go true o e f f' h old new =
-        let s = old h in
-        record { waits = rw e s.waits; owns = rw e (ap (λ ys. (j, w.mine k) ∷ ys) s.owns); reads = rw e (ap (λ ys. (j, w.mine k) ∷ ys) s.reads); walk = rw e s.walk }
-    go false (Some u) e f f' h old new =
-        let s = new u h in
-        record { waits = rw (e, f, f') s.waits; owns = rw (e, f, f') s.owns; reads = rw (e, f, f') (ap (λ ys. (j, u) ∷ ys) s.reads); walk = rw (e, f, f') s.walk }
-    go false None e f f' h old new = record { waits = rw (e, f, f') refl; owns = rw (e, f, f') refl; reads = rw (e, f, f') refl; walk = rw (e, f, f') refl }
-same-walk j i seen w values values' (op.Write k x ∷ ops) same h =
-    let s = same-walk (j + 1) i (k ∷ seen) (write_step k x w) values values' ops same h in
-    record { waits = s.waits; owns = s.owns; reads = s.reads; walk = s.walk }

@@ -57,11 +57,6 @@ names-same seen xs o names there k = elim (cases_Bool (same_key k (key_of o))) [
 
 -- ---- one operation
 
-choice-open : (b : Bool) (v : Option Value) (x rest : Option ℕ) (j : ℕ) → (not b && not (is_some v)) ≡ true → (if b then x else first_open v j rest) ≡ Some j
-choice-open true v x rest j e = cc
-choice-open false (Some v) x rest j e = cc
-choice-open false None x rest j e = refl
-
 is_taken : (b : Bool) (v : Option Value) → b ≡ false → (not b && not (is_some v)) ≡ false → is_some v ≡ true
 is_taken true v f e = cc
 is_taken false (Some v) f e = refl
@@ -70,11 +65,6 @@ is_taken false None f e = cc
 first_open-taken : (v : Option Value) (j : ℕ) (rest : Option ℕ) → is_some v ≡ true → first_open v j rest ≡ rest
 first_open-taken (Some v) j rest e = refl
 first_open-taken None j rest e = cc
-
--- an operation that waits
-waits-here : (j : ℕ) (rs : List (ℕ × Value)) (before : List Op) (o : Op) (seen : List Key) (ys : List Op) → Names seen before → is_waiting rs j before o ≡ true → waiting_from j seen rs (o ∷ ys) ≡ Some j
-waits-here j rs before (op.Read k) seen ys names w = choice-open (is_key_among k seen) (value_taken j rs) (waiting_from (j + 1) seen rs ys) (waiting_from (j + 1) (k ∷ seen) rs ys) j (rw (names k) w)
-waits-here j rs before (op.Write k e) seen ys names w = cc
 
 -- what stands behind an operation that does not wait
 record Passed (j : ℕ) (rs : List (ℕ × Value)) (before : List Op) (o : Op) (seen : List Key) (ys : List Op) : Type 0 where

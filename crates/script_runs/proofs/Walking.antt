@@ -189,26 +189,6 @@ pub record Left (values : List (ℕ × Value)) (ops : List Op) (x : Trail) : Typ
   pub mine : value_in x.mine ≡ own_map ops values
   pub waiting : x.waiting ≡ waiting ops values
 
-pub left-all : (values : List (ℕ × Value)) (ops rest : List Op) (j : ℕ) (x : Trail) → rest ≡ [] → Comes values ops j rest x → Left values ops x
-left-all values ops rest j x none at =
-    let at' : Comes values ops j [] x = rw none at at in
-    record { own = sym (append-nil x.own) ∙ at'.own; mine = ap (λ w. w.mine) at'.map; waiting = at'.open' ∙ at'.waits }
-
-left-read : (values : List (ℕ × Value)) (ops rest : List Op) (k : Key) (j : ℕ) (x : Trail) → Comes values ops j (op.Read k ∷ rest) x → (mine taken : Option Value) → map.get x.mine k ≡ mine → value_taken j values ≡ taken → (is_none mine && is_none taken) ≡ true → Left values ops (record x { waiting = Some j })
-left-read values ops rest k j x at (Some v) taken has is stop = cc
-left-read values ops rest k j x at None (Some v) has is stop = cc
-left-read values ops rest k j x at None None has is stop =
-    let new : is_key_among k at.seen ≡ false = at.among k ∙ ap is_some has in
-    record {
-      own = sym (append-nil x.own) ∙ (rw (new, is) at at.own);
-      mine = ap (λ w. w.mine) (rw (new, is) at at.map);
-      waiting = rw (new, is) at at.waits;
-    }
-
-left-stop : (values : List (ℕ × Value)) (ops rest : List Op) (o : Op) (j : ℕ) (x : Trail) → Comes values ops j (o ∷ rest) x → stops values j o x ≡ true → Left values ops (record x { waiting = Some j })
-left-stop values ops rest (op.Read k) j x at stop = left-read values ops rest k j x at (map.get x.mine k) (value_taken j values) refl refl stop
-left-stop values ops rest (op.Write k e) j x at stop = cc
-
 -- ---- the same at a place of the operations
 
 rest-at : (ops : List Op) (i : ℕ) (o : Op) → i < length ops → o ≡ get_or ops i o → drop i ops ≡ o ∷ drop (i + 1) ops
@@ -219,6 +199,3 @@ ready-at values ops i j o x h e at = comes-ready values ops (drop (i + 1) ops) o
 
 pub more-at : (values : List (ℕ × Value)) (ops : List Op) (i j : ℕ) (o : Op) (x x' : Trail) → i < length ops → o ≡ get_or ops i o → Comes values ops j (drop i ops) x → stops values j o x ≡ false → x' ≡ stepped values j o x → Comes values ops (j + 1) (drop (i + 1) ops) x'
 more-at values ops i j o x x' h e at go is = rw is (comes-more values ops (drop (i + 1) ops) o j x (rw (rest-at ops i o h e) at at) go)
-
-pub stop-at : (values : List (ℕ × Value)) (ops : List Op) (i j : ℕ) (o : Op) (x : Trail) → i < length ops → o ≡ get_or ops i o → Comes values ops j (drop i ops) x → stops values j o x ≡ true → Left values ops (record x { waiting = Some j })
-stop-at values ops i j o x h e at stop = left-stop values ops (drop (i + 1) ops) o j x (rw (rest-at ops i o h e) at at) stop

@@ -111,26 +111,6 @@ case-of i j v k seen values values' ops more h = go (is_key_among k seen) (value
         let P : ℕ → Type 0 = λ a. value_taken a values' ≡ Some v in
         here refl refl (subst P (sym same) more.taken) same
 
--- the next open read lies behind the one that took its value
-pub waiting-behind : (j i i' : ℕ) (v : Value) (seen : List Key) (values values' : List (ℕ × Value)) (ops : List Op) → IsMore i v values values' → waiting_from j seen values ops ≡ Some i → waiting_from j seen values' ops ≡ Some i' → i < i'
-waiting-behind j i i' v seen values values' [] more h h' = absurd (grind (arith, h))
-waiting-behind j i i' v seen values values' (op.Read k ∷ ops) more h h' = go (case-of i j v k seen values values' ops more h) (waiting-behind (j + 1) i i' v seen values values' ops more) (waiting-behind (j + 1) i i' v (k ∷ seen) values values' ops more)
-  where
-    go : IsCase i j v (is_key_among k seen) (value_taken j values) (value_taken j values') → (waiting_from (j + 1) seen values ops ≡ Some i → waiting_from (j + 1) seen values' ops ≡ Some i' → i < i') → (waiting_from (j + 1) (k ∷ seen) values ops ≡ Some i → waiting_from (j + 1) (k ∷ seen) values' ops ≡ Some i' → i < i') → i < i'
-    go (own e) same new = same (rw e at h) (rw e at h')
-    go (far u e f f') same new = new (rw (e, f) at h) (rw (e, f') at h')
-    go (here e f f' is) same new =
-        let least = (waiting-open (j + 1) i' (k ∷ seen) values' ops (rw (e, f') at h')).least in
-        omega arith
-waiting-behind j i i' v seen values values' (op.Write k x ∷ ops) more h h' = waiting-behind (j + 1) i i' v (k ∷ seen) values values' ops more h h'
-
-pub waiting-moves : (i : ℕ) (v : Value) (values : List (ℕ × Value)) (ops : List Op) → waiting ops values ≡ Some i → (waiting ops (values ++ (i, v) ∷ []) ≡ None) ⊎ ((i' : ℕ) × (waiting ops (values ++ (i, v) ∷ []) ≡ Some i') × (i < i'))
-waiting-moves i v values ops h = go (waiting ops (values ++ (i, v) ∷ [])) refl
-  where
-    go : (o : Option ℕ) → waiting ops (values ++ (i, v) ∷ []) ≡ o → (o ≡ None) ⊎ ((i' : ℕ) × (o ≡ Some i') × (i < i'))
-    go None e = inl refl
-    go (Some i') e = inr (i', refl, waiting-behind 1 i i' v [] values (values ++ (i, v) ∷ []) ops (more-taken i v values (waiting-open 1 i [] values ops h).untaken) h e)
-
 -- ---- the own reads
 
 -- they have numbers from j on
@@ -156,19 +136,3 @@ own-from j seen w values (op.Read k ∷ ops) = go (is_key_among k seen) (value_t
     go false (Some v) same new = from-later j _ (new v)
     go false None same new = record { kept = λ i lt. refl }
 own-from j seen w values (op.Write k x ∷ ops) = from-later j _ (own-from (j + 1) (k ∷ seen) (write_step k x w) values ops)
-
-own-drops : (i j : ℕ) (v : Value) (xs : List (ℕ × Value)) → j ≤ i → filter (λ y. nat_lt i y.0) ((j, v) ∷ xs) ≡ filter (λ y. nat_lt i y.0) xs
-own-drops i j v xs le = (let test : nat_lt i j ≡ false = grind (arith, nat_tests) in rw test refl)
-
--- those before the open read stay as its value is taken
-pub own-extends : (j i : ℕ) (v : Value) (seen : List Key) (w : Walk) (values values' : List (ℕ × Value)) (ops : List Op) → IsMore i v values values' → waiting_from j seen values ops ≡ Some i → own_reads j seen w values' ops ≡ own_reads j seen w values ops ++ filter (λ y. nat_lt i y.0) (own_reads j seen w values' ops)
-own-extends j i v seen w values values' [] more h = absurd (grind (arith, h))
-own-extends j i v seen w values values' (op.Read k ∷ ops) more h = go (case-of i j v k seen values values' ops more h) (own-extends (j + 1) i v seen (read_step k w) values values' ops more) (λ u. own-extends (j + 1) i v (k ∷ seen) (taken_step k u w) values values' ops more)
-  where
-    go : IsCase i j v (is_key_among k seen) (value_taken j values) (value_taken j values') → (waiting_from (j + 1) seen values ops ≡ Some i → own_reads (j + 1) seen (read_step k w) values' ops ≡ own_reads (j + 1) seen (read_step k w) values ops ++ filter (λ y. nat_lt i y.0) (own_reads (j + 1) seen (read_step k w) values' ops)) → ((u : Value) → waiting_from (j + 1) (k ∷ seen) values ops ≡ Some i → own_reads (j + 1) (k ∷ seen) (taken_step k u w) values' ops ≡ own_reads (j + 1) (k ∷ seen) (taken_step k u w) values ops ++ filter (λ y. nat_lt i y.0) (own_reads (j + 1) (k ∷ seen) (taken_step k u w) values' ops)) → own_reads j seen w values' (op.Read k ∷ ops) ≡ own_reads j seen w values (op.Read k ∷ ops) ++ filter (λ y. nat_lt i y.0) (own_reads j seen w values' (op.Read k ∷ ops))
-    go (own e) same new =
-        let le = (waiting-open j i seen values (op.Read k ∷ ops) h).least in
-        rw (e, own-drops i j (w.mine k) (own_reads (j + 1) seen (read_step k w) values' ops) le) (ap (λ ys. (j, w.mine k) ∷ ys) (same (rw e at h)))
-    go (far u e f f') same new = rw (e, f, f') (new u (rw (e, f) at h))
-    go (here e f f' is) same new = rw (e, f, f') (sym ((own-from (j + 1) (k ∷ seen) (taken_step k v w) values' ops).kept i (omega arith)))
-own-extends j i v seen w values values' (op.Write k x ∷ ops) more h = own-extends (j + 1) i v (k ∷ seen) (write_step k x w) values values' ops more h
