@@ -10,7 +10,7 @@ use Rattle.grid_model.specs.Documents.{DocumentData}
 use Rattle.grid_model.specs.Histories.{after, sent, sent_at}
 use Rattle.journal_words.specs.Journals.{ended, home_of, is_clear, is_commit, pending}
 use Rattle.grid_model.specs.Nodes.{Holds, Node, Raises, Writes, changed, got, is_request, journal, node, said_by, where_at}
-use Rattle.grid_model.specs.Rows.{abort_row, answered, commit_row, release, served, tell_outs, if_pending}
+use Rattle.grid_model.specs.Rows.{abort_outs, answered, commit_outs, release, served, tell_outs, if_pending}
 use Rattle.grid_model.specs.Schedules.{broken, kept, numbered, row}
 use Rattle.grid_model.specs.Stories.{asked}
 use Rattle.grid_model.specs.Views.{view, participant}
@@ -165,14 +165,14 @@ pub unheld-row : (d : DocumentData) (now : List Act) (m : ℕ) (k : NodeId) (b :
     → HoldsWaiting (node d now k) → RowKept d now (numbered m k (kept b k os)) k nothing
 unheld-row d now m k b os u h = row-unheld d now (numbered m k (kept b k os)) k (unheld-acts m k b os u) h
 
-commit-kept : (d : DocumentData) (now : List Act) (m : ℕ) (k : NodeId) (t : TxId) (f : Ident) (p : Option Ident) (done : Bool) (ack : Option NodeId) (b : Bool) → is_request (said_by (got now)) ≡ false → (node d now k).up ≡ true → HoldsWaiting (node d now k) → RowKept d now (numbered m k (kept b k (commit_row k t f p done (to_node ack (message.Ack t)) ++ if_pending p (release d.cluster (record'.Ended t (outcome.Commit f) ∷ journal d now k) k (node d now k).held)))) k nothing
+commit-kept : (d : DocumentData) (now : List Act) (m : ℕ) (k : NodeId) (t : TxId) (f : Ident) (p : Option Ident) (done : Bool) (ack : Option NodeId) (b : Bool) → is_request (said_by (got now)) ≡ false → (node d now k).up ≡ true → HoldsWaiting (node d now k) → RowKept d now (numbered m k (kept b k (commit_outs k t f p done (to_node ack (message.Ack t)) ++ if_pending p (release d.cluster (record'.Ended t (outcome.Commit f) ∷ journal d now k) k (node d now k).held)))) k nothing
 commit-kept d now m k t f (Some p) done ack b quiet up h = kept-ended d now m k t (outcome.Commit f) ack b quiet up h
 commit-kept d now m k t f None true ack b quiet up h =
     unheld-row d now m k b (to_node ack (message.Ack t) ++ [])
     (pass-append is_unheld (to_node ack (message.Ack t)) [] (pass-to_node is_unheld ack (message.Ack t)) refl) h
 commit-kept d now m k t f None false ack b quiet up h = unheld-row d now m k b [] refl h
 
-abort-kept : (d : DocumentData) (now : List Act) (m : ℕ) (k : NodeId) (t : TxId) (p : Option Ident) (b : Bool) → is_request (said_by (got now)) ≡ false → (node d now k).up ≡ true → HoldsWaiting (node d now k) → RowKept d now (numbered m k (kept b k (abort_row k t p ++ if_pending p (release d.cluster (record'.Ended t outcome.Abort ∷ journal d now k) k (node d now k).held)))) k nothing
+abort-kept : (d : DocumentData) (now : List Act) (m : ℕ) (k : NodeId) (t : TxId) (p : Option Ident) (b : Bool) → is_request (said_by (got now)) ≡ false → (node d now k).up ≡ true → HoldsWaiting (node d now k) → RowKept d now (numbered m k (kept b k (abort_outs k t p ++ if_pending p (release d.cluster (record'.Ended t outcome.Abort ∷ journal d now k) k (node d now k).held)))) k nothing
 abort-kept d now m k t (Some p) b quiet up h = kept-ended d now m k t outcome.Abort None b quiet up h
 abort-kept d now m k t None b quiet up h = unheld-row d now m k b [] refl h
 

@@ -15,7 +15,7 @@ use Rattle.grid_model.specs.Facts.{parts_at}
 use Rattle.grid_model.specs.Fitness.{is_fit_at, tx_in}
 use Rattle.journal_words.specs.Journals.{Decision, home_of, pending}
 use Rattle.grid_model.specs.Nodes.{is_home, journal, node, parts_in, parts_of}
-use Rattle.grid_model.specs.Rows.{answer, ask_row, ballot_row, decides, full_row, greatest_vote, have_voted, not_among, not_voted, retry_row, row_of, tells, vote_row}
+use Rattle.grid_model.specs.Rows.{answer, asked_outs, ballot_outs, decides, full_outs, greatest_vote, have_voted, not_among, not_voted, retry_outs, message_outs, tells, vote_outs}
 use Rattle.grid_model.specs.Stories.{has_voted}
 use Rattle.grid_model.specs.Views.{Apart, Collects, Commits, Open, Reads, Stage, stage, view, participant}
 use Rattle.grid_model.specs.declared.acts.Act.{Act}
@@ -62,24 +62,24 @@ decided-parts d past n t y acks all e =
     let here = decision-home d n t y (node d past n).journal (nodes-fit d past all n).homes (undone-decision t y (node d past n).journal (stage-commits d past n t y acks e)) in
     record { home = here.home; parts = λ z i. let P : List NodeId → Type 0 = λ ns. is_among z ns ≡ true in subst P here.parts i }
 
-well-full : (d : DocumentData) (n : NodeId) (t : TxId) (ns : List NodeId) (votes : List Voted) → TellsParts d n t ns → AreWell d n (full_row t ns votes)
+well-full : (d : DocumentData) (n : NodeId) (t : TxId) (ns : List NodeId) (votes : List Voted) → TellsParts d n t ns → AreWell d n (full_outs t ns votes)
 well-full d n t ns votes h = well-if d n (have_voted ns votes) (decides t (greatest_vote votes) ns) [] (well-tells d n t (outcome.Commit (greatest_vote votes)) ns h) refl
 
-well-ballot : (d : DocumentData) (n : NodeId) (t : TxId) (ns : List NodeId) (vs : List Voted) (x : NodeId) (b : Ballot) → TellsParts d n t ns → AreWell d n (ballot_row t ns vs x b)
+well-ballot : (d : DocumentData) (n : NodeId) (t : TxId) (ns : List NodeId) (vs : List Voted) (x : NodeId) (b : Ballot) → TellsParts d n t ns → AreWell d n (ballot_outs t ns vs x b)
 well-ballot d n t ns vs x (ballot.Yes p) h = well-full d n t ns (vs ++ record { from = x; p = p } ∷ []) h
 well-ballot d n t ns vs x (ballot.No why) h = well-tells d n t outcome.Abort (others x ns) (fewer d n t (λ m. not (m == x)) ns h)
 
-well-vote : (d : DocumentData) (past : List Act) (n : NodeId) (t : TxId) (x : NodeId) (b : Ballot) (g : Stage) → stage (view d past n) t ≡ g → AreWell d n (vote_row d.cluster t x b g)
-well-vote d past n t x b (Collects o) e = well-if d n (has_voted x o.progress.votes) [] (ballot_row t (parts_now d.cluster o) o.progress.votes x b) refl (well-ballot d n t (parts_now d.cluster o) o.progress.votes x b (open-parts d past n t o e))
+well-vote : (d : DocumentData) (past : List Act) (n : NodeId) (t : TxId) (x : NodeId) (b : Ballot) (g : Stage) → stage (view d past n) t ≡ g → AreWell d n (vote_outs d.cluster t x b g)
+well-vote d past n t x b (Collects o) e = well-if d n (has_voted x o.progress.votes) [] (ballot_outs t (parts_now d.cluster o) o.progress.votes x b) refl (well-ballot d n t (parts_now d.cluster o) o.progress.votes x b (open-parts d past n t o e))
 well-vote d past n t x b w e = refl
 
-well-asked : (d : DocumentData) (n : NodeId) (t : TxId) (x : NodeId) (g : Stage) → HomeAndPart d t n x → AreWell d n (ask_row t x g)
+well-asked : (d : DocumentData) (n : NodeId) (t : TxId) (x : NodeId) (g : Stage) → HomeAndPart d t n x → AreWell d n (asked_outs t x g)
 well-asked d n t x g h = go g
   where
     both : (is_end d t n && is_end d t x) ≡ true
     both = and_from (is_end d t n) (is_end d t x) (or_left (is_home d t n) (is_among n (parts_at d t)) h.home) (or_right (is_home d t x) (is_among x (parts_at d t)) h.part)
 
-    go : (g : Stage) → AreWell d n (ask_row t x g)
+    go : (g : Stage) → AreWell d n (asked_outs t x g)
     go (Reads o j) = refl
     go (Collects o) = refl
     go (Commits y acks) = and_from (is_end d t n && is_end d t x) true both refl
@@ -87,7 +87,7 @@ well-asked d n t x g h = go g
 
 -- ---- each row
 
-well-row_of : (d : DocumentData) (past : List Act) (n x : NodeId) (said : Message) → HasEnds d x n said → AreWell d n (row_of n (participant (view d past n)) (view d past n).held (stage (view d past n) (tx_in said)) x said)
+well-row_of : (d : DocumentData) (past : List Act) (n x : NodeId) (said : Message) → HasEnds d x n said → AreWell d n (message_outs n (participant (view d past n)) (view d past n).held (stage (view d past n) (tx_in said)) x said)
 well-row_of d past n x (message.ReadReq q) h = well-read d n (view d past n) x q _
 well-row_of d past n x (message.ReadRep q) h = well-reply d n q _
 well-row_of d past n x (message.Prepare q) h = well-prepare d n x q.t _ _ _ _ _
@@ -99,7 +99,7 @@ well-row_of d past n x (message.Ask t) h = well-asked d n t x _ h
 pub well-answer : (d : DocumentData) (past : List Act) (n x : NodeId) (said : Message) → HasEnds d x n said → AreWell d n (answer n (view d past n) x said)
 well-answer d past n x said h = well-if d n (is_fit_at n (participant (view d past n)) (stage (view d past n) (tx_in said)) x said) _ [] (well-row_of d past n x said h) refl
 
-well-retry : (d : DocumentData) (past : List Act) (n : NodeId) (t : TxId) (g : Stage) → AllDue d past → stage (view d past n) t ≡ g → AreWell d n (retry_row d.cluster t g)
+well-retry : (d : DocumentData) (past : List Act) (n : NodeId) (t : TxId) (g : Stage) → AllDue d past → stage (view d past n) t ≡ g → AreWell d n (retry_outs d.cluster t g)
 well-retry d past n t (Reads x j) all e = well-request d n x j x.progress.turn (op_at x.script.ops j)
 well-retry d past n t (Collects x) all e = well-prepares d n x (not_voted (parts_now d.cluster x) x.progress.votes)
 well-retry d past n t (Commits y acks) all e = well-tells d n t (outcome.Commit y.final) (not_among y.parts acks) (fewer d n t (λ n. not (is_among n acks)) y.parts (decided-parts d past n t y acks all e))

@@ -19,7 +19,7 @@ use Rattle.grid_model.specs.Documents.{DocumentData, IsOne}
 use Rattle.grid_model.specs.Fitness.{is_fit, is_fit_at}
 use Rattle.grid_model.specs.Histories.{after, sent, sent_at}
 use Rattle.grid_model.specs.Nodes.{is_home_in, script_of}
-use Rattle.grid_model.specs.Rows.{answer, reply_row}
+use Rattle.grid_model.specs.Rows.{answer, reply_outs}
 use Rattle.grid_model.specs.Runs.{IsRun}
 use Rattle.grid_model.specs.Schedules.{kept, next_number, numbered}
 use Rattle.grid_model.specs.Stories.{story, told}
@@ -58,7 +58,7 @@ reply-taken : (d : DocumentData) (past : List Act) (m : ℕ) (n x : NodeId) (b :
 reply-taken d past m n x b q o e fit =
     let v : View = view d past n in
     let os : List Out = advance d.cluster (with_reply q o) q.op in
-    let is : answer n v x (message.ReadRep q) ≡ out.Act (act.Taken q.t q.op q.sid q.value) ∷ os = fit-answer (is_fit_at n (participant v) (stage v q.t) x (message.ReadRep q)) fit (reply_row d.cluster q (stage v q.t)) ∙ ap (reply_row d.cluster q) e ∙ same-op (q.op == q.op) (same-number q.op) (out.Act (act.Taken q.t q.op q.sid q.value) ∷ os) in
+    let is : answer n v x (message.ReadRep q) ≡ out.Act (act.Taken q.t q.op q.sid q.value) ∷ os = fit-answer (is_fit_at n (participant v) (stage v q.t) x (message.ReadRep q)) fit (reply_outs d.cluster q (stage v q.t)) ∙ ap (reply_outs d.cluster q) e ∙ same-op (q.op == q.op) (same-number q.op) (out.Act (act.Taken q.t q.op q.sid q.value) ∷ os) in
     (numbered m n (kept b n os), ap (λ z. numbered m n (kept b n z)) is ∙ kept-first m n b (act.Taken q.t q.op q.sid q.value) os refl)
   where
     fit-answer : (c : Bool) → c ≡ true → (os : List Out) → (if c then os else []) ≡ os

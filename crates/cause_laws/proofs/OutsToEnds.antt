@@ -6,7 +6,7 @@ use Rattle.grid_model.specs.Claims.{is_end}
 use Rattle.grid_model.specs.Documents.{DocumentData}
 use Rattle.grid_model.specs.Histories.{after}
 use Rattle.journal_words.specs.Journals.{ended, floor, home_of, is_clear, is_commit, pending}
-use Rattle.grid_model.specs.Rows.{abort_row, ack_row, answered, are_all_among, ceiling_of, ceilings, commit_row, freed_by, judged, prepare_row, raises, read_row, release, reply_row, served, tell_outs, version_for, if_pending}
+use Rattle.grid_model.specs.Rows.{abort_outs, ack_outs, answered, are_all_among, ceiling_of, ceilings, commit_outs, freed_by, judged, prepared_outs, raises, read_outs, release, reply_outs, served, tell_outs, version_for, if_pending}
 use Rattle.grid_model.specs.Schedules.{broken, head_at, kept, numbered, stopped}
 use Rattle.script_runs.specs.Waits.{waiting}
 use Rattle.grid_model.specs.Views.{Commits, Open, Reads, Stage, View, participant}
@@ -132,13 +132,13 @@ well-answered : (d : DocumentData) (n : NodeId) (b : Bool) (x : NodeId) (q : Rea
 well-answered d n true x q sid w = refl
 well-answered d n false x q sid w = refl
 
-pub well-read : (d : DocumentData) (n : NodeId) (v : View) (x : NodeId) (q : ReadReq) (sid : Ident) → AreWell d n (read_row n (participant v) x q sid)
+pub well-read : (d : DocumentData) (n : NodeId) (v : View) (x : NodeId) (q : ReadReq) (sid : Ident) → AreWell d n (read_outs n (participant v) x q sid)
 well-read d n v x q sid =
     well-append d n (ceilings n (floor v.journal) sid) _ (well-if d n (nat_lt (floor v.journal) sid) (out.Act (act.Ceiling n (ceiling_of sid)) ∷ []) [] refl refl)
     (well-append d n (raises n v.next sid) _ (well-if d n (nat_lt v.next sid) (out.Act (act.Raised n sid) ∷ []) [] refl refl)
     (well-answered d n (is_clear sid v.journal) x q sid (version_for v.cluster v.journal q.key sid)))
 
-pub well-reply : (d : DocumentData) (n : NodeId) (q : ReadRep) (g : Stage) → AreWell d n (reply_row d.cluster q g)
+pub well-reply : (d : DocumentData) (n : NodeId) (q : ReadRep) (g : Stage) → AreWell d n (reply_outs d.cluster q g)
 well-reply d n q (Reads x j) = well-if d n (j == q.op) (out.Act (act.Taken q.t q.op q.sid q.value) ∷ advance d.cluster (with_reply q x) q.op) [] (well-advance d n (with_reply q x) q.op) refl
 well-reply d n q w = refl
 
@@ -147,17 +147,17 @@ well-judged d n x t (Some u) y p = refl
 well-judged d n x t None (Some y) p = refl
 well-judged d n x t None None p = refl
 
-pub well-prepare : (d : DocumentData) (n x : NodeId) (t : TxId) (o : Option Outcome) (mine : Option Ident) (u : Option TxId) (y : Option (Key × Ident)) (p : Ident) → AreWell d n (prepare_row n x t o mine u y p)
+pub well-prepare : (d : DocumentData) (n x : NodeId) (t : TxId) (o : Option Outcome) (mine : Option Ident) (u : Option TxId) (y : Option (Key × Ident)) (p : Ident) → AreWell d n (prepared_outs n x t o mine u y p)
 well-prepare d n x t (Some o) mine u y p = refl
 well-prepare d n x t None (Some q) u y p = refl
 well-prepare d n x t None None u y p = well-judged d n x t u y p
 
-well-commit : (d : DocumentData) (n : NodeId) (t : TxId) (f : Ident) (p : Option Ident) (b : Bool) (ack freed : List Out) → AreWell d n ack → AreWell d n freed → AreWell d n (commit_row n t f p b ack ++ if_pending p freed)
+well-commit : (d : DocumentData) (n : NodeId) (t : TxId) (f : Ident) (p : Option Ident) (b : Bool) (ack freed : List Out) → AreWell d n ack → AreWell d n freed → AreWell d n (commit_outs n t f p b ack ++ if_pending p freed)
 well-commit d n t f (Some p) b ack freed h k = well-append d n ack freed h k
 well-commit d n t f None true ack freed h k = well-append d n ack [] h refl
 well-commit d n t f None false ack freed h k = refl
 
-well-abort : (d : DocumentData) (n : NodeId) (t : TxId) (p : Option Ident) (freed : List Out) → AreWell d n freed → AreWell d n (abort_row n t p ++ if_pending p freed)
+well-abort : (d : DocumentData) (n : NodeId) (t : TxId) (p : Option Ident) (freed : List Out) → AreWell d n freed → AreWell d n (abort_outs n t p ++ if_pending p freed)
 well-abort d n t (Some p) freed k = k
 well-abort d n t None freed k = refl
 
@@ -165,6 +165,6 @@ pub well-tell : (d : DocumentData) (n : NodeId) (v : View) (t : TxId) (o : Outco
 well-tell d n v t (outcome.Commit f) = well-commit d n t f (pending t v.journal) (is_commit (ended t v.journal)) _ (freed_by n (participant v) v.held t (outcome.Commit f)) (well-to_node d n (home_of t v.journal) (message.Ack t) (λ y. refl)) (well-release d n v.cluster (record'.Ended t (outcome.Commit f) ∷ v.journal) v.held)
 well-tell d n v t outcome.Abort = well-abort d n t (pending t v.journal) (freed_by n (participant v) v.held t outcome.Abort) (well-release d n v.cluster (record'.Ended t outcome.Abort ∷ v.journal) v.held)
 
-pub well-acks : (d : DocumentData) (n : NodeId) (t : TxId) (x : NodeId) (g : Stage) → AreWell d n (ack_row t x g)
+pub well-acks : (d : DocumentData) (n : NodeId) (t : TxId) (x : NodeId) (g : Stage) → AreWell d n (ack_outs t x g)
 well-acks d n t x (Commits y acks) = well-if d n (is_among x acks) [] _ refl (well-if d n (are_all_among y.parts (acks ++ x ∷ [])) (out.Act (act.Closed t) ∷ []) [] refl refl)
 well-acks d n t x w = refl

@@ -14,7 +14,7 @@ use Rattle.grid_model.specs.Documents.{DocumentData}
 use Rattle.grid_model.specs.Fitness.{is_fit, is_fit_at}
 use Rattle.grid_model.specs.Histories.{sent, sent_at}
 use Rattle.grid_model.specs.Nodes.{got, journal, node, parts_of, script_of}
-use Rattle.grid_model.specs.Rows.{answer, ballot_row, decides, full_row, greatest_vote, have_voted, tells, vote_row}
+use Rattle.grid_model.specs.Rows.{answer, ballot_outs, decides, full_outs, greatest_vote, have_voted, tells, vote_outs}
 use Rattle.grid_model.specs.Schedules.{kept, next_number, numbered}
 use Rattle.grid_model.specs.Stories.{Collecting, has_voted, heard_at, if_told, is_counted_vote, is_fit_ballot, is_open, is_small_node, phase_at, story, told, with_vote, progressed}
 use Rattle.script_runs.specs.Waits.{waiting}
@@ -109,7 +109,7 @@ heard-new d past n s st x p home gathers small fit part new =
 voted-last : (x : NodeId) (p : Ident) (vs : List Voted) → has_voted x (vs ++ record { from = x; p = p } ∷ []) ≡ true
 voted-last x p vs = list_any-append (λ (v : Voted). v.from == x) vs (record { from = x; p = p } ∷ []) ∙ or_right (has_voted x vs) (has_voted x (record { from = x; p = p } ∷ [])) (or_left (x == x) false (same-number x))
 
-vote-counts : (d : DocumentData) (past : List Act) (m : ℕ) (n x : NodeId) (b : Bool) (s : ScriptData) (p : Ident) (y : Story) (rest : List Act) → script_of s.number d.scripts ≡ Some s → s.home ≡ n → sent_at m (sent past) ≡ Some (record { from = x; to = n; message = message.Vote s.number (ballot.Yes p) }) → story d past s.number ≡ Some y → is_settled d past s ≡ false → waiting s.ops y.progress.values ≡ None → is_small_node (journal d past n) (node d past n).next ≡ true → is_fit_ballot (ballot.Yes p) ≡ true → is_among x (parts_of d s) ≡ true → has_voted x y.progress.votes ≡ false → rest ≡ numbered (next_number past) n (kept b n (full_row s.number (parts_of d s) (y.progress.votes ++ record { from = x; p = p } ∷ []))) → VoteResult d past m n x s rest
+vote-counts : (d : DocumentData) (past : List Act) (m : ℕ) (n x : NodeId) (b : Bool) (s : ScriptData) (p : Ident) (y : Story) (rest : List Act) → script_of s.number d.scripts ≡ Some s → s.home ≡ n → sent_at m (sent past) ≡ Some (record { from = x; to = n; message = message.Vote s.number (ballot.Yes p) }) → story d past s.number ≡ Some y → is_settled d past s ≡ false → waiting s.ops y.progress.values ≡ None → is_small_node (journal d past n) (node d past n).next ≡ true → is_fit_ballot (ballot.Yes p) ≡ true → is_among x (parts_of d s) ≡ true → has_voted x y.progress.votes ≡ false → rest ≡ numbered (next_number past) n (kept b n (full_outs s.number (parts_of d s) (y.progress.votes ++ record { from = x; p = p } ∷ []))) → VoteResult d past m n x s rest
 vote-counts d past m n x b s p y rest is home got told unsettled full small fit part new r = go (have_voted (parts_of d s) (y.progress.votes ++ record { from = x; p = p } ∷ [])) refl b r
   where
     P : NodeId → Type 0
@@ -145,13 +145,13 @@ vote-result d past m n x b s a y rest is home got fit r told unsettled full = go
     gathers : stage v s.number ≡ Collects (open_of s y)
     gathers = stage-open d past n s.number s y is home told unsettled ∙ ap (λ w. open_stage (open_of s y) w) full
 
-    row : answer n v x (message.Vote s.number a) ≡ vote_row d.cluster s.number x a (Collects (open_of s y))
-    row = fit-row n x v (message.Vote s.number a) fit ∙ ap (vote_row d.cluster s.number x a) gathers
+    row : answer n v x (message.Vote s.number a) ≡ vote_outs d.cluster s.number x a (Collects (open_of s y))
+    row = fit-row n x v (message.Vote s.number a) fit ∙ ap (vote_outs d.cluster s.number x a) gathers
 
     Acts : List Out → Type 0
     Acts = λ os. rest ≡ numbered (next_number past) n (kept b n os)
 
-    here : Acts (if has_voted x y.progress.votes then [] else ballot_row s.number (parts_of d s) y.progress.votes x a)
+    here : Acts (if has_voted x y.progress.votes then [] else ballot_outs s.number (parts_of d s) y.progress.votes x a)
     here = subst Acts row r
 
     same : story d (act.Got m ∷ past) s.number ≡ heard_at d past (Some s) (Some (record { from = x; to = n; message = message.Vote s.number a })) (Some y)
@@ -166,15 +166,15 @@ vote-result d past m n x b s a y rest is home got fit r told unsettled full = go
     both : (is_fit_ballot a ≡ true) × (is_among x (parts_of d s) ≡ true)
     both = and_parts (is_fit_ballot a) (is_among x (parts_of d s)) (and_parts (is_small_node (journal d past n) (node d past n).next) (is_fit_ballot a && is_among x (parts_of d s)) fits).1
 
-    by : (a : Ballot) → sent_at m (sent past) ≡ Some (record { from = x; to = n; message = message.Vote s.number a }) → is_fit_ballot a ≡ true → has_voted x y.progress.votes ≡ false → rest ≡ numbered (next_number past) n (kept b n (ballot_row s.number (parts_of d s) y.progress.votes x a)) → VoteResult d past m n x s rest
+    by : (a : Ballot) → sent_at m (sent past) ≡ Some (record { from = x; to = n; message = message.Vote s.number a }) → is_fit_ballot a ≡ true → has_voted x y.progress.votes ≡ false → rest ≡ numbered (next_number past) n (kept b n (ballot_outs s.number (parts_of d s) y.progress.votes x a)) → VoteResult d past m n x s rest
     by (ballot.No why) got fb new k = refused_by why (numbered (next_number past) n (kept b n (tells s.number outcome.Abort (others x (parts_of d s))))) (k ∙ kept-first (next_number past) n b (act.Aborted s.number x why) (tells s.number outcome.Abort (others x (parts_of d s))) refl)
     by (ballot.Yes p) got fb new k = vote-counts d past m n x b s p y rest is home got told unsettled full small fb both.1 new k
 
     go : (c : Bool) → has_voted x y.progress.votes ≡ c → VoteResult d past m n x s rest
     go true e =
-        let P : Bool → Type 0 = λ c. Acts (if c then [] else ballot_row s.number (parts_of d s) y.progress.votes x a) in
+        let P : Bool → Type 0 = λ c. Acts (if c then [] else ballot_outs s.number (parts_of d s) y.progress.votes x a) in
         let Q : Option Story → Type 0 = λ o. is_voted_in x o ≡ true in
         known_vote (subst P e here ∙ kept-none (next_number past) n b) (subst Q (sym told) e) (same ∙ heard-known d past s x n s.number a y e ∙ sym told)
     go false e =
-        let P : Bool → Type 0 = λ c. Acts (if c then [] else ballot_row s.number (parts_of d s) y.progress.votes x a) in
+        let P : Bool → Type 0 = λ c. Acts (if c then [] else ballot_outs s.number (parts_of d s) y.progress.votes x a) in
         by a got both.0 e (subst P e here)

@@ -11,7 +11,7 @@ use Rattle.grid_model.specs.Fitness.{is_fit, is_fit_at, tx_in}
 use Rattle.grid_model.specs.Histories.{after}
 use Rattle.journal_words.specs.Journals.{ended}
 use Rattle.grid_model.specs.Nodes.{journal}
-use Rattle.grid_model.specs.Rows.{answer, judged, prepare_row, row_of}
+use Rattle.grid_model.specs.Rows.{answer, judged, prepared_outs, message_outs}
 use Rattle.grid_model.specs.Runs.{IsRun}
 use Rattle.grid_model.specs.Schedules.{kept, next_number, numbered, start_row}
 use Rattle.grid_model.specs.Views.{View, stage, view, participant}
@@ -48,7 +48,7 @@ voted-judged n x t None (Some y) p m false = rw (same-number n, same-number t) r
 voted-judged n x t None None p m true = rw (same-number n, same-number t) refl
 voted-judged n x t None None p m false = rw (same-number n) refl
 
-voted-row : (n x : NodeId) (t : TxId) (o : Option Outcome) (mine : Option Ident) (u : Option TxId) (y : Option (Key × Ident)) (p : Ident) (m : ℕ) (b : Bool) → o ≡ None → is_voted n t (after [] (numbered m n (kept b n (prepare_row n x t o mine u y p)))) ≡ true
+voted-row : (n x : NodeId) (t : TxId) (o : Option Outcome) (mine : Option Ident) (u : Option TxId) (y : Option (Key × Ident)) (p : Ident) (m : ℕ) (b : Bool) → o ≡ None → is_voted n t (after [] (numbered m n (kept b n (prepared_outs n x t o mine u y p)))) ≡ true
 voted-row n x t (Some o) mine u y p m b e = cc
 voted-row n x t None (Some q) u y p m true e = rw (same-number n, same-number t) refl
 voted-row n x t None (Some q) u y p m false e = rw (same-number n, same-number t) refl
@@ -98,10 +98,10 @@ prepare-of t (message.Prepare q) h = (q, refl, grind (arith, nat_tests, h))
 prepare-of t said h = cc
 
 -- a fit message is answered by its row
-pub fit-row : (n x : NodeId) (v : View) (said : Message) → is_fit n v x said ≡ true → answer n v x said ≡ row_of n (participant v) v.held (stage v (tx_in said)) x said
+pub fit-row : (n x : NodeId) (v : View) (said : Message) → is_fit n v x said ≡ true → answer n v x said ≡ message_outs n (participant v) v.held (stage v (tx_in said)) x said
 fit-row n x v said h = go (is_fit_at n (participant v) (stage v (tx_in said)) x said) h
   where
-    go : (b : Bool) → b ≡ true → (if b then row_of n (participant v) v.held (stage v (tx_in said)) x said else []) ≡ row_of n (participant v) v.held (stage v (tx_in said)) x said
+    go : (b : Bool) → b ≡ true → (if b then message_outs n (participant v) v.held (stage v (tx_in said)) x said else []) ≡ message_outs n (participant v) v.held (stage v (tx_in said)) x said
     go true e = refl
     go false e = cc
 

@@ -15,7 +15,7 @@ use Rattle.score_base.specs.Keys.{is_key, same_key}
 use Rattle.script_lang.specs.Scripts.{ScriptData}
 use Rattle.placement.specs.Places.{is_partition, are_distinct}
 use Rattle.placement.specs.Clusters.{are_keys_distinct}
-use Rattle.grid_model.specs.Documents.{script_numbers, keys_in, key_order, number_order}
+use Rattle.grid_model.specs.Documents.{script_numbers, keys_of_document, key_order, number_order}
 use Rattle.cluster_file.specs.declared.drafts.Draft.{Draft}
 use Rattle.cluster_file.specs.declared.drafts.Part.{Part}
 use Rattle.cluster_file.specs.declared.drafts.Part.TheVariants as part
@@ -113,15 +113,15 @@ is_open part.Items h = absurd h
 
 -- a draft of these scripts, and no item
 abbrev pub scripted : Part → ℕ → List (List NodeId) → List (Key × Value) → List ScriptData → Draft
-scripted p n ps xs ss = record { part = p; nodes = n; places = ps; inits = xs; scripts = ss; script = None; items = []; events = 0; known = record { keys = key_order (keys_in xs ss) }; numbers = record { keys = number_order (script_numbers ss) } }
+scripted p n ps xs ss = record { part = p; nodes = n; places = ps; inits = xs; scripts = ss; script = None; items = []; events = 0; known = record { keys = key_order (keys_of_document xs ss) }; numbers = record { keys = number_order (script_numbers ss) } }
 
 module _ (n : ℕ) (ps : List (List NodeId)) where
-  init_words_again : (p : Part) (xs : List (Key × Value)) (k : Key) (v : Value) (more : List (Key × Value)) → IsEarly p → are_keys_distinct (xs ++ (k, v) ∷ more) ≡ true → length (key_order (keys_in (xs ++ (k, v) ∷ []) [])) ≤ MAX_KEYS → is_key k ≡ true → v < 2 ^ 64 → words_line (scripted p n ps xs []) (init_words (k, v)) ≡ Ok (scripted part.Inits n ps (xs ++ (k, v) ∷ []) [])
+  init_words_again : (p : Part) (xs : List (Key × Value)) (k : Key) (v : Value) (more : List (Key × Value)) → IsEarly p → are_keys_distinct (xs ++ (k, v) ∷ more) ≡ true → length (key_order (keys_of_document (xs ++ (k, v) ∷ []) [])) ≤ MAX_KEYS → is_key k ≡ true → v < 2 ^ 64 → words_line (scripted p n ps xs []) (init_words (k, v)) ≡ Ok (scripted part.Inits n ps (xs ++ (k, v) ∷ []) [])
   init_words_again p xs k v more early distinct few is low =
       let fresh : list_any (λ y. same_key y.0 k) xs ≡ false = distinct_before (λ (a b : Key × Value). same_key a.0 b.0) (λ a b. nat_list_eq_equiv.symm a.0 b.0) are_keys_distinct (λ x l. refl) xs (k, v) more distinct in
-      let new : list_any (same_key k) (key_order (keys_in xs [])) ≡ false = among_keys k (keys_in xs []) ∙ sym (known_in_inits xs k) ∙ fresh in
-      let named : insert_key (slice_cmp nat_cmp) (key_order (keys_in xs [])) k ≡ key_order (keys_in (xs ++ (k, v) ∷ []) []) = sym (key_order_last (keys_in xs []) k) ∙ ap key_order (sym (keys_init xs (k, v))) in
-      let room : length (insert_key (slice_cmp nat_cmp) (key_order (keys_in xs [])) k) ≤ MAX_KEYS = omega (arith, few, ap length named) in
+      let new : list_any (same_key k) (key_order (keys_of_document xs [])) ≡ false = among_keys k (keys_of_document xs []) ∙ sym (known_in_inits xs k) ∙ fresh in
+      let named : insert_key (slice_cmp nat_cmp) (key_order (keys_of_document xs [])) k ≡ key_order (keys_of_document (xs ++ (k, v) ∷ []) []) = sym (key_order_last (keys_of_document xs []) k) ∙ ap key_order (sym (keys_init xs (k, v))) in
+      let room : length (insert_key (slice_cmp nat_cmp) (key_order (keys_of_document xs [])) k) ≤ MAX_KEYS = omega (arith, few, ap length named) in
       by p early
       ∙ init_line_again (record (scripted p n ps xs []) { script = None }) k v new room is low
       ∙ ap (λ ks. Ok (record (scripted part.Inits n ps (xs ++ (k, v) ∷ []) []) { known = record { keys = ks } })) named
@@ -134,7 +134,7 @@ module _ (n : ℕ) (ps : List (List NodeId)) where
       by part.Scripts h = absurd h
       by part.Items h = absurd h
 
-  pub inits_again : (p : Part) (xs ys : List (Key × Value)) (tail : List (List (List ℕ))) (r : Result Draft Why) → IsEarly p → are_keys_distinct (xs ++ ys) ≡ true → length (key_order (keys_in (xs ++ ys) [])) ≤ MAX_KEYS → list_all is_init_in_range ys ≡ true
+  pub inits_again : (p : Part) (xs ys : List (Key × Value)) (tail : List (List (List ℕ))) (r : Result Draft Why) → IsEarly p → are_keys_distinct (xs ++ ys) ≡ true → length (key_order (keys_of_document (xs ++ ys) [])) ≤ MAX_KEYS → list_all is_init_in_range ys ≡ true
       → ((q : Part) → IsEarly q → lines_from (scripted q n ps (xs ++ ys) []) tail ≡ r) → lines_from (scripted p n ps xs []) (map init_words ys ++ tail) ≡ r
   inits_again p xs [] tail r early distinct few are next = ap (λ l. lines_from (scripted p n ps l []) tail) (sym (append-nil xs)) ∙ next p early
   inits_again p xs (y ∷ ys) tail r early distinct few are next =
@@ -142,8 +142,8 @@ module _ (n : ℕ) (ps : List (List NodeId)) where
       let b = and_parts (is_key y.0) (nat_lt y.1 (2 ^ 64)) a.0 in
       let low : y.1 < 2 ^ 64 = grind (arith, nat_tests, b.1) in
       let assoc : (xs ++ y ∷ []) ++ ys ≡ xs ++ y ∷ ys = append_assoc xs (y ∷ []) ys in
-      let fewer : length (key_order (keys_in (xs ++ y ∷ []) [])) ≤ MAX_KEYS = first_few (keys_in (xs ++ y ∷ []) []) (map (λ x. x.0) ys) (keys_in (xs ++ y ∷ ys) []) (ap (λ l. keys_in l []) (sym assoc) ∙ keys_more_inits (xs ++ y ∷ []) ys) few in
+      let fewer : length (key_order (keys_of_document (xs ++ y ∷ []) [])) ≤ MAX_KEYS = first_few (keys_of_document (xs ++ y ∷ []) []) (map (λ x. x.0) ys) (keys_of_document (xs ++ y ∷ ys) []) (ap (λ l. keys_of_document l []) (sym assoc) ∙ keys_more_inits (xs ++ y ∷ []) ys) few in
       then_lines (scripted p n ps xs []) (scripted part.Inits n ps (xs ++ y ∷ []) []) (init_words y) (map init_words ys ++ tail) r
       (init_words_again p xs y.0 y.1 ys early distinct fewer b.0 low)
-      (inits_again part.Inits (xs ++ y ∷ []) ys tail r tt (ap are_keys_distinct assoc ∙ distinct) (subst (λ l. length (key_order (keys_in l [])) ≤ MAX_KEYS) (sym assoc) few) a.1
+      (inits_again part.Inits (xs ++ y ∷ []) ys tail r tt (ap are_keys_distinct assoc ∙ distinct) (subst (λ l. length (key_order (keys_of_document l [])) ≤ MAX_KEYS) (sym assoc) few) a.1
       (λ q h. ap (λ l. lines_from (scripted q n ps l []) tail) assoc ∙ next q h))

@@ -10,7 +10,7 @@ use Rattle.score_base.specs.declared.ids.NodeId.{NodeId}
 use Rattle.score_base.specs.declared.ids.Value.{Value}
 use Rattle.script_lang.specs.Scripts.{ScriptData}
 use Rattle.script_lang.specs.Reads.{keys_named}
-use Rattle.grid_model.specs.Documents.{DocumentData, IsDocument, script_numbers, events_of, keys_in, key_order, number_order, is_item}
+use Rattle.grid_model.specs.Documents.{DocumentData, IsDocument, script_numbers, events_of, keys_of_document, key_order, number_order, is_item}
 use Rattle.grid_model.specs.declared.items.Item.{Item}
 use Rattle.grid_model.specs.declared.items.Item.TheVariants as item
 use Rattle.cluster_file.specs.declared.drafts.Draft.{Draft}
@@ -32,7 +32,7 @@ use Rattle.cluster_file.specs.declared.limits.TheConstants.{MAX_EVENTS, MAX_KEYS
 
 -- a draft of these items so far
 abbrev pub running : ℕ → List (List NodeId) → List (Key × Value) → List ScriptData → List Item → ℕ → Draft
-running n ps xs ss items events = record { part = part.Items; nodes = n; places = ps; inits = xs; scripts = ss; script = None; items = items; events = events; known = record { keys = key_order (keys_in xs ss) }; numbers = record { keys = number_order (script_numbers ss) } }
+running n ps xs ss items events = record { part = part.Items; nodes = n; places = ps; inits = xs; scripts = ss; script = None; items = items; events = events; known = record { keys = key_order (keys_of_document xs ss) }; numbers = record { keys = number_order (script_numbers ss) } }
 
 module _ (n : ℕ) (ps : List (List NodeId)) (xs : List (Key × Value)) where
   schedule_again : (p : Part) (ss : List ScriptData) → IsOpen p → words_line (scripted p n ps xs ss) (codes "schedule" ∷ []) ≡ Ok (running n ps xs ss [] 0)
@@ -88,7 +88,7 @@ document_again d h r b =
     let end : Result Draft Why = Ok (running n ps xs d.scripts d.items (0 + sum_by events_of d.items)) in
     let last : (p : Part) → IsOpen p → lines_from (scripted p n ps xs d.scripts) ((codes "schedule" ∷ []) ∷ items_left) ≡ end =
     λ p may. then_lines (scripted p n ps xs d.scripts) (running n ps xs d.scripts [] 0) (codes "schedule" ∷ []) items_left end (schedule_again n ps xs p d.scripts may) (items_again n ps xs d.scripts [] d.items 0 (omega (arith, h.events)) h.items r.items b.items) in
-    let init_keys : length (key_order (keys_in xs [])) ≤ MAX_KEYS = first_few (keys_in xs []) (flat_map (λ s. keys_named s.ops) d.scripts) (keys_in xs d.scripts) (keys_more_scripts xs [] d.scripts) h.keys in
+    let init_keys : length (key_order (keys_of_document xs [])) ≤ MAX_KEYS = first_few (keys_of_document xs []) (flat_map (λ s. keys_named s.ops) d.scripts) (keys_of_document xs d.scripts) (keys_more_scripts xs [] d.scripts) h.keys in
     then_lines blank (placed part.Nodes n []) (nodes_words n) (partition_lines 0 ps ++ inits_left) end (nodes_line_again n least most)
     (places_again n ps inits_left h.cluster.places.least h.cluster.places.most h.cluster.places.each h.cluster.within r.places
     ∙ inits_again n ps part.Partitions [] xs scripts_left end tt h.cluster.inits init_keys r.inits (λ p early.

@@ -18,7 +18,7 @@ use Rattle.script_lang.specs.Scripts.{ScriptData}
 use Rattle.script_lang.specs.Reads.{keys_named, key_of}
 use Rattle.script_lang.specs.declared.scripts.Op.{Op}
 use Rattle.script_lang.proofs.Seen.{keys_named_more}
-use Rattle.grid_model.specs.Documents.{script_numbers, keys_in, key_order, number_order}
+use Rattle.grid_model.specs.Documents.{script_numbers, keys_of_document, key_order, number_order}
 
 pub numbers_more : (ss ts : List ScriptData) → script_numbers (ss ++ ts) ≡ script_numbers ss ++ script_numbers ts
 numbers_more [] ts = refl
@@ -33,25 +33,25 @@ key_order_last ks k = fold-append (insert_key (slice_cmp nat_cmp)) [] ks (k ∷ 
 pub number_order_last : (ts : List TxId) (t : TxId) → number_order (ts ++ t ∷ []) ≡ insert_key nat_cmp (number_order ts) t
 number_order_last ts t = fold-append (insert_key nat_cmp) [] ts (t ∷ [])
 
-pub last_keys : (inits : List (Key × Value)) (ss : List ScriptData) (s : ScriptData) → keys_in inits (ss ++ s ∷ []) ≡ keys_in inits ss ++ keys_named s.ops
+pub last_keys : (inits : List (Key × Value)) (ss : List ScriptData) (s : ScriptData) → keys_of_document inits (ss ++ s ∷ []) ≡ keys_of_document inits ss ++ keys_named s.ops
 last_keys inits ss s =
     ap (λ ks. map (λ x. x.0) inits ++ ks) (flat_map-append (λ t. keys_named t.ops) ss (s ∷ []) ∙ ap (λ ks. flat_map (λ t. keys_named t.ops) ss ++ ks) (append-nil (keys_named s.ops)))
     ∙ sym (append_assoc (map (λ x. x.0) inits) (flat_map (λ t. keys_named t.ops) ss) (keys_named s.ops))
 
 -- one more operation of the last script
-pub keys_op : (inits : List (Key × Value)) (ss : List ScriptData) (s : ScriptData) (o : Op) → keys_in inits (ss ++ record s { ops = s.ops ++ o ∷ [] } ∷ []) ≡ keys_in inits (ss ++ s ∷ []) ++ key_of o ∷ []
+pub keys_op : (inits : List (Key × Value)) (ss : List ScriptData) (s : ScriptData) (o : Op) → keys_of_document inits (ss ++ record s { ops = s.ops ++ o ∷ [] } ∷ []) ≡ keys_of_document inits (ss ++ s ∷ []) ++ key_of o ∷ []
 keys_op inits ss s o =
     last_keys inits ss (record s { ops = s.ops ++ o ∷ [] })
-    ∙ ap (λ ks. keys_in inits ss ++ ks) (keys_named_more s.ops (o ∷ []))
-    ∙ sym (append_assoc (keys_in inits ss) (keys_named s.ops) (key_of o ∷ []))
+    ∙ ap (λ ks. keys_of_document inits ss ++ ks) (keys_named_more s.ops (o ∷ []))
+    ∙ sym (append_assoc (keys_of_document inits ss) (keys_named s.ops) (key_of o ∷ []))
     ∙ ap (λ ks. ks ++ key_of o ∷ []) (sym (last_keys inits ss s))
 
 -- one more script without operations
-pub keys_begun : (inits : List (Key × Value)) (ss : List ScriptData) (s : ScriptData) → s.ops ≡ [] → keys_in inits (ss ++ s ∷ []) ≡ keys_in inits ss
-keys_begun inits ss s e = last_keys inits ss s ∙ ap (λ ops. keys_in inits ss ++ keys_named ops) e ∙ append-nil (keys_in inits ss)
+pub keys_begun : (inits : List (Key × Value)) (ss : List ScriptData) (s : ScriptData) → s.ops ≡ [] → keys_of_document inits (ss ++ s ∷ []) ≡ keys_of_document inits ss
+keys_begun inits ss s e = last_keys inits ss s ∙ ap (λ ops. keys_of_document inits ss ++ keys_named ops) e ∙ append-nil (keys_of_document inits ss)
 
 -- one more initial value, before any script
-pub keys_init : (inits : List (Key × Value)) (x : Key × Value) → keys_in (inits ++ x ∷ []) [] ≡ keys_in inits [] ++ x.0 ∷ []
+pub keys_init : (inits : List (Key × Value)) (x : Key × Value) → keys_of_document (inits ++ x ∷ []) [] ≡ keys_of_document inits [] ++ x.0 ∷ []
 keys_init inits x = append-nil (map (λ y. y.0) (inits ++ x ∷ [])) ∙ map-append (λ y. y.0) inits (x ∷ []) ∙ ap (λ ks. ks ++ x.0 ∷ []) (sym (append-nil (map (λ y. y.0) inits)))
 
 pub all_last : {X : Type 0} (p : X → Bool) (xs : List X) (x : X) → list_all p xs ≡ true → p x ≡ true → list_all p (xs ++ x ∷ []) ≡ true
@@ -65,21 +65,21 @@ all_but_last p (y ∷ xs) x h =
     (rw (both.0, rest.0) refl, rest.1)
 
 -- before any script, the keys named are those of the initial values
-pub known_in_inits : (inits : List (Key × Value)) (k : Key) → list_any (λ x. same_key x.0 k) inits ≡ list_any (same_key k) (keys_in inits [])
+pub known_in_inits : (inits : List (Key × Value)) (k : Key) → list_any (λ x. same_key x.0 k) inits ≡ list_any (same_key k) (keys_of_document inits [])
 known_in_inits [] k = refl
 known_in_inits (x ∷ inits) k = rw (nat_list_eq_equiv.symm x.0 k, known_in_inits inits k) refl
 
 -- Some more behind others.
 
-pub keys_more_inits : (xs ys : List (Key × Value)) → keys_in (xs ++ ys) [] ≡ keys_in xs [] ++ map (λ x. x.0) ys
+pub keys_more_inits : (xs ys : List (Key × Value)) → keys_of_document (xs ++ ys) [] ≡ keys_of_document xs [] ++ map (λ x. x.0) ys
 keys_more_inits xs ys = append-nil (map (λ x. x.0) (xs ++ ys)) ∙ map-append (λ x. x.0) xs ys ∙ ap (λ l. l ++ map (λ x. x.0) ys) (sym (append-nil (map (λ x. x.0) xs)))
 
-pub keys_more_scripts : (inits : List (Key × Value)) (ss ts : List ScriptData) → keys_in inits (ss ++ ts) ≡ keys_in inits ss ++ flat_map (λ s. keys_named s.ops) ts
+pub keys_more_scripts : (inits : List (Key × Value)) (ss ts : List ScriptData) → keys_of_document inits (ss ++ ts) ≡ keys_of_document inits ss ++ flat_map (λ s. keys_named s.ops) ts
 keys_more_scripts inits ss ts = ap (λ l. map (λ x. x.0) inits ++ l) (flat_map-append (λ s. keys_named s.ops) ss ts) ∙ sym (append_assoc (map (λ x. x.0) inits) (flat_map (λ s. keys_named s.ops) ss) (flat_map (λ s. keys_named s.ops) ts))
 
-pub keys_more_ops : (inits : List (Key × Value)) (ss : List ScriptData) (s : ScriptData) (os rest : List Op) → keys_in inits (ss ++ record s { ops = os ++ rest } ∷ []) ≡ keys_in inits (ss ++ record s { ops = os } ∷ []) ++ keys_named rest
+pub keys_more_ops : (inits : List (Key × Value)) (ss : List ScriptData) (s : ScriptData) (os rest : List Op) → keys_of_document inits (ss ++ record s { ops = os ++ rest } ∷ []) ≡ keys_of_document inits (ss ++ record s { ops = os } ∷ []) ++ keys_named rest
 keys_more_ops inits ss s os rest =
     last_keys inits ss (record s { ops = os ++ rest })
-    ∙ ap (λ l. keys_in inits ss ++ l) (keys_named_more os rest)
-    ∙ sym (append_assoc (keys_in inits ss) (keys_named os) (keys_named rest))
+    ∙ ap (λ l. keys_of_document inits ss ++ l) (keys_named_more os rest)
+    ∙ sym (append_assoc (keys_of_document inits ss) (keys_named os) (keys_named rest))
     ∙ ap (λ l. l ++ keys_named rest) (sym (last_keys inits ss (record s { ops = os })))

@@ -18,7 +18,7 @@ use Rattle.script_lang.specs.declared.scripts.Op.{Op}
 use Rattle.script_lang.specs.Reads as reads
 use Rattle.placement.specs.Places.{are_distinct}
 use Rattle.placement.specs.Clusters.{are_keys_distinct}
-use Rattle.grid_model.specs.Documents.{script_numbers, are_numbers_distinct, events_of, keys_in, is_item, key_order, number_order}
+use Rattle.grid_model.specs.Documents.{script_numbers, are_numbers_distinct, events_of, keys_of_document, is_item, key_order, number_order}
 use Rattle.grid_model.specs.declared.items.Item.{Item}
 use Rattle.script_lang.specs.Reading.{steps}
 use Rattle.cluster_file.specs.Lines.{name_new_key, new_node, node_step, is_next}
@@ -68,11 +68,11 @@ name_new_key_keeps known k = either (has_name known k) _ _ _ (λ e. tt) (λ e. w
 
 pub named_init : (nodes : ℕ) (inits : List (Key × Value)) (known ks : List Key) (numbers : List TxId) (k : Key) (v : Value) → IsNamed nodes inits [] known numbers → list_any (same_key k) known ≡ false → ks ≡ insert_key (slice_cmp nat_cmp) known k → length ks ≤ MAX_KEYS → IsNamed nodes (inits ++ (k, v) ∷ []) [] ks numbers
 named_init nodes inits known ks numbers k v h new same few = record {
-  fresh = distinct_more (λ (a b : Key × Value). same_key a.0 b.0) (λ a b. nat_list_eq_equiv.symm a.0 b.0) are_keys_distinct refl (λ x xs. refl) inits (k, v) h.fresh (known_in_inits inits k ∙ sym (among_keys k (keys_in inits [])) ∙ ap (list_any (same_key k)) (sym h.ordered) ∙ new);
+  fresh = distinct_more (λ (a b : Key × Value). same_key a.0 b.0) (λ a b. nat_list_eq_equiv.symm a.0 b.0) are_keys_distinct refl (λ x xs. refl) inits (k, v) h.fresh (known_in_inits inits k ∙ sym (among_keys k (keys_of_document inits [])) ∙ ap (list_any (same_key k)) (sym h.ordered) ∙ new);
   few = h.few;
   distinct = h.distinct;
   homes = h.homes;
-  ordered = same ∙ ap (λ l. insert_key (slice_cmp nat_cmp) l k) h.ordered ∙ sym (key_order_last (keys_in inits []) k) ∙ ap key_order (sym (keys_init inits (k, v)));
+  ordered = same ∙ ap (λ l. insert_key (slice_cmp nat_cmp) l k) h.ordered ∙ sym (key_order_last (keys_of_document inits []) k) ∙ ap key_order (sym (keys_init inits (k, v)));
   few_keys = few;
   taken = h.taken;
 }
@@ -98,7 +98,7 @@ named_op nodes inits ss known ks numbers s o h same few =
       few = omega (arith, length-append ss (t ∷ []), length-append ss (s ∷ []), h.few);
       distinct = ap are_numbers_distinct ts ∙ h.distinct;
       homes = all_last (λ u. nat_le u.home nodes) ss t homes.0 homes.1;
-      ordered = same ∙ ap (λ l. insert_key (slice_cmp nat_cmp) l (reads.key_of o)) h.ordered ∙ sym (key_order_last (keys_in inits (ss ++ s ∷ [])) (reads.key_of o)) ∙ ap key_order (sym (keys_op inits ss s o));
+      ordered = same ∙ ap (λ l. insert_key (slice_cmp nat_cmp) l (reads.key_of o)) h.ordered ∙ sym (key_order_last (keys_of_document inits (ss ++ s ∷ [])) (reads.key_of o)) ∙ ap key_order (sym (keys_op inits ss s o));
       few_keys = few;
       taken = h.taken ∙ ap number_order (sym ts);
     }

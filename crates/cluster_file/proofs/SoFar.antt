@@ -9,7 +9,7 @@ use Rattle.score_base.specs.declared.ids.Value.{Value}
 use Rattle.script_lang.specs.Scripts.{ScriptData}
 use Rattle.placement.specs.Places.{is_partition}
 use Rattle.placement.specs.Clusters.{are_keys_distinct}
-use Rattle.grid_model.specs.Documents.{script_numbers, are_numbers_distinct, events_of, keys_in, key_order, number_order, is_item}
+use Rattle.grid_model.specs.Documents.{script_numbers, are_numbers_distinct, events_of, keys_of_document, key_order, number_order, is_item}
 use Rattle.grid_model.specs.declared.items.Item.{Item}
 use Rattle.cluster_file.specs.declared.drafts.Draft.{Draft}
 use Rattle.cluster_file.specs.declared.drafts.Part.{Part}
@@ -40,7 +40,7 @@ pub record IsNamed (nodes : ℕ) (inits : List (Key × Value)) (scripts : List S
   pub few : length scripts ≤ MAX_SCRIPTS
   pub distinct : are_numbers_distinct (script_numbers scripts) ≡ true
   pub homes : list_all (λ s. nat_le s.home nodes) scripts ≡ true
-  pub ordered : known ≡ key_order (keys_in inits scripts)
+  pub ordered : known ≡ key_order (keys_of_document inits scripts)
   pub few_keys : length known ≤ MAX_KEYS
   pub taken : numbers ≡ number_order (script_numbers scripts)
 

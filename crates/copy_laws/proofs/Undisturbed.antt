@@ -11,7 +11,7 @@ use Rattle.script_lang.specs.Reads.{is_key_among, keys_named, remote_keys, writt
 use Rattle.placement.specs.Places.{is_among, holds}
 use Rattle.grid_model.specs.declared.acts.Act.{Act}
 use Rattle.grid_model.specs.Documents.{DocumentData}
-use Rattle.journal_words.specs.Journals.{Prepared, prepared_of, keys_in, conflict, ended}
+use Rattle.journal_words.specs.Journals.{Prepared, prepared_of, keys_of_writes, conflict, ended}
 use Rattle.grid_model.specs.Nodes.{journal, script_of}
 use Rattle.script_runs.specs.Walks.{own_map}
 use Rattle.grid_model.specs.Copies.{snapshot}
@@ -68,14 +68,14 @@ undisturbed d past t u f g s v k r ne dt du is iv read wrote =
     let b : DecidedAt d past n.0 u g v = decided-at d past n.0 u g v k r du iv n.1 (written-named k [] v.ops wrote) in
     let reads : is_key_among k a.prepared.reads ≡ true = ap (is_key_among k) a.reads ∙ among-filter (holds d.cluster.places n.0) k (remote_keys [] s.ops) ∙ rw (read, n.1) refl in
     let m : Key → Value = own_map v.ops (values_in d past u) in
-    let writes : is_key_among k (keys_in b.prepared.writes) ≡ true = ap (λ ws. is_key_among k (keys_in ws)) b.writes ∙ ap (is_key_among k) (with_values-keys m (filter (holds d.cluster.places n.0) (written_keys [] v.ops))) ∙ among-filter (holds d.cluster.places n.0) k (written_keys [] v.ops) ∙ rw (wrote, n.1) refl in
+    let writes : is_key_among k (keys_of_writes b.prepared.writes) ≡ true = ap (λ ws. is_key_among k (keys_of_writes ws)) b.writes ∙ ap (is_key_among k) (with_values-keys m (filter (holds d.cluster.places n.0) (written_keys [] v.ops))) ∙ among-filter (holds d.cluster.places n.0) k (written_keys [] v.ops) ∙ rw (wrote, n.1) refl in
     let both : conflict b.prepared.reads b.prepared.writes a.prepared.reads a.prepared.writes ≡ true = conflict-read k b.prepared.reads a.prepared.reads b.prepared.writes a.prepared.writes writes reads in
     elim (conflicts-ordered d.cluster n.0 u t b.prepared a.prepared (journal d past n.0) (nodes-fit d past r.due n.0).fits (λ e. ne (sym e)) b.stands a.stands both) [
       | inl before ↦ inl (seen n.0 a b reads writes before)
       | inr before ↦ inr (behind n.0 a b before)
     ]
   where
-    seen : (n : NodeId) (a : DecidedAt d past n t f s) (b : DecidedAt d past n u g v) → is_key_among k a.prepared.reads ≡ true → is_key_among k (keys_in b.prepared.writes) ≡ true → IsBefore (ended u (journal d past n)) b.prepared a.prepared → g ≤ snapshot d past t
+    seen : (n : NodeId) (a : DecidedAt d past n t f s) (b : DecidedAt d past n u g v) → is_key_among k a.prepared.reads ≡ true → is_key_among k (keys_of_writes b.prepared.writes) ≡ true → IsBefore (ended u (journal d past n)) b.prepared a.prepared → g ≤ snapshot d past t
     seen n a b reads writes (aborted e) = absurd (decided-commits d past r.due n u g du e)
     seen n a b reads writes (committed g' e lt each) =
         let one : g' ≡ g = decided-same d past r.due u g' g (commit-decided d past r.due n u g' e) du in

@@ -24,7 +24,7 @@ use Rattle.grid_model.specs.Stories.{begun, story, with_value, progressed}
 use Rattle.grid_model.specs.Views.{view, stage, Stage, View, Open, Reads, open_of, participant}
 use Rattle.grid_model.specs.Advances.{advance}
 use Rattle.grid_model.specs.Fitness.{is_fit_at}
-use Rattle.grid_model.specs.Rows.{answer, begin_outs, reply_row}
+use Rattle.grid_model.specs.Rows.{answer, begin_outs, reply_outs}
 use Rattle.grid_model.specs.Schedules.{Choice, acts_of, flag_of, kept, next_number, numbered, opened_row, row}
 use Rattle.grid_model.proofs.Undecided.{script-number}
 use Rattle.grid_model.proofs.EventShapes.{Shape, idle, arms, crashes, restarts, begins, delivers, again, acts_by, by-shape}
@@ -56,7 +56,7 @@ told-taken d past m n b q x w o all =
 
 reply-outs : (P : List Act → Type 0) (c : ClusterData) (m : ℕ) (n : NodeId) (b : Bool) (q : ReadRep) (g : Stage) → P []
     → ((x : Open) → g ≡ Reads x q.op → P (numbered m n (kept b n (out.Act (act.Taken q.t q.op q.sid q.value) ∷ advance c (with_reply q x) q.op))))
-    → P (numbered m n (kept b n (reply_row c q g)))
+    → P (numbered m n (kept b n (reply_outs c q g)))
 reply-outs P c m n b q (Reads x j) none go =
     if-outs P m n b (j == q.op) (out.Act (act.Taken q.t q.op q.sid q.value) ∷ advance c (with_reply q x) q.op) none
     (λ same. go x (ap (Reads x) (eqb-true j q.op same)))
@@ -68,7 +68,7 @@ pub answer-reply : (P : List Act → Type 0) (m : ℕ) (n x : NodeId) (b : Bool)
     → P (numbered m n (kept b n (answer n v x (message.ReadRep q))))
 answer-reply P m n x b v q none go =
     if-outs P m n b (is_fit_at n (participant v) (stage v q.t) x (message.ReadRep q))
-    (reply_row v.cluster q (stage v q.t)) none
+    (reply_outs v.cluster q (stage v q.t)) none
     (λ fit. reply-outs P v.cluster m n b q (stage v q.t) none go)
 
 told-answer : (d : DocumentData) (past : List Act) (k m : ℕ) (n x : NodeId) (b : Bool) (said : Message) (c : Bool) → is_reply said ≡ c → sent_at k (sent past) ≡ Some (record { from = x; to = n; message = said }) → AllTold d (act.Got k ∷ past) → AllTold d (after (act.Got k ∷ past) (numbered m n (kept b n (answer n (view d past n) x said))))

@@ -32,7 +32,7 @@ use Rattle.script_runs.specs.Waits.{waiting}
 use Rattle.grid_model.specs.Views.{Open, Stage, Apart, Reads, Collects, Commits, stage, stage_at, view, View, participant}
 use Rattle.grid_model.specs.Advances.{advance, parts_now}
 use Rattle.grid_model.specs.Fitness.{is_fit_at, is_same_ident, tx_in}
-use Rattle.grid_model.specs.Rows.{answer, row_of, reply_row, vote_row, ballot_row, decides, tells, ack_row, ask_row, greatest_vote, have_voted, are_all_among, dated}
+use Rattle.grid_model.specs.Rows.{answer, message_outs, reply_outs, vote_outs, ballot_outs, decides, tells, ack_outs, asked_outs, greatest_vote, have_voted, are_all_among, dated}
 use Rattle.grid_model.proofs.Undecided.{script-number}
 use Rattle.grid_model.specs.Facts.{is_given_up}
 use Rattle.grid_laws.proofs.Causes.{IsUp, IsGot, AtHome, DecidedDue, given_up, apart, by_decision}
@@ -63,7 +63,7 @@ due-taken d past n m y q x j true o got here fit =
     )
 due-taken d past n m y q x j false o got here fit = tt
 
-due-reply : (d : DocumentData) (past : List Act) (n : NodeId) (m : ℕ) (y : NodeId) (q : ReadRep) (g : Stage) → stage (view d past n) q.t ≡ g → IsGot past n y (message.ReadRep q) → ((x : Open) (j : ℕ) → g ≡ Reads x j → (j == q.op) ≡ true → is_same_ident q.sid x.progress.sid ≡ true) → OutsDue d past n m (reply_row d.cluster q g)
+due-reply : (d : DocumentData) (past : List Act) (n : NodeId) (m : ℕ) (y : NodeId) (q : ReadRep) (g : Stage) → stage (view d past n) q.t ≡ g → IsGot past n y (message.ReadRep q) → ((x : Open) (j : ℕ) → g ≡ Reads x j → (j == q.op) ≡ true → is_same_ident q.sid x.progress.sid ≡ true) → OutsDue d past n m (reply_outs d.cluster q g)
 due-reply d past n m y q (Reads x j) e got fit = due-taken d past n m y q x j (j == q.op) (opens-reads d past n q.t x j e) got refl (fit x j refl)
 due-reply d past n m y q w e got fit = tt
 
@@ -112,7 +112,7 @@ due-aborts d past n m t (y ∷ ns) e = (given_up e, due-aborts d (act.Sent m n y
 opens-update : (d : DocumentData) (past : List Act) (n : NodeId) (t : TxId) (o : Open) (c : Opens d past n t o None) → ReadersAnswered d past → is_update c.script.ops ≡ true
 opens-update d past n t o c told = open-update d past n c.script c.story (is_update c.script.ops) refl c.unended (told t c.script c.story c.at.script c.at.story c.reads)
 
-due-ballot : (d : DocumentData) (before : List Act) (n : NodeId) (k m : ℕ) (t : TxId) (x : NodeId) (b : Ballot) (o : Open) (c : Opens d before n t o None) → ReadersAnswered d before → IsUp d before n → sent_at k (sent before) ≡ Some (record { from = x; to = n; message = message.Vote t b }) → has_voted x c.story.progress.votes ≡ false → is_small_node (node d before n).journal (node d before n).next ≡ true → is_fit_ballot b ≡ true → is_among x (parts_of d c.script) ≡ true → OutsDue d (act.Got k ∷ before) n m (ballot_row t (parts_of d c.script) c.story.progress.votes x b)
+due-ballot : (d : DocumentData) (before : List Act) (n : NodeId) (k m : ℕ) (t : TxId) (x : NodeId) (b : Ballot) (o : Open) (c : Opens d before n t o None) → ReadersAnswered d before → IsUp d before n → sent_at k (sent before) ≡ Some (record { from = x; to = n; message = message.Vote t b }) → has_voted x c.story.progress.votes ≡ false → is_small_node (node d before n).journal (node d before n).next ≡ true → is_fit_ballot b ≡ true → is_among x (parts_of d c.script) ≡ true → OutsDue d (act.Got k ∷ before) n m (ballot_outs t (parts_of d c.script) c.story.progress.votes x b)
 due-ballot d before n k m t x (ballot.No why) o c told up got new small fit part =
     let past : List Act = act.Got k ∷ before in
     let number : c.script.number ≡ t = script-number t d.scripts c.script c.at.script in
@@ -151,7 +151,7 @@ due-ballot d before n k m t x (ballot.Yes p) o c told up got new small fit part 
       new = c.new;
     })
 
-due-vote : (d : DocumentData) (before : List Act) (n : NodeId) (k m : ℕ) (t : TxId) (x : NodeId) (b : Ballot) (g : Stage) → stage (view d before n) t ≡ g → ReadersAnswered d before → IsUp d before n → sent_at k (sent before) ≡ Some (record { from = x; to = n; message = message.Vote t b }) → is_fit_at n (participant (view d before n)) g x (message.Vote t b) ≡ true → OutsDue d (act.Got k ∷ before) n m (vote_row d.cluster t x b g)
+due-vote : (d : DocumentData) (before : List Act) (n : NodeId) (k m : ℕ) (t : TxId) (x : NodeId) (b : Ballot) (g : Stage) → stage (view d before n) t ≡ g → ReadersAnswered d before → IsUp d before n → sent_at k (sent before) ≡ Some (record { from = x; to = n; message = message.Vote t b }) → is_fit_at n (participant (view d before n)) g x (message.Vote t b) ≡ true → OutsDue d (act.Got k ∷ before) n m (vote_outs d.cluster t x b g)
 due-vote d before n k m t x b (Collects o) e told up got fit = rw c.is (go (has_voted x c.story.progress.votes) refl)
   where
     c : Opens d before n t o None
@@ -166,7 +166,7 @@ due-vote d before n k m t x b (Collects o) e told up got fit = rw c.is (go (has_
     part : is_among x (parts_of d c.script) ≡ true
     part = rw c.is at (and_parts (is_fit_ballot b) (is_among x (parts_now d.cluster o)) rest).1
 
-    go : (v : Bool) → has_voted x c.story.progress.votes ≡ v → OutsDue d (act.Got k ∷ before) n m (if v then [] else ballot_row t (parts_of d c.script) c.story.progress.votes x b)
+    go : (v : Bool) → has_voted x c.story.progress.votes ≡ v → OutsDue d (act.Got k ∷ before) n m (if v then [] else ballot_outs t (parts_of d c.script) c.story.progress.votes x b)
     go true new = tt
     go false new = due-ballot d before n k m t x b o c told up got new small (and_parts (is_fit_ballot b) (is_among x (parts_now d.cluster o)) rest).0 part
 due-vote d before n k m t x b (Reads o j) e told up got fit = tt
@@ -180,13 +180,13 @@ due-closes d before n k m t x y acks true c e up got all = tt
 due-closes d before n k m t x y acks false false e up got all = tt
 due-closes d before n k m t x y acks false true e up got all = ((up, record { m = k; before = before; from = x; is = refl; got = got; decision = y; acks = acks; stage = e; all = all }), tt)
 
-due-acked : (d : DocumentData) (before : List Act) (n : NodeId) (k m : ℕ) (t : TxId) (x : NodeId) (g : Stage) → stage (view d before n) t ≡ g → IsUp d before n → sent_at k (sent before) ≡ Some (record { from = x; to = n; message = message.Ack t }) → OutsDue d (act.Got k ∷ before) n m (ack_row t x g)
+due-acked : (d : DocumentData) (before : List Act) (n : NodeId) (k m : ℕ) (t : TxId) (x : NodeId) (g : Stage) → stage (view d before n) t ≡ g → IsUp d before n → sent_at k (sent before) ≡ Some (record { from = x; to = n; message = message.Ack t }) → OutsDue d (act.Got k ∷ before) n m (ack_outs t x g)
 due-acked d before n k m t x (Commits y acks) e up got = due-closes d before n k m t x y acks (is_among x acks) (are_all_among y.parts (acks ++ x ∷ [])) e up got refl
 due-acked d before n k m t x w e up got = tt
 
 -- ---- a question
 
-due-asked : (d : DocumentData) (past : List Act) (n : NodeId) (m : ℕ) (t : TxId) (x : NodeId) (g : Stage) → stage (view d past n) t ≡ g → IsGot past n x (message.Ask t) → OutsDue d past n m (ask_row t x g)
+due-asked : (d : DocumentData) (past : List Act) (n : NodeId) (m : ℕ) (t : TxId) (x : NodeId) (g : Stage) → stage (view d past n) t ≡ g → IsGot past n x (message.Ask t) → OutsDue d past n m (asked_outs t x g)
 due-asked d past n m t x (Reads o j) e got = tt
 due-asked d past n m t x (Collects o) e got = tt
 due-asked d past n m t x (Commits y acks) e got = ((y, stage-commits d past n t y acks e, refl), tt)
@@ -197,7 +197,7 @@ due-asked d past n m t x Apart e got = (apart got e, tt)
 pub stage-quiet : (d : DocumentData) (before : List Act) (k : ℕ) (x n : NodeId) (said : Message) (t : TxId) → sent_at k (sent before) ≡ Some (record { from = x; to = n; message = said }) → is_counted said ≡ false → stage (view d (act.Got k ∷ before) n) t ≡ stage (view d before n) t
 stage-quiet d before k x n said t got quiet = ap (λ o. stage_at n (node d before n) t (script_of t d.scripts) o) (story-quiet d before k x n said t got quiet)
 
-due-row_of : (d : DocumentData) (before : List Act) (n : NodeId) (k m : ℕ) (x : NodeId) (said : Message) → ReadersAnswered d before → IsUp d before n → sent_at k (sent before) ≡ Some (record { from = x; to = n; message = said }) → is_fit_at n (participant (view d before n)) (stage (view d before n) (tx_in said)) x said ≡ true → OutsDue d (act.Got k ∷ before) n m (row_of n (participant (view d before n)) (view d before n).held (stage (view d before n) (tx_in said)) x said)
+due-row_of : (d : DocumentData) (before : List Act) (n : NodeId) (k m : ℕ) (x : NodeId) (said : Message) → ReadersAnswered d before → IsUp d before n → sent_at k (sent before) ≡ Some (record { from = x; to = n; message = said }) → is_fit_at n (participant (view d before n)) (stage (view d before n) (tx_in said)) x said ≡ true → OutsDue d (act.Got k ∷ before) n m (message_outs n (participant (view d before n)) (view d before n).held (stage (view d before n) (tx_in said)) x said)
 due-row_of d before n k m x (message.ReadReq q) told up got fit = due-read d (act.Got k ∷ before) n m (view d before n) x q (dated q.date (commit_id (journal d before n))) refl refl refl up (record { request = q; got = got; fit = (and_parts _ _ fit).1; t = refl; op = refl; key = refl; sid = refl })
 due-row_of d before n k m x (message.ReadRep q) told up got fit =
     let same : stage (view d (act.Got k ∷ before) n) q.t ≡ stage (view d before n) q.t = stage-quiet d before k x n (message.ReadRep q) q.t got refl in

@@ -26,7 +26,7 @@ use Rattle.script_runs.specs.Waits.{waiting}
 use Rattle.grid_model.specs.Views.{Stage, Apart, Reads, Collects, Commits, open_of, stage, view, participant}
 use Rattle.grid_model.specs.Advances.{advance, advance_end, prepare_for, prepares, request, request_of, to_node}
 use Rattle.script_runs.specs.Walks.{op_at, own_reads, unread}
-use Rattle.grid_model.specs.Rows.{begin_outs, not_voted, not_among, retry_row, tells}
+use Rattle.grid_model.specs.Rows.{begin_outs, not_voted, not_among, retry_outs, tells}
 use Rattle.grid_model.proofs.Undecided.{script-number}
 use Rattle.grid_laws.proofs.Causes.{IsUp, AtHome, SendDue, by_reads}
 use Rattle.grid_laws.proofs.Frames.{same-number}
@@ -115,7 +115,7 @@ pub due-tells : (d : DocumentData) (past : List Act) (n : NodeId) (m : ℕ) (t :
 due-tells d past n m t y [] is = tt
 due-tells d past n m t y (x ∷ ns) is = ((y, is, refl), due-tells d (act.Sent m n x (message.Tell t (outcome.Commit y.final)) ∷ past) n (m + 1) t y ns is)
 
-pub due-retry : (d : DocumentData) (past : List Act) (n : NodeId) (m : ℕ) (t : TxId) (g : Stage) → ReadersAnswered d past → stage (view d past n) t ≡ g → OutsDue d past n m (retry_row d.cluster t g)
+pub due-retry : (d : DocumentData) (past : List Act) (n : NodeId) (m : ℕ) (t : TxId) (g : Stage) → ReadersAnswered d past → stage (view d past n) t ≡ g → OutsDue d past n m (retry_outs d.cluster t g)
 due-retry d past n m t (Reads x j) answered e =
     let o : Opens d past n t x (Some j) = opens-reads d past n t x j e in
     rw o.is (due-request d past n m o.script o.story j o.story.progress.turn (at-number d past n t o.script o.story o.at) o.reads)

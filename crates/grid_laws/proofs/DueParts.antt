@@ -18,7 +18,7 @@ use Rattle.grid_model.specs.Nodes.{node, journal}
 use Rattle.grid_model.specs.Views.{View, participant}
 use Rattle.grid_model.specs.Advances.{to_node}
 use Rattle.grid_model.specs.Fitness.{is_fit_outcome, is_at_least, is_fit_prepare}
-use Rattle.grid_model.specs.Rows.{prepare_row, prepare_outs, judged, commit_row, abort_row, tell_outs, ask_outs, freed_by, if_pending}
+use Rattle.grid_model.specs.Rows.{prepared_outs, prepare_outs, judged, commit_outs, abort_outs, tell_outs, ask_outs, freed_by, if_pending}
 use Rattle.grid_laws.proofs.Causes.{IsUp, IsGot, Asked}
 use Rattle.grid_laws.proofs.Frames.{up-stays, same-number, in-held}
 use Rattle.grid_laws.proofs.DueActs.{OutsDue}
@@ -39,7 +39,7 @@ due-judged d past n m x t a None None up new free held late =
       ((record { prepare = a.prepare; is = a.is; got = a.got; fit = a.fit }, rw writes (rw (same-number t) refl)), tt),
     )
 
-due-prepare_row : (d : DocumentData) (past : List Act) (n : NodeId) (m : ℕ) (x : NodeId) (t : TxId) (a : Asked d past n x t) (o : Option Outcome) (mine : Option Ident) → IsUp d past n → ended t (journal d past n) ≡ o → pending t (journal d past n) ≡ mine → OutsDue d past n m (prepare_row n x t o mine (holder (journal d past n) t a.prepare.reads a.prepare.writes) (newer (journal d past n) a.prepare.reads a.prepare.sid) (1 + max (node d past n).next a.prepare.sid))
+due-prepare_row : (d : DocumentData) (past : List Act) (n : NodeId) (m : ℕ) (x : NodeId) (t : TxId) (a : Asked d past n x t) (o : Option Outcome) (mine : Option Ident) → IsUp d past n → ended t (journal d past n) ≡ o → pending t (journal d past n) ≡ mine → OutsDue d past n m (prepared_outs n x t o mine (holder (journal d past n) t a.prepare.reads a.prepare.writes) (newer (journal d past n) a.prepare.reads a.prepare.sid) (1 + max (node d past n).next a.prepare.sid))
 due-prepare_row d past n m x t a (Some o) mine up new free = tt
 due-prepare_row d past n m x t a None (Some q) up new free = ((a, free), tt)
 due-prepare_row d past n m x t a None None up new free = due-judged d past n m x t a (holder (journal d past n) t a.prepare.reads a.prepare.writes) (newer (journal d past n) a.prepare.reads a.prepare.sid) up new free refl refl
@@ -73,12 +73,12 @@ due-acked_again : (d : DocumentData) (past : List Act) (n : NodeId) (m : ℕ) (t
 due-acked_again d past n m t None done home = tt
 due-acked_again d past n m t (Some y) done home = ((done, home), tt)
 
-due-commit : (d : DocumentData) (past : List Act) (n : NodeId) (m : ℕ) (v : View) (x : NodeId) (t : TxId) (f : Ident) (p : Option Ident) (b : Bool) (w : Option NodeId) → v.cluster ≡ d.cluster → v.journal ≡ journal d past n → v.held ≡ (node d past n).held → IsUp d past n → IsGot past n x (message.Tell t (outcome.Commit f)) → pending t (journal d past n) ≡ p → is_commit (ended t (journal d past n)) ≡ b → home_of t (journal d past n) ≡ w → is_at_least p f ≡ true → OutsDue d past n m (commit_row n t f p b (to_node w (message.Ack t)) ++ if_pending p (freed_by n (participant v) v.held t (outcome.Commit f)))
+due-commit : (d : DocumentData) (past : List Act) (n : NodeId) (m : ℕ) (v : View) (x : NodeId) (t : TxId) (f : Ident) (p : Option Ident) (b : Bool) (w : Option NodeId) → v.cluster ≡ d.cluster → v.journal ≡ journal d past n → v.held ≡ (node d past n).held → IsUp d past n → IsGot past n x (message.Tell t (outcome.Commit f)) → pending t (journal d past n) ≡ p → is_commit (ended t (journal d past n)) ≡ b → home_of t (journal d past n) ≡ w → is_at_least p f ≡ true → OutsDue d past n m (commit_outs n t f p b (to_node w (message.Ack t)) ++ if_pending p (freed_by n (participant v) v.held t (outcome.Commit f)))
 due-commit d past n m v x t f (Some p) b w cluster is holds up got pends done home fit = ((refl, (up, record { from = x; got = got; fit = rw pends fit })), due-ack d past n m v t f w cluster is holds up home)
 due-commit d past n m v x t f None true w cluster is holds up got pends done home fit = due-acked_again d past n m t w done home
 due-commit d past n m v x t f None false w cluster is holds up got pends done home fit = tt
 
-due-abort : (d : DocumentData) (past : List Act) (n : NodeId) (m : ℕ) (v : View) (x : NodeId) (t : TxId) (p : Option Ident) → v.cluster ≡ d.cluster → v.journal ≡ journal d past n → v.held ≡ (node d past n).held → IsUp d past n → IsGot past n x (message.Tell t outcome.Abort) → pending t (journal d past n) ≡ p → OutsDue d past n m (abort_row n t p ++ if_pending p (freed_by n (participant v) v.held t outcome.Abort))
+due-abort : (d : DocumentData) (past : List Act) (n : NodeId) (m : ℕ) (v : View) (x : NodeId) (t : TxId) (p : Option Ident) → v.cluster ≡ d.cluster → v.journal ≡ journal d past n → v.held ≡ (node d past n).held → IsUp d past n → IsGot past n x (message.Tell t outcome.Abort) → pending t (journal d past n) ≡ p → OutsDue d past n m (abort_outs n t p ++ if_pending p (freed_by n (participant v) v.held t outcome.Abort))
 due-abort d past n m v x t (Some p) cluster is holds up got pends = ((refl, (up, record { from = x; got = got; fit = rw pends refl })), due-freed d past n m v t outcome.Abort cluster is holds up)
 due-abort d past n m v x t None cluster is holds up got pends = tt
 

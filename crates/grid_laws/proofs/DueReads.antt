@@ -21,7 +21,7 @@ use Rattle.grid_model.specs.Documents.{DocumentData}
 use Rattle.journal_words.specs.Journals.{applied, applied_of, best, commits, commit_id, floor, greatest, is_clear, up_to, version_at}
 use Rattle.grid_model.specs.Nodes.{node, journal}
 use Rattle.grid_model.specs.Views.{View, participant}
-use Rattle.grid_model.specs.Rows.{served, release, ceiling_of, raises, answered, read_row, version_for}
+use Rattle.grid_model.specs.Rows.{served, release, ceiling_of, raises, answered, read_outs, version_for}
 use Rattle.grid_laws.proofs.Causes.{IsUp, IsGot, IsIn, held_ever, Requested, Covered, MayServe, at_once, held}
 use Rattle.grid_laws.proofs.Frames.{up-stays, journal-stays, same-number}
 use Rattle.grid_laws.proofs.DueActs.{OutsDue}
@@ -103,7 +103,7 @@ pub ceiling-above : (sid : Ident) → sid ≤ ceiling_of sid
 ceiling-above sid = omega arith
 
 -- a request that n dates so
-pub due-read : (d : DocumentData) (past : List Act) (n : NodeId) (m : ℕ) (v : View) (x : NodeId) (q : ReadReq) (sid : Ident) → v.cluster ≡ d.cluster → v.journal ≡ journal d past n → v.next ≡ (node d past n).next → IsUp d past n → Requested d past n (read_by x q sid) → OutsDue d past n m (read_row n (participant v) x q sid)
+pub due-read : (d : DocumentData) (past : List Act) (n : NodeId) (m : ℕ) (v : View) (x : NodeId) (q : ReadReq) (sid : Ident) → v.cluster ≡ d.cluster → v.journal ≡ journal d past n → v.next ≡ (node d past n).next → IsUp d past n → Requested d past n (read_by x q sid) → OutsDue d past n m (read_outs n (participant v) x q sid)
 due-read d past n m v x q sid cluster is clock up asked = rw (cluster, is, clock) (go (nat_lt (floor (journal d past n)) sid) refl)
   where
     r : List Record

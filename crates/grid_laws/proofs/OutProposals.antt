@@ -16,7 +16,7 @@ use Rattle.grid_model.specs.declared.messages.Message.{Message}
 use Rattle.grid_model.specs.declared.messages.Message.TheVariants as message
 use Rattle.grid_model.specs.Views.{stage, View, Participant, participant}
 use Rattle.grid_model.specs.Fitness.{is_fit_at}
-use Rattle.grid_model.specs.Rows.{answer, begin_outs, judged, prepare_outs, prepare_row}
+use Rattle.grid_model.specs.Rows.{answer, begin_outs, judged, prepare_outs, prepared_outs}
 use Rattle.grid_model.specs.Schedules.{broken, kept, lost_at, numbered, start_act}
 use Rattle.grid_laws.proofs.ActsLow.{weight, proposals}
 use Rattle.grid_model.specs.Documents.{DocumentData}
@@ -123,7 +123,7 @@ one-judged n x t None None p = omega arith
 
 one-prepare : (n x : NodeId) (t : TxId) (o : Option Outcome) (mine : Option Ident) (u : Option TxId)
     (y : Option (Key × Ident)) (p : Ident)
-    → outs_weight (prepare_row n x t o mine u y p) ≤ 1
+    → outs_weight (prepared_outs n x t o mine u y p) ≤ 1
 one-prepare n x t (Some o) mine u y p = omega arith
 one-prepare n x t None (Some q) u y p = omega arith
 one-prepare n x t None None u y p = one-judged n x t u y p

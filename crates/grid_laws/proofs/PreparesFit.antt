@@ -19,7 +19,7 @@ use Rattle.grid_model.specs.declared.messages.Message.TheVariants as message
 use Rattle.grid_model.specs.declared.messages.Prepare.{Prepare}
 use Rattle.grid_model.specs.Documents.{DocumentData, IsOne, is_body}
 use Rattle.grid_model.specs.Histories.{sent, sent_at}
-use Rattle.journal_words.specs.Journals.{are_distinct_keys, are_own_keys, keys_in}
+use Rattle.journal_words.specs.Journals.{are_distinct_keys, are_own_keys, keys_of_writes}
 use Rattle.grid_model.specs.Nodes.{script_of}
 use Rattle.grid_model.specs.Stories.{is_small}
 use Rattle.grid_model.specs.Views.{Open, open_of}
@@ -61,7 +61,7 @@ pub record FitLists (c : ClusterData) (n : NodeId) (q : Prepare) : Type 0 where
   pub reads : nat_le (length q.reads) 32 ≡ true
   pub writes : nat_le (length q.writes) 32 ≡ true
   pub read : are_own_keys c n q.reads ≡ true
-  pub written : are_own_keys c n (keys_in q.writes) ≡ true
+  pub written : are_own_keys c n (keys_of_writes q.writes) ≡ true
 
 -- with a small identifier it is fit
 pub fit-small : (c : ClusterData) (n : NodeId) (q : Prepare) → FitLists c n q → is_small q.sid ≡ true → is_fit_prepare c n q ≡ true
@@ -89,7 +89,7 @@ for-part c x n most part =
     let reads : List Key = filter (holds c.places n) (remote_keys [] ops) in
     let keys : List Key = filter (holds c.places n) (written_keys [] ops) in
     let values : length (with_values (own_map ops x.progress.values) keys) ≡ length keys = length-values (own_map ops x.progress.values) keys in
-    let named : keys_in (with_values (own_map ops x.progress.values) keys) ≡ keys = with_values-keys (own_map ops x.progress.values) keys in
+    let named : keys_of_writes (with_values (own_map ops x.progress.values) keys) ≡ keys = with_values-keys (own_map ops x.progress.values) keys in
     let some : 1 ≤ length reads + length keys = lists-some (holds c.places n) ops (part-holds c.places (keys_of ops) n part) in
     let short : length reads ≤ 32 = omega (arith, filter-length (holds c.places n) (remote_keys [] ops), remote-length [] ops, most) in
     let brief : length keys ≤ 32 = omega (arith, filter-length (holds c.places n) (written_keys [] ops), written-length [] ops, most) in

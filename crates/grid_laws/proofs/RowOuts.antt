@@ -43,7 +43,7 @@ use Rattle.grid_model.specs.Stories.{has_voted, is_open, phase, with_value}
 use Rattle.grid_model.specs.Views.{Apart, Collects, Commits, Open, Participant, Reads, Stage, View, participant, stage, view}
 use Rattle.grid_model.specs.Advances.{advance, advance_end, owns, parts_now, prepares, request_of, to_node}
 use Rattle.grid_model.specs.Fitness.{is_fit_at, tx_in}
-use Rattle.grid_model.specs.Rows.{abort_row, ack_row, answer, answered, are_all_among, ask_row, ballot_row, begin_outs, begun_at, ceiling_of, ceilings, closed_row, commit_row, decides, freed_by, greatest_vote, have_voted, if_pending, judged, not_among, not_voted, prepare_row, raises, read_row, release, reply_row, retry_row, row_of, served, tell_outs, tells, version_for, vote_row}
+use Rattle.grid_model.specs.Rows.{abort_outs, ack_outs, answer, answered, are_all_among, asked_outs, ballot_outs, begin_outs, begun_at, ceiling_of, ceilings, closed_outs, commit_outs, decides, freed_by, greatest_vote, have_voted, if_pending, judged, not_among, not_voted, prepared_outs, raises, read_outs, release, reply_outs, retry_outs, message_outs, served, tell_outs, tells, version_for, vote_outs}
 use Rattle.grid_model.specs.Schedules.{broken, head_at, head_of, kept, lost_at, numbered, start_act, stopped}
 use Rattle.grid_model.proofs.EventShapes.{IsAgain, asks, retries}
 use Rattle.grid_laws.proofs.Frames.{same-number}
@@ -143,7 +143,7 @@ pass-tells : (f : Act → Bool) (t : TxId) (o : Outcome) (ns : List NodeId) → 
 pass-tells f t o [] = refl
 pass-tells f t o (n ∷ ns) = pass-tells f t o ns
 
-pass-retry : (f : Act → Bool) (c : ClusterData) (t : TxId) (g : Stage) → Pass f (retry_row c t g)
+pass-retry : (f : Act → Bool) (c : ClusterData) (t : TxId) (g : Stage) → Pass f (retry_outs c t g)
 pass-retry f c t (Reads x j) = pass-request f c x j x.progress.turn (op_at x.script.ops j)
 pass-retry f c t (Collects x) = pass-prepares f c x (not_voted (parts_now c x) x.progress.votes)
 pass-retry f c t (Commits y acks) = pass-tells f t (outcome.Commit y.final) (not_among y.parts acks)
@@ -251,7 +251,7 @@ answered-row true n x q sid w = own-act n
 answered-row false n x q sid w = own-act n
 
 read-row : (n : NodeId) (p : Participant) (x : NodeId) (q : ReadReq) (sid : Ident)
-    → OfRow n (message.ReadReq q) (read_row n p x q sid)
+    → OfRow n (message.ReadReq q) (read_outs n p x q sid)
 read-row n p x q sid =
     let f : Act → Bool = is_of_row n (message.ReadReq q) in
     let w : Version = version_for p.cluster p.journal q.key sid in
@@ -262,7 +262,7 @@ read-row n p x q sid =
     (pass-if f (nat_lt p.next sid) (out.Act (act.Raised n sid) ∷ []) [] (own-act n) refl)
     (answered-row (is_clear sid p.journal) n x q sid w))
 
-reply-row : (n : NodeId) (c : ClusterData) (q : ReadRep) (g : Stage) → OfRow n (message.ReadRep q) (reply_row c q g)
+reply-row : (n : NodeId) (c : ClusterData) (q : ReadRep) (g : Stage) → OfRow n (message.ReadRep q) (reply_outs c q g)
 reply-row n c q (Reads x j) =
     let f : Act → Bool = is_of_row n (message.ReadRep q) in
     let y : Open = record x { progress = with_value q.op q.sid q.value x.progress } in
@@ -278,13 +278,13 @@ judged-row n x q None None p = own-act n
 
 prepare-row : (n x : NodeId) (q : Prepare) (o : Option Outcome) (mine : Option Ident) (u : Option TxId)
     (y : Option (Key × Ident)) (p : Ident)
-    → OfRow n (message.Prepare q) (prepare_row n x q.t o mine u y p)
+    → OfRow n (message.Prepare q) (prepared_outs n x q.t o mine u y p)
 prepare-row n x q (Some o) mine u y p = refl
 prepare-row n x q None (Some mine) u y p = refl
 prepare-row n x q None None u y p = judged-row n x q u y p
 
 ballot-row : (n : NodeId) (t : TxId) (ns : List NodeId) (vs : List Voted) (x : NodeId) (b : Ballot)
-    → OfRow n (message.Vote t b) (ballot_row t ns vs x b)
+    → OfRow n (message.Vote t b) (ballot_outs t ns vs x b)
 ballot-row n t ns vs x (ballot.Yes p) =
     let f : Act → Bool = is_of_row n (message.Vote t (ballot.Yes p)) in
     let votes : List Voted = vs ++ record { from = x; p = p } ∷ [] in
@@ -294,20 +294,20 @@ ballot-row n t ns vs x (ballot.No why) =
     pass-tells (is_of_row n (message.Vote t (ballot.No why))) t outcome.Abort (others x ns)
 
 vote-row : (n : NodeId) (c : ClusterData) (t : TxId) (x : NodeId) (b : Ballot) (g : Stage)
-    → OfRow n (message.Vote t b) (vote_row c t x b g)
+    → OfRow n (message.Vote t b) (vote_outs c t x b g)
 vote-row n c t x b (Collects o) =
-    pass-if (is_of_row n (message.Vote t b)) (has_voted x o.progress.votes) [] (ballot_row t (parts_now c o) o.progress.votes x b) refl
+    pass-if (is_of_row n (message.Vote t b)) (has_voted x o.progress.votes) [] (ballot_outs t (parts_now c o) o.progress.votes x b) refl
     (ballot-row n t (parts_now c o) o.progress.votes x b)
 vote-row n c t x b w = refl
 
-ack-row : (n : NodeId) (t : TxId) (x : NodeId) (g : Stage) → OfRow n (message.Ack t) (ack_row t x g)
+ack-row : (n : NodeId) (t : TxId) (x : NodeId) (g : Stage) → OfRow n (message.Ack t) (ack_outs t x g)
 ack-row n t x (Commits y acks) =
     let f : Act → Bool = is_of_row n (message.Ack t) in
-    pass-if f (is_among x acks) [] (closed_row t y.parts (acks ++ x ∷ [])) refl
+    pass-if f (is_among x acks) [] (closed_outs t y.parts (acks ++ x ∷ [])) refl
     (pass-if f (are_all_among y.parts (acks ++ x ∷ [])) (out.Act (act.Closed t) ∷ []) [] refl refl)
 ack-row n t x w = refl
 
-ask-row : (n : NodeId) (t : TxId) (x : NodeId) (g : Stage) → OfRow n (message.Ask t) (ask_row t x g)
+ask-row : (n : NodeId) (t : TxId) (x : NodeId) (g : Stage) → OfRow n (message.Ask t) (asked_outs t x g)
 ask-row n t x (Reads o j) = refl
 ask-row n t x (Collects o) = refl
 ask-row n t x (Commits y acks) = refl
@@ -325,7 +325,7 @@ release-row n t o c r (h ∷ hs) =
 
 commit-row : (n : NodeId) (t : TxId) (f : Ident) (p : Option Ident) (b : Bool) (ack freed : List Out)
     → OfRow n (message.Tell t (outcome.Commit f)) ack → OfRow n (message.Tell t (outcome.Commit f)) freed
-    → OfRow n (message.Tell t (outcome.Commit f)) (commit_row n t f p b ack ++ if_pending p freed)
+    → OfRow n (message.Tell t (outcome.Commit f)) (commit_outs n t f p b ack ++ if_pending p freed)
 commit-row n t f (Some p) b ack freed h k =
     let g : Act → Bool = is_of_row n (message.Tell t (outcome.Commit f)) in
     pass-act g (act.Ended n t (outcome.Commit f)) (ack ++ freed) (same-number n) (pass-append g ack freed h k)
@@ -333,7 +333,7 @@ commit-row n t f None true ack freed h k = pass-append (is_of_row n (message.Tel
 commit-row n t f None false ack freed h k = refl
 
 abort-row : (n : NodeId) (t : TxId) (p : Option Ident) (freed : List Out) → OfRow n (message.Tell t outcome.Abort) freed
-    → OfRow n (message.Tell t outcome.Abort) (abort_row n t p ++ if_pending p freed)
+    → OfRow n (message.Tell t outcome.Abort) (abort_outs n t p ++ if_pending p freed)
 abort-row n t (Some p) freed k =
     pass-act (is_of_row n (message.Tell t outcome.Abort)) (act.Ended n t outcome.Abort) freed (same-number n) k
 abort-row n t None freed k = refl
@@ -351,7 +351,7 @@ tell-row n p held t outcome.Abort =
     (release-row n t outcome.Abort p.cluster (record'.Ended t outcome.Abort ∷ p.journal) held)
 
 each-row : (n : NodeId) (p : Participant) (held : List HeldRead) (g : Stage) (x : NodeId) (said : Message)
-    → OfRow n said (row_of n p held g x said)
+    → OfRow n said (message_outs n p held g x said)
 each-row n p held g x (message.ReadReq q) = read-row n p x q _
 each-row n p held g x (message.ReadRep q) = reply-row n p.cluster q g
 each-row n p held g x (message.Prepare q) = prepare-row n x q _ _ _ _ _
@@ -366,8 +366,8 @@ pub pass-answer : (f : Act → Bool) (n : NodeId) (v : View) (x : NodeId) (said 
 pass-answer f n v x said go =
     let p : Participant = participant v in
     let g : Stage = stage v (tx_in said) in
-    pass-if f (is_fit_at n p g x said) (row_of n p v.held g x said) []
-    (pass-more (is_of_row n said) f go (row_of n p v.held g x said) (each-row n p v.held g x said)) refl
+    pass-if f (is_fit_at n p g x said) (message_outs n p v.held g x said) []
+    (pass-more (is_of_row n said) f go (message_outs n p v.held g x said) (each-row n p v.held g x said)) refl
 
 -- so do the outs of a begin
 pub pass-begin : (f : Act → Bool) → ((t : TxId) (n : NodeId) (sid0 : Ident) → f (act.Began t n sid0) ≡ true)

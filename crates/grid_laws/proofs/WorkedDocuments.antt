@@ -6,7 +6,7 @@ use Rattle.std.proofs.lemmas.Bool.Decides.{nat_tests}
 use Rattle.placement.specs.Places.{is_partition}
 use Rattle.placement.specs.Clusters.{ClusterData, IsCluster, are_keys_distinct}
 use Rattle.grid_model.specs.declared.acts.Act.{Act}
-use Rattle.grid_model.specs.Documents.{DocumentData, IsOne, script_numbers, are_numbers_distinct, key_order, keys_in, is_item, events_of, is_body, are_numbered}
+use Rattle.grid_model.specs.Documents.{DocumentData, IsOne, script_numbers, are_numbers_distinct, key_order, keys_of_document, is_item, events_of, is_body, are_numbered}
 use Rattle.grid_model.specs.Runs.{IsRun}
 use Rattle.journal_words.proofs.TwoNodes.{two_nodes}
 use Rattle.grid_model.proofs.RunsThatCommit.{read_then_write, read_then_write_acts, read_then_write-lawful}
@@ -31,14 +31,14 @@ tested-cluster c least most few many each inside inits = record {
 }
 
 -- a document by tests of its parts
-pub tested-document : (d : DocumentData) → IsCluster d.cluster → IsTrue (nat_le (length d.scripts) 4096) → IsTrue (are_numbers_distinct (script_numbers d.scripts)) → IsTrue (list_all (λ s. nat_le s.home d.cluster.nodes) d.scripts) → IsTrue (nat_le (length (key_order (keys_in d.cluster.inits d.scripts))) 4096) → IsTrue (list_all (is_item d.cluster.nodes (script_numbers d.scripts)) d.items) → IsTrue (nat_le (sum_by events_of d.items) 50000) → IsTrue (list_all (λ s. is_body s.ops) d.scripts) → IsTrue (are_numbered d) → IsOne d
+pub tested-document : (d : DocumentData) → IsCluster d.cluster → IsTrue (nat_le (length d.scripts) 4096) → IsTrue (are_numbers_distinct (script_numbers d.scripts)) → IsTrue (list_all (λ s. nat_le s.home d.cluster.nodes) d.scripts) → IsTrue (nat_le (length (key_order (keys_of_document d.cluster.inits d.scripts))) 4096) → IsTrue (list_all (is_item d.cluster.nodes (script_numbers d.scripts)) d.items) → IsTrue (nat_le (sum_by events_of d.items) 50000) → IsTrue (list_all (λ s. is_body s.ops) d.scripts) → IsTrue (are_numbered d) → IsOne d
 tested-document d cluster count numbers homes keys items events bodies nodes = record {
   document = record {
     cluster = cluster;
     count = at-most (length d.scripts) 4096 count;
     numbers = numbers;
     homes = homes;
-    keys = at-most (length (key_order (keys_in d.cluster.inits d.scripts))) 4096 keys;
+    keys = at-most (length (key_order (keys_of_document d.cluster.inits d.scripts))) 4096 keys;
     items = items;
     events = at-most (sum_by events_of d.items) 50000 events;
   };

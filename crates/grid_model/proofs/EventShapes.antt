@@ -17,8 +17,8 @@ use Rattle.grid_model.specs.Histories.{after, sent, sent_at}
 use Rattle.grid_model.specs.Nodes.{node, script_of}
 use Rattle.grid_model.specs.Stories.{story}
 use Rattle.grid_model.specs.Views.{participant, view, stage}
-use Rattle.grid_model.specs.Rows.{answer, begin_outs, retry_row, ask_outs}
-use Rattle.grid_model.specs.Schedules.{Choice, acts_of, begin_row, deliver_row, drop_row, flag_of, next_left, next_row, opened_row, or_void, retry_at, row}
+use Rattle.grid_model.specs.Rows.{answer, begin_outs, retry_outs, ask_outs}
+use Rattle.grid_model.specs.Schedules.{Choice, acts_of, begin_row, deliver_row, drop_row, flag_of, next_left, next_row, opened_row, or_void, retry_row, row}
 use Rattle.grid_model.proofs.Undecided.{script-number}
 
 -- an act that changes nothing
@@ -39,7 +39,7 @@ idle-pass f void missed dropped (a ∷ acts) is = cc
 
 -- what a home sends again, or what a node asks
 pub data IsAgain (d : DocumentData) (past : List Act) (n : NodeId) (os : List Out) : Type 0 where
-  retries : (t : TxId) → os ≡ retry_row d.cluster t (stage (view d past n) t) → IsAgain d past n os
+  retries : (t : TxId) → os ≡ retry_outs d.cluster t (stage (view d past n) t) → IsAgain d past n os
   asks : (t : TxId) → os ≡ ask_outs (participant (view d past n)) t → IsAgain d past n os
 
 -- an item is an event of one of these shapes behind a past
@@ -124,10 +124,10 @@ again-shaped d past i n (o ∷ os) code down true up is = record { shape = again
 again-shaped d past i n os code down false up is = alone d past i (act.Void down) refl
 
 retry_at-shaped : (d : DocumentData) (past : List Act) (i : Item) (t : TxId) (o : Option ScriptData)
-    → IsShaped d past i (λ c. retry_at d past c t o)
+    → IsShaped d past i (λ c. retry_row d past c t o)
 retry_at-shaped d past i t None = none d past i
 retry_at-shaped d past i t (Some s) =
-    again-shaped d past i s.home (retry_row d.cluster t (stage (view d past s.home) t)) 5 2 (node d past s.home).up refl (retries t refl)
+    again-shaped d past i s.home (retry_outs d.cluster t (stage (view d past s.home) t)) 5 2 (node d past s.home).up refl (retries t refl)
 
 crash_row-shaped : (d : DocumentData) (past : List Act) (i : Item) (n : NodeId) (b : Bool)
     → (node d past n).up ≡ b → IsShaped d past i (λ c. if b then act.Down n None ∷ [] else act.Void 7 ∷ [])

@@ -35,7 +35,7 @@ use Rattle.grid_model.specs.Views.{View, Open, Stage, Apart, Reads, Collects, Co
 use Rattle.grid_model.specs.Advances.{advance, advance_end, request_of, to_node, prepares, prepare_for, date_by, owns, parts_now}
 use Rattle.script_runs.specs.Walks.{op_at, own_reads, unread}
 use Rattle.grid_model.specs.Fitness.{is_fit, is_fit_at, tx_in}
-use Rattle.grid_model.specs.Rows.{release, served, ceiling_of, ceilings, raises, answered, read_row, version_for, dated, reply_row, prepare_row, tells, have_voted, decides, greatest_vote, ballot_row, vote_row, are_all_among, ack_row, ask_row, commit_row, abort_row, tell_outs, freed_by, row_of, answer, begin_outs, begun_at, retry_row, not_voted, not_among, ask_outs, if_pending}
+use Rattle.grid_model.specs.Rows.{release, served, ceiling_of, ceilings, raises, answered, read_outs, version_for, dated, reply_outs, prepared_outs, tells, have_voted, decides, greatest_vote, ballot_outs, vote_outs, are_all_among, ack_outs, asked_outs, commit_outs, abort_outs, tell_outs, freed_by, message_outs, answer, begin_outs, begun_at, retry_outs, not_voted, not_among, ask_outs, if_pending}
 use Rattle.grid_model.specs.Schedules.{numbered}
 use Rattle.grid_model.specs.NextViews.{is_running, OwnDecisions, behind, behind_all, heard_view, next_view, changed_open, is_collects, desk_heard}
 use Rattle.grid_model.proofs.ViewSteps.{here, step-began, step-decided}
@@ -66,7 +66,7 @@ advance-plain d n b c x i =
     (plain-owns d n b x.script.number (filter (λ y. nat_lt i y.0) (own_reads 1 [] unread x.progress.values x.script.ops)))
     (end-plain d n b c x (waiting x.script.ops x.progress.values))
 
-reply-plain : (d : DocumentData) (n : NodeId) (c : ClusterData) (q : ReadRep) (s : Stage) → IsTrue (are_plain d n true (reply_row c q s))
+reply-plain : (d : DocumentData) (n : NodeId) (c : ClusterData) (q : ReadRep) (s : Stage) → IsTrue (are_plain d n true (reply_outs c q s))
 reply-plain d n c q (Reads x j) = go (j == q.op)
   where
     go : (same : Bool) → IsTrue (are_plain d n true (if same then out.Act (act.Taken q.t q.op q.sid q.value) ∷ advance c (record x { progress = with_value q.op q.sid q.value x.progress }) q.op else []))
@@ -74,7 +74,7 @@ reply-plain d n c q (Reads x j) = go (j == q.op)
     go false = refl
 reply-plain d n c q s = refl
 
-ack-plain : (d : DocumentData) (n : NodeId) (t : TxId) (x : NodeId) (s : Stage) → ((y : Decision) (acks : List NodeId) → s ≡ Commits y acks → is_home d t n ≡ true) → IsTrue (are_plain d n true (ack_row t x s))
+ack-plain : (d : DocumentData) (n : NodeId) (t : TxId) (x : NodeId) (s : Stage) → ((y : Decision) (acks : List NodeId) → s ≡ Commits y acks → is_home d t n ≡ true) → IsTrue (are_plain d n true (ack_outs t x s))
 ack-plain d n t x (Commits y acks) home = go (is_among x acks) (are_all_among y.parts (acks ++ x ∷ []))
   where
     go : (taken all : Bool) → IsTrue (are_plain d n true (if taken then [] else (if all then out.Act (act.Closed t) ∷ [] else [])))
@@ -83,13 +83,13 @@ ack-plain d n t x (Commits y acks) home = go (is_among x acks) (are_all_among y.
     go false true = rw (home y acks refl) refl
 ack-plain d n t x s home = refl
 
-ask-plain : (d : DocumentData) (n : NodeId) (t : TxId) (x : NodeId) (s : Stage) → IsTrue (are_plain d n true (ask_row t x s))
+ask-plain : (d : DocumentData) (n : NodeId) (t : TxId) (x : NodeId) (s : Stage) → IsTrue (are_plain d n true (asked_outs t x s))
 ask-plain d n t x (Reads o j) = refl
 ask-plain d n t x (Collects o) = refl
 ask-plain d n t x (Commits y acks) = refl
 ask-plain d n t x Apart = refl
 
-pub retry-plain : (d : DocumentData) (n : NodeId) (c : ClusterData) (t : TxId) (s : Stage) → IsTrue (are_plain d n false (retry_row c t s))
+pub retry-plain : (d : DocumentData) (n : NodeId) (c : ClusterData) (t : TxId) (s : Stage) → IsTrue (are_plain d n false (retry_outs c t s))
 retry-plain d n c t (Reads x j) = request-plain d n false c x j x.progress.turn (op_at x.script.ops j)
 retry-plain d n c t (Collects x) = plain-sends d n false (λ m. message.Prepare (prepare_for c x m)) (not_voted (parts_now c x) x.progress.votes)
 retry-plain d n c t (Commits y acks) = plain-sends d n false (λ m. message.Tell t (outcome.Commit y.final)) (not_among y.parts acks)
@@ -97,7 +97,7 @@ retry-plain d n c t Apart = refl
 
 -- ---- the server's and the participant's rows
 
-read-plain : (d : DocumentData) (n : NodeId) (v : View) (x : NodeId) (q : ReadReq) (sid : Ident) → IsTrue (are_plain d n true (read_row n (participant v) x q sid))
+read-plain : (d : DocumentData) (n : NodeId) (v : View) (x : NodeId) (q : ReadReq) (sid : Ident) → IsTrue (are_plain d n true (read_outs n (participant v) x q sid))
 read-plain d n v x q sid =
     plain-append d n true (ceilings n (floor v.journal) sid) (raises n v.next sid ++ answered (is_clear sid v.journal) n x q sid (version_for v.cluster v.journal q.key sid))
     (above (nat_lt (floor v.journal) sid))
@@ -123,19 +123,19 @@ release-plain d n c r (h ∷ hs) = plain-append d n true (if is_clear h.sid r th
     go true = rw (here n) refl
     go false = refl
 
-prepare-plain : (d : DocumentData) (n x : NodeId) (t : TxId) (o : Option Outcome) (mine : Option Ident) (u : Option TxId) (y : Option (Key × Ident)) (p : Ident) → IsTrue (are_plain d n true (prepare_row n x t o mine u y p))
+prepare-plain : (d : DocumentData) (n x : NodeId) (t : TxId) (o : Option Outcome) (mine : Option Ident) (u : Option TxId) (y : Option (Key × Ident)) (p : Ident) → IsTrue (are_plain d n true (prepared_outs n x t o mine u y p))
 prepare-plain d n x t (Some o) mine u y p = refl
 prepare-plain d n x t None (Some q) u y p = refl
 prepare-plain d n x t None None (Some u) y p = refl
 prepare-plain d n x t None None None (Some y) p = refl
 prepare-plain d n x t None None None None p = rw (here n) refl
 
-commit-plain : (d : DocumentData) (n : NodeId) (t : TxId) (f : Ident) (mine : Option Ident) (done : Bool) (ack freed : List Out) → IsTrue (are_plain d n true ack) → IsTrue (are_plain d n true freed) → IsTrue (are_plain d n true (commit_row n t f mine done ack ++ if_pending mine freed))
+commit-plain : (d : DocumentData) (n : NodeId) (t : TxId) (f : Ident) (mine : Option Ident) (done : Bool) (ack freed : List Out) → IsTrue (are_plain d n true ack) → IsTrue (are_plain d n true freed) → IsTrue (are_plain d n true (commit_outs n t f mine done ack ++ if_pending mine freed))
 commit-plain d n t f (Some p) done ack freed is are = rw (here n) (plain-append d n true ack freed is are)
 commit-plain d n t f None true ack freed is are = plain-append d n true ack [] is refl
 commit-plain d n t f None false ack freed is are = refl
 
-abort-plain : (d : DocumentData) (n : NodeId) (t : TxId) (mine : Option Ident) (freed : List Out) → IsTrue (are_plain d n true freed) → IsTrue (are_plain d n true (abort_row n t mine ++ if_pending mine freed))
+abort-plain : (d : DocumentData) (n : NodeId) (t : TxId) (mine : Option Ident) (freed : List Out) → IsTrue (are_plain d n true freed) → IsTrue (are_plain d n true (abort_outs n t mine ++ if_pending mine freed))
 abort-plain d n t (Some p) freed are = rw (here n) are
 abort-plain d n t None freed are = refl
 
@@ -182,10 +182,10 @@ pub record Decides (d : DocumentData) (n : NodeId) (v : View) (os : List Out) : 
 abbrev pub Given : DocumentData → NodeId → View → List Out → Type 0
 Given d n v os = IsTrue (are_plain d n true os) ⊎ Decides d n v os
 
-vote-given : (d : DocumentData) (n : NodeId) (v : View) (c : ClusterData) (t : TxId) (x : NodeId) (b : Ballot) (s : Stage) → ((o : Open) → s ≡ Collects o → v.desk t ≡ Some o) → Given d n v (vote_row c t x b s)
+vote-given : (d : DocumentData) (n : NodeId) (v : View) (c : ClusterData) (t : TxId) (x : NodeId) (b : Ballot) (s : Stage) → ((o : Open) → s ≡ Collects o → v.desk t ≡ Some o) → Given d n v (vote_outs c t x b s)
 vote-given d n v c t x (ballot.No why) (Collects o) desk = go (has_voted x o.progress.votes)
   where
-    go : (taken : Bool) → Given d n v (if taken then [] else ballot_row t (parts_now c o) o.progress.votes x (ballot.No why))
+    go : (taken : Bool) → Given d n v (if taken then [] else ballot_outs t (parts_now c o) o.progress.votes x (ballot.No why))
     go true = inl refl
     go false = inl (plain-sends d n true (λ m. message.Tell t outcome.Abort) (others x (parts_now c o)))
 vote-given d n v c t x (ballot.Yes p) (Collects o) desk = go (has_voted x o.progress.votes) (have_voted (parts_now c o) (o.progress.votes ++ record { from = x; p = p } ∷ []))
@@ -204,7 +204,7 @@ vote-given d n v c t x (ballot.Yes p) (Collects o) desk = go (has_voted x o.prog
     })
 vote-given d n v c t x b s desk = inl refl
 
-row-given : (d : DocumentData) (past : List Act) (n x : NodeId) (said : Message) → OwnDecisions d past n → Given d n (view d past n) (row_of n (participant (view d past n)) (view d past n).held (stage (view d past n) (tx_in said)) x said)
+row-given : (d : DocumentData) (past : List Act) (n x : NodeId) (said : Message) → OwnDecisions d past n → Given d n (view d past n) (message_outs n (participant (view d past n)) (view d past n).held (stage (view d past n) (tx_in said)) x said)
 row-given d past n x (message.ReadReq q) own = inl (read-plain d n (view d past n) x q (dated q.date (commit_id (journal d past n))))
 row-given d past n x (message.ReadRep q) own = inl (reply-plain d n d.cluster q (stage (view d past n) q.t))
 row-given d past n x (message.Prepare q) own = inl (prepare-plain d n x q.t (ended q.t (journal d past n)) (pending q.t (journal d past n)) (holder (journal d past n) q.t q.reads q.writes) (newer (journal d past n) q.reads q.sid) (1 + max (node d past n).next q.sid))
@@ -216,7 +216,7 @@ row-given d past n x (message.Ask t) own = inl (ask-plain d n t x (stage (view d
 pub answer-given : (d : DocumentData) (past : List Act) (n x : NodeId) (said : Message) → OwnDecisions d past n → Given d n (view d past n) (answer n (view d past n) x said)
 answer-given d past n x said own = go (is_fit_at n (participant (view d past n)) (stage (view d past n) (tx_in said)) x said)
   where
-    go : (fit : Bool) → Given d n (view d past n) (if fit then row_of n (participant (view d past n)) (view d past n).held (stage (view d past n) (tx_in said)) x said else [])
+    go : (fit : Bool) → Given d n (view d past n) (if fit then message_outs n (participant (view d past n)) (view d past n).held (stage (view d past n) (tx_in said)) x said else [])
     go true = row-given d past n x said own
     go false = inl refl
 
@@ -256,8 +256,8 @@ begin-view d past n k s script home =
     ∙ ap (λ w. behind_all None (Some s) w (advance d.cluster (begun_at s (commit_id (journal d past n))) 0)) (step-began d past n n s (commit_id (journal d past n)) None script home)
 
 -- a home sends again
-pub retry-view : (d : DocumentData) (past : List Act) (n : NodeId) (k : ℕ) (t : TxId) → view d (after past (numbered k n (retry_row d.cluster t (stage (view d past n) t)))) n ≡ next_view n (view d past n) (event.Retry t) (retry_row d.cluster t (stage (view d past n) t))
-retry-view d past n k t = plain-view d past n false None None k (retry_row d.cluster t (stage (view d past n) t)) (retry-plain d n d.cluster t (stage (view d past n) t)) (λ is. never is)
+pub retry-view : (d : DocumentData) (past : List Act) (n : NodeId) (k : ℕ) (t : TxId) → view d (after past (numbered k n (retry_outs d.cluster t (stage (view d past n) t)))) n ≡ next_view n (view d past n) (event.Retry t) (retry_outs d.cluster t (stage (view d past n) t))
+retry-view d past n k t = plain-view d past n false None None k (retry_outs d.cluster t (stage (view d past n) t)) (retry-plain d n d.cluster t (stage (view d past n) t)) (λ is. never is)
 
 pub asks-plain : (d : DocumentData) (n : NodeId) (v : View) (t : TxId) → IsTrue (are_plain d n false (ask_outs (participant v) t))
 asks-plain d n v t = go (is_some (pending t v.journal))

@@ -11,7 +11,7 @@ use Rattle.score_base.specs.declared.ids.NodeId.{NodeId}
 use Rattle.placement.specs.Places.{holds}
 use Rattle.placement.specs.Clusters.{ClusterData}
 use Rattle.grid_model.specs.Views.{Open}
-use Rattle.journal_words.specs.Journals.{written_value, keys_in}
+use Rattle.journal_words.specs.Journals.{written_value, keys_of_writes}
 use Rattle.grid_model.specs.Advances.{prepare_for}
 use Rattle.script_lang.proofs.KeyLists.{same_key-is, same_key-turned}
 
@@ -21,7 +21,7 @@ use Rattle.script_lang.proofs.KeyLists.{same_key-is, same_key-turned}
 abbrev pub with_values : Map → List Key → List (Key × Value)
 with_values m ks = map (λ k. (k, m k)) ks
 
-pub with_values-keys : (m : Map) (ks : List Key) → keys_in (with_values m ks) ≡ ks
+pub with_values-keys : (m : Map) (ks : List Key) → keys_of_writes (with_values m ks) ≡ ks
 with_values-keys m [] = refl
 with_values-keys m (k ∷ ks) = ap (λ xs. k ∷ xs) (with_values-keys m ks)
 

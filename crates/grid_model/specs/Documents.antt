@@ -43,8 +43,8 @@ events_of (item.Fuse n k how) = 1
 events_of (item.Restart n) = 1
 
 -- the keys that an initial value or an operation names, in the order of the document
-abbrev pub keys_in : List (Key × Value) → List ScriptData → List Key
-keys_in inits scripts = map (λ x. x.0) inits ++ flat_map (λ s. keys_named s.ops) scripts
+abbrev pub keys_of_document : List (Key × Value) → List ScriptData → List Key
+keys_of_document inits scripts = map (λ x. x.0) inits ++ flat_map (λ s. keys_named s.ops) scripts
 
 -- the distinct ones of these keys, in byte order
 abbrev pub key_order : List Key → List Key
@@ -72,7 +72,7 @@ pub record IsDocument (d : DocumentData) : Type 0 where
   pub count : length d.scripts ≤ 4096
   pub numbers : IsTrue (are_numbers_distinct (script_numbers d.scripts))
   pub homes : IsTrue (list_all (λ s. nat_le s.home d.cluster.nodes) d.scripts)
-  pub keys : length (key_order (keys_in d.cluster.inits d.scripts)) ≤ 4096
+  pub keys : length (key_order (keys_of_document d.cluster.inits d.scripts)) ≤ 4096
   pub items : IsTrue (list_all (is_item d.cluster.nodes (script_numbers d.scripts)) d.items)
   pub events : sum_by events_of d.items ≤ 50000
 

@@ -14,7 +14,7 @@ use Rattle.grid_model.specs.declared.messages.Message.TheVariants as message
 use Rattle.grid_model.specs.declared.messages.Prepare.{Prepare}
 use Rattle.grid_model.specs.declared.messages.ReadReq.{ReadReq}
 use Rattle.grid_model.specs.declared.messages.ReadRep.{ReadRep}
-use Rattle.journal_words.specs.Journals.{are_own_keys, keys_in, pending}
+use Rattle.journal_words.specs.Journals.{are_own_keys, keys_of_writes, pending}
 use Rattle.grid_model.specs.Stories.{is_small, is_small_node, is_fit_ballot}
 use Rattle.grid_model.specs.Views.{Participant, View, participant, Stage, Reads, Collects, Commits, stage}
 use Rattle.grid_model.specs.Advances.{parts_now}
@@ -51,7 +51,7 @@ is_fit_prepare c n q =
     is_small q.sid
     && (nat_le 1 (length q.parts) && (nat_le (length q.parts) 16 && (is_rising q.parts && (is_among n q.parts
     && (nat_le 1 (length q.reads + length q.writes) && (nat_le (length q.reads) 32 && (nat_le (length q.writes) 32
-    && (are_own_keys c n q.reads && are_own_keys c n (keys_in q.writes)))))))))
+    && (are_own_keys c n q.reads && are_own_keys c n (keys_of_writes q.writes)))))))))
 
 -- a sender of votes and acknowledgements is a part, where the transaction is collecting or decided
 abbrev pub is_part_at : ClusterData → Stage → NodeId → Bool

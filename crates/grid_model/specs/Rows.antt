@@ -74,15 +74,15 @@ answered true n x q sid w = served n q.t q.op q.key sid x w
 answered false n x q sid w = out.Act (act.Held n q.t q.op sid) ∷ []
 
 -- a read request at n from x, at this identifier
-abbrev pub read_row : NodeId → Participant → NodeId → ReadReq → Ident → List Out
-read_row n p x q sid =
+abbrev pub read_outs : NodeId → Participant → NodeId → ReadReq → Ident → List Out
+read_outs n p x q sid =
     ceilings n (floor p.journal) sid
     ++ (raises n p.next sid ++ answered (is_clear sid p.journal) n x q sid (version_for p.cluster p.journal q.key sid))
 
 -- a read reply at the home
-abbrev pub reply_row : ClusterData → ReadRep → Stage → List Out
-reply_row c q (Reads x j) = if j == q.op then out.Act (act.Taken q.t q.op q.sid q.value) ∷ advance c (record x { progress = with_value q.op q.sid q.value x.progress }) q.op else []
-reply_row c q s = []
+abbrev pub reply_outs : ClusterData → ReadRep → Stage → List Out
+reply_outs c q (Reads x j) = if j == q.op then out.Act (act.Taken q.t q.op q.sid q.value) ∷ advance c (record x { progress = with_value q.op q.sid q.value x.progress }) q.op else []
+reply_outs c q s = []
 
 -- ---- votes
 
@@ -98,15 +98,15 @@ judged n x t None (Some y) p = refused n x t (cause.Newer y.0 y.1)
 judged n x t None None p = out.Act (act.Prepared n t p) ∷ (out.Send x (message.Vote t (ballot.Yes p)) ∷ [])
 
 -- a Prepare of t at n from x, by the outcome and the proposal that t has there
-abbrev pub prepare_row : NodeId → NodeId → TxId → Option Outcome → Option Ident → Option TxId → Option (Key × Ident) → Ident → List Out
-prepare_row n x t (Some o) mine holder newer p = []
-prepare_row n x t None (Some q) holder newer p = out.Send x (message.Vote t (ballot.Yes q)) ∷ []
-prepare_row n x t None None holder newer p = judged n x t holder newer p
+abbrev pub prepared_outs : NodeId → NodeId → TxId → Option Outcome → Option Ident → Option TxId → Option (Key × Ident) → Ident → List Out
+prepared_outs n x t (Some o) mine holder newer p = []
+prepared_outs n x t None (Some q) holder newer p = out.Send x (message.Vote t (ballot.Yes q)) ∷ []
+prepared_outs n x t None None holder newer p = judged n x t holder newer p
 
 -- a Prepare at n from x
 abbrev pub prepare_outs : NodeId → Participant → NodeId → Prepare → List Out
 prepare_outs n p x q =
-    prepare_row n x q.t (ended q.t p.journal) (pending q.t p.journal)
+    prepared_outs n x q.t (ended q.t p.journal) (pending q.t p.journal)
     (holder p.journal q.t q.reads q.writes) (newer p.journal q.reads q.sid) (1 + max p.next q.sid)
 
 -- ---- the coordinator
@@ -129,57 +129,57 @@ abbrev pub decides : TxId → Ident → List NodeId → List Out
 decides t f ns = out.Act (act.Decided t f) ∷ (out.Act (act.Finished t) ∷ tells t (outcome.Commit f) ns)
 
 -- the decision, where all parts have voted
-abbrev pub full_row : TxId → List NodeId → List Voted → List Out
-full_row t ns votes = if have_voted ns votes then decides t (greatest_vote votes) ns else []
+abbrev pub full_outs : TxId → List NodeId → List Voted → List Out
+full_outs t ns votes = if have_voted ns votes then decides t (greatest_vote votes) ns else []
 
 -- the vote of x on a transaction that is collecting
-abbrev pub ballot_row : TxId → List NodeId → List Voted → NodeId → Ballot → List Out
-ballot_row t ns votes x (ballot.Yes p) = full_row t ns (votes ++ record { from = x; p = p } ∷ [])
-ballot_row t ns votes x (ballot.No why) = out.Act (act.Aborted t x why) ∷ tells t outcome.Abort (others x ns)
+abbrev pub ballot_outs : TxId → List NodeId → List Voted → NodeId → Ballot → List Out
+ballot_outs t ns votes x (ballot.Yes p) = full_outs t ns (votes ++ record { from = x; p = p } ∷ [])
+ballot_outs t ns votes x (ballot.No why) = out.Act (act.Aborted t x why) ∷ tells t outcome.Abort (others x ns)
 
 -- a vote from x at the home
-abbrev pub vote_row : ClusterData → TxId → NodeId → Ballot → Stage → List Out
-vote_row c t x b (Collects o) = if has_voted x o.progress.votes then [] else ballot_row t (parts_now c o) o.progress.votes x b
-vote_row c t x b s = []
+abbrev pub vote_outs : ClusterData → TxId → NodeId → Ballot → Stage → List Out
+vote_outs c t x b (Collects o) = if has_voted x o.progress.votes then [] else ballot_outs t (parts_now c o) o.progress.votes x b
+vote_outs c t x b s = []
 
 -- each of these nodes is among those
 abbrev pub are_all_among : List NodeId → List NodeId → Bool
 are_all_among ns ms = list_all (λ n. is_among n ms) ns
 
 -- the end of the commit, where all parts have acknowledged
-abbrev pub closed_row : TxId → List NodeId → List NodeId → List Out
-closed_row t ns acks = if are_all_among ns acks then out.Act (act.Closed t) ∷ [] else []
+abbrev pub closed_outs : TxId → List NodeId → List NodeId → List Out
+closed_outs t ns acks = if are_all_among ns acks then out.Act (act.Closed t) ∷ [] else []
 
 -- an acknowledgement from x at the home
-abbrev pub ack_row : TxId → NodeId → Stage → List Out
-ack_row t x (Commits y acks) = if is_among x acks then [] else closed_row t y.parts (acks ++ x ∷ [])
-ack_row t x s = []
+abbrev pub ack_outs : TxId → NodeId → Stage → List Out
+ack_outs t x (Commits y acks) = if is_among x acks then [] else closed_outs t y.parts (acks ++ x ∷ [])
+ack_outs t x s = []
 
 -- a question of x at the home: no record and no open transaction means abort
-abbrev pub ask_row : TxId → NodeId → Stage → List Out
-ask_row t x (Reads o j) = []
-ask_row t x (Collects o) = []
-ask_row t x (Commits y acks) = out.Send x (message.Tell t (outcome.Commit y.final)) ∷ []
-ask_row t x Apart = out.Send x (message.Tell t outcome.Abort) ∷ []
+abbrev pub asked_outs : TxId → NodeId → Stage → List Out
+asked_outs t x (Reads o j) = []
+asked_outs t x (Collects o) = []
+asked_outs t x (Commits y acks) = out.Send x (message.Tell t (outcome.Commit y.final)) ∷ []
+asked_outs t x Apart = out.Send x (message.Tell t outcome.Abort) ∷ []
 
 -- ---- ends
 
 -- a commit that is told at n, by the proposal that t has there and by whether it ended so before
-abbrev pub commit_row : NodeId → TxId → Ident → Option Ident → Bool → List Out → List Out
-commit_row n t f (Some p) done ack = out.Act (act.Ended n t (outcome.Commit f)) ∷ ack
-commit_row n t f None true ack = ack
-commit_row n t f None false ack = []
+abbrev pub commit_outs : NodeId → TxId → Ident → Option Ident → Bool → List Out → List Out
+commit_outs n t f (Some p) done ack = out.Act (act.Ended n t (outcome.Commit f)) ∷ ack
+commit_outs n t f None true ack = ack
+commit_outs n t f None false ack = []
 
 -- an abort that is told at n, by the proposal that t has there
-abbrev pub abort_row : NodeId → TxId → Option Ident → List Out
-abort_row n t (Some p) = out.Act (act.Ended n t outcome.Abort) ∷ []
-abort_row n t None = []
+abbrev pub abort_outs : NodeId → TxId → Option Ident → List Out
+abort_outs n t (Some p) = out.Act (act.Ended n t outcome.Abort) ∷ []
+abort_outs n t None = []
 
 -- how t ended, told at n: what n gives but for its held reads
 abbrev pub end_outs : NodeId → Participant → TxId → Outcome → List Out
 end_outs n p t (outcome.Commit f) =
-    commit_row n t f (pending t p.journal) (is_commit (ended t p.journal)) (to_node (home_of t p.journal) (message.Ack t))
-end_outs n p t outcome.Abort = abort_row n t (pending t p.journal)
+    commit_outs n t f (pending t p.journal) (is_commit (ended t p.journal)) (to_node (home_of t p.journal) (message.Ack t))
+end_outs n p t outcome.Abort = abort_outs n t (pending t p.journal)
 
 -- these outs, where a transaction is pending
 abbrev pub if_pending : Option Ident → List Out → List Out
@@ -197,18 +197,18 @@ tell_outs n p held t o = end_outs n p t o ++ if_pending (pending t p.journal) (f
 -- ---- the table
 
 -- what n, which holds these reads, gives where a fit message comes from x, whose transaction stands so
-abbrev pub row_of : NodeId → Participant → List HeldRead → Stage → NodeId → Message → List Out
-row_of n p held s x (message.ReadReq q) = read_row n p x q (dated q.date (commit_id p.journal))
-row_of n p held s x (message.ReadRep q) = reply_row p.cluster q s
-row_of n p held s x (message.Prepare q) = prepare_outs n p x q
-row_of n p held s x (message.Vote t b) = vote_row p.cluster t x b s
-row_of n p held s x (message.Tell t o) = tell_outs n p held t o
-row_of n p held s x (message.Ack t) = ack_row t x s
-row_of n p held s x (message.Ask t) = ask_row t x s
+abbrev pub message_outs : NodeId → Participant → List HeldRead → Stage → NodeId → Message → List Out
+message_outs n p held s x (message.ReadReq q) = read_outs n p x q (dated q.date (commit_id p.journal))
+message_outs n p held s x (message.ReadRep q) = reply_outs p.cluster q s
+message_outs n p held s x (message.Prepare q) = prepare_outs n p x q
+message_outs n p held s x (message.Vote t b) = vote_outs p.cluster t x b s
+message_outs n p held s x (message.Tell t o) = tell_outs n p held t o
+message_outs n p held s x (message.Ack t) = ack_outs t x s
+message_outs n p held s x (message.Ask t) = asked_outs t x s
 
 -- what n gives where a message comes from x, whose transaction stands so
 abbrev pub answer_at : NodeId → Participant → List HeldRead → Stage → NodeId → Message → List Out
-answer_at n p held s x said = if is_fit_at n p s x said then row_of n p held s x said else []
+answer_at n p held s x said = if is_fit_at n p s x said then message_outs n p held s x said else []
 
 -- what n gives where a message comes from x
 abbrev pub answer : NodeId → View → NodeId → Message → List Out
@@ -231,11 +231,11 @@ abbrev pub not_among : List NodeId → List NodeId → List NodeId
 not_among ns ms = filter (λ n. not (is_among n ms)) ns
 
 -- what the home sends again; nothing where nothing is outstanding
-abbrev pub retry_row : ClusterData → TxId → Stage → List Out
-retry_row c t (Reads x j) = request c x j x.progress.turn
-retry_row c t (Collects x) = prepares c x (not_voted (parts_now c x) x.progress.votes)
-retry_row c t (Commits y acks) = tells t (outcome.Commit y.final) (not_among y.parts acks)
-retry_row c t Apart = []
+abbrev pub retry_outs : ClusterData → TxId → Stage → List Out
+retry_outs c t (Reads x j) = request c x j x.progress.turn
+retry_outs c t (Collects x) = prepares c x (not_voted (parts_now c x) x.progress.votes)
+retry_outs c t (Commits y acks) = tells t (outcome.Commit y.final) (not_among y.parts acks)
+retry_outs c t Apart = []
 
 -- what n asks the home of t; nothing where t is not pending at n
 abbrev pub ask_outs : Participant → TxId → List Out

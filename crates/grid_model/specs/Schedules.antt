@@ -22,7 +22,7 @@ use Rattle.grid_model.specs.Documents.{DocumentData, number_order, script_number
 use Rattle.grid_model.specs.Histories.{sent, sent_at, is_gone}
 use Rattle.grid_model.specs.Nodes.{script_of}
 use Rattle.grid_model.specs.Stories.{is_open}
-use Rattle.grid_model.specs.Rows.{answer, begin_outs, retry_row, ask_outs}
+use Rattle.grid_model.specs.Rows.{answer, begin_outs, retry_outs, ask_outs}
 use Rattle.grid_model.specs.Views.{participant, stage}
 use Rattle.grid_model.specs.Voids.{void_code, voided}
 use Rattle.grid_model.specs.States.{State, state_of, state_behind, view_in, phase_in}
@@ -132,7 +132,7 @@ abbrev pub retry_on : DocumentData → State → Choice → TxId → Option Scri
 retry_on d st c t None = []
 retry_on d st c t (Some s) =
     if (st.nodes s.home).up
-    then (let os : List Out = retry_row d.cluster t (stage (view_in d st s.home) t) in or_void (void_code void.NothingOwed) os (acts_on st c s.home os))
+    then (let os : List Out = retry_outs d.cluster t (stage (view_in d st s.home) t) in or_void (void_code void.NothingOwed) os (acts_on st c s.home os))
     else voided void.HomeDown
 
 -- `ask n t`: code 6 where n is down, or t is not pending at n
@@ -209,8 +209,8 @@ deliver_row d past c m e = deliver_on d (state_of d past) c m e
 abbrev pub next_row : DocumentData → List Act → Choice → Option ℕ → List Act
 next_row d past c m = next_on d (state_of d past) c m
 
-abbrev pub retry_at : DocumentData → List Act → Choice → TxId → Option ScriptData → List Act
-retry_at d past c t s = retry_on d (state_of d past) c t s
+abbrev pub retry_row : DocumentData → List Act → Choice → TxId → Option ScriptData → List Act
+retry_row d past c t s = retry_on d (state_of d past) c t s
 
 abbrev pub ask_row : DocumentData → List Act → Choice → NodeId → TxId → List Act
 ask_row d past c n t = ask_on d (state_of d past) c n t

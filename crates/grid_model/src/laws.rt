@@ -9,7 +9,7 @@ ghost use Rattle.grid_model.specs.declared.messages.Message.{Message};
 ghost use Rattle.grid_model.specs.Histories.{after, sent, sent_at};
 ghost use Rattle.grid_model.specs.Nodes.{script_of};
 ghost use Rattle.grid_model.specs.Views.{participant, view, stage};
-ghost use Rattle.grid_model.specs.Rows.{answer, begin_outs, retry_row, ask_outs};
+ghost use Rattle.grid_model.specs.Rows.{answer, begin_outs, retry_outs, ask_outs};
 ghost use Rattle.grid_model.specs.Schedules.{Choice, numbered, row, row_on};
 ghost use Rattle.grid_model.specs.States.{state_of, state_behind, state_after};
 ghost use Rattle.grid_model.specs.NextViews.{OwnDecisions, next_view};
@@ -22,7 +22,7 @@ ghost use Rattle.grid_model.specs.declared.items.Item.{Item};
 pub fn law_next_view()
     ensures begin { (d : DocumentData) (past : List Act) (n : ℕ) (k : ℕ) (s : ScriptData) → script_of s.number d.scripts ≡ Some s → s.home ≡ n → view d (after past (numbered k n (begin_outs n (participant (view d past n)) s))) n ≡ next_view n (view d past n) (event.Begin s) (begin_outs n (participant (view d past n)) s) }
     ensures deliver { (d : DocumentData) (past : List Act) (n x : ℕ) (m k : ℕ) (said : Message) → sent_at m (sent past) ≡ Some (record { from = x; to = n; message = said }) → OwnDecisions d past n → view d (after (act.Got m ∷ past) (numbered k n (answer n (view d past n) x said))) n ≡ next_view n (view d past n) (event.Deliver x said) (answer n (view d past n) x said) }
-    ensures retry { (d : DocumentData) (past : List Act) (n : ℕ) (k : ℕ) (t : ℕ) → view d (after past (numbered k n (retry_row d.cluster t (stage (view d past n) t)))) n ≡ next_view n (view d past n) (event.Retry t) (retry_row d.cluster t (stage (view d past n) t)) }
+    ensures retry { (d : DocumentData) (past : List Act) (n : ℕ) (k : ℕ) (t : ℕ) → view d (after past (numbered k n (retry_outs d.cluster t (stage (view d past n) t)))) n ≡ next_view n (view d past n) (event.Retry t) (retry_outs d.cluster t (stage (view d past n) t)) }
     ensures ask { (d : DocumentData) (past : List Act) (n : ℕ) (k : ℕ) (t : ℕ) → view d (after past (numbered k n (ask_outs (participant (view d past n)) t))) n ≡ next_view n (view d past n) (event.Ask t) (ask_outs (participant (view d past n)) t) }
 {}
 

@@ -13,7 +13,7 @@ use Rattle.grid_model.specs.declared.acts.Act.{Act}
 use Rattle.score_base.specs.declared.records.Record.{Record}
 use Rattle.grid_model.specs.declared.stories.Story.{Story}
 use Rattle.journal_words.specs.declared.versions.Version.{Version}
-use Rattle.grid_model.specs.Documents.{DocumentData, script_numbers, keys_in, key_order, number_order}
+use Rattle.grid_model.specs.Documents.{DocumentData, script_numbers, keys_of_document, key_order, number_order}
 use Rattle.grid_model.specs.Histories.{after}
 use Rattle.journal_words.specs.Journals.{decision, is_closed, newest_version}
 use Rattle.grid_model.specs.Nodes.{journal, script_of}
@@ -63,7 +63,7 @@ key_lines c journals k = flat_map (holder_line c journals k) (range_with_len 1 1
 
 -- the lines of each key that an initial value or an operation names, in byte order
 unfoldable pub keys_lines : DocumentData → (NodeId → List Record) → List ℕ
-keys_lines d journals = flat_map (key_lines d.cluster journals) (key_order (keys_in d.cluster.inits d.scripts))
+keys_lines d journals = flat_map (key_lines d.cluster journals) (key_order (keys_of_document d.cluster.inits d.scripts))
 
 -- ---- the whole
 

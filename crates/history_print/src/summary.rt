@@ -7,7 +7,7 @@ ghost use Rattle.std.specs.Cmp.Lexicographic.{slice_cmp};
 ghost use Rattle.std.specs.BTreeSet.{insert_key};
 ghost use Rattle.script_lang.specs.Reads.{keys_named};
 ghost use Rattle.placement.specs.Places.{is_among};
-ghost use Rattle.grid_model.specs.Documents.{script_numbers, number_order, key_order, keys_in};
+ghost use Rattle.grid_model.specs.Documents.{script_numbers, number_order, key_order, keys_of_document};
 ghost use Rattle.grid_model.specs.Copies.{snapshot_in};
 ghost use Rattle.grid_model.specs.Nodes.{journal, script_of};
 ghost use Rattle.journal_words.specs.Journals.{is_closed, decision};
@@ -309,7 +309,7 @@ fn add_scripts(keys: &mut BTreeSet<Key>, scripts: &[Script]) -> Result<(), Memor
 
 /// The keys that an initial value or an operation names.
 fn key_set(alloc: Global, doc: &Document) -> Result<BTreeSet<Key>, Memory>
-    ensures { IfOk result (λ s. s.keys ≡ key_order (keys_in doc.now.cluster.inits doc.now.scripts)) }
+    ensures { IfOk result (λ s. s.keys ≡ key_order (keys_of_document doc.now.cluster.inits doc.now.scripts)) }
 {
     let mut keys = BTreeSet::new(alloc);
     add_inits(&mut keys, doc.cluster().inits.as_slice())?;

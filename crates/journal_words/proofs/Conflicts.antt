@@ -15,7 +15,7 @@ use Rattle.score_base.specs.declared.records.Record.TheVariants as record'
 use Rattle.score_base.specs.Keys.{same_key}
 use Rattle.script_lang.specs.Reads.{is_key_among}
 use Rattle.placement.specs.Clusters.{ClusterData}
-use Rattle.journal_words.specs.Journals.{Prepared, prepared_of, pending, is_clear, ended, written_value, wrote_in, newest, keys_in, conflict, conflicts_with, is_unapplied, is_locking, newer, all_fit}
+use Rattle.journal_words.specs.Journals.{Prepared, prepared_of, pending, is_clear, ended, written_value, wrote_in, newest, keys_of_writes, conflict, conflicts_with, is_unapplied, is_locking, newer, all_fit}
 use Rattle.script_lang.proofs.KeyLists.{same_key-is}
 use Rattle.journal_words.proofs.KeyLists.{conflict-turned, written-among}
 use Rattle.journal_words.proofs.Fits.{FitsPrepared, prepared-fits, newest-fits, rest-fits}
@@ -50,14 +50,14 @@ newer-none r (x ∷ ks) sid k h is =
 -- and where b reads a key that a writes it is at most the snapshot identifier of b
 pub data IsBefore (o : Option Outcome) (a b : Prepared) : Type 0 where
   aborted : o ≡ Some outcome.Abort → IsBefore o a b
-  committed : (f : Ident) → o ≡ Some (outcome.Commit f) → f < b.proposal → ((k : Key) → is_key_among k (keys_in a.writes) ≡ true → is_key_among k b.reads ≡ true → f ≤ b.sid) → IsBefore o a b
+  committed : (f : Ident) → o ≡ Some (outcome.Commit f) → f < b.proposal → ((k : Key) → is_key_among k (keys_of_writes a.writes) ≡ true → is_key_among k b.reads ≡ true → f ≤ b.sid) → IsBefore o a b
 
 -- it stays before it
 pub before-stays : (c : ClusterData) (n : NodeId) (t : TxId) (a b : Prepared) (y : Record) (r : List Record) → all_fit c n (y ∷ r) ≡ true → IsBefore (ended t r) a b → IsBefore (ended t (y ∷ r)) a b
 before-stays c n t a b y r fit (aborted e) = aborted (ended-stays c n t outcome.Abort y r fit e)
 before-stays c n t a b y r fit (committed f e lt each) = committed f (ended-stays c n t (outcome.Commit f) y r fit e) lt each
 
-written-some : (k : Key) (t : TxId) (a : Prepared) (r : List Record) → prepared_of t r ≡ Some a → is_key_among k (keys_in a.writes) ≡ true → (v : Value) × (wrote_in (prepared_of t r) k ≡ Some v)
+written-some : (k : Key) (t : TxId) (a : Prepared) (r : List Record) → prepared_of t r ≡ Some a → is_key_among k (keys_of_writes a.writes) ≡ true → (v : Value) × (wrote_in (prepared_of t r) k ≡ Some v)
 written-some k t a r e h = go (written_value k a.writes) refl (sym (written-among k a.writes) ∙ h)
   where
     go : (o : Option Value) → written_value k a.writes ≡ o → is_some o ≡ true → (v : Value) × (wrote_in (prepared_of t r) k ≡ Some v)

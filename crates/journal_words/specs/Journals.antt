@@ -177,8 +177,8 @@ newest r k = (newest_version r k 0).ident
 -- ---- conflicts
 
 -- the keys of these writes
-abbrev pub keys_in : List (Key × Value) → List Key
-keys_in xs = map (λ x. x.0) xs
+abbrev pub keys_of_writes : List (Key × Value) → List Key
+keys_of_writes xs = map (λ x. x.0) xs
 
 -- a key of the first list is in the second
 abbrev pub shares : List Key → List Key → Bool
@@ -187,7 +187,7 @@ shares (x ∷ xs) ks = is_key_among x ks || shares xs ks
 
 -- the two transactions have a key in common that at least one of them writes
 abbrev pub conflict : List Key → List (Key × Value) → List Key → List (Key × Value) → Bool
-conflict reads writes reads' writes' = shares (keys_in writes) reads' || (shares (keys_in writes) (keys_in writes') || shares reads (keys_in writes'))
+conflict reads writes reads' writes' = shares (keys_of_writes writes) reads' || (shares (keys_of_writes writes) (keys_of_writes writes') || shares reads (keys_of_writes writes'))
 
 -- a Prepared, where there is one, conflicts with these reads and writes
 abbrev pub conflicts_with : Option Prepared → List Key → List (Key × Value) → Bool
@@ -276,7 +276,7 @@ are_own_keys c n ks = are_distinct_keys ks && list_all (holds c.places n) ks
 
 -- at least one key, and each list has distinct keys that n holds
 abbrev pub are_lists : ClusterData → NodeId → List Key → List (Key × Value) → Bool
-are_lists c n reads writes = nat_le 1 (length reads + length writes) && (are_own_keys c n reads && are_own_keys c n (keys_in writes))
+are_lists c n reads writes = nat_le 1 (length reads + length writes) && (are_own_keys c n reads && are_own_keys c n (keys_of_writes writes))
 
 -- t has no Prepared yet, its proposal is new, it has keys of n, and nothing holds them or is newer
 abbrev pub fits_prepared : ClusterData → NodeId → List Record → TxId → List NodeId → Ident → Ident → List Key → List (Key × Value) → Bool

@@ -11,7 +11,7 @@
 
 ghost use Rattle.std.specs.Prelude.{◌≡◌, ◌≢◌, ℕ, ◌+◌, ◌≤◌, ◌↔◌, ◌==◌, ◌&&◌, ◌||◌, not, ◌++◌, List, map, length, min, IsTrue, IsNone, IfSome, MatchOption, OnOk, vec_len, vec_capacity};
 ghost use Rattle.std.specs.FinSet as set;
-ghost use Rattle.lock_table.specs.Keys.{is_read, is_written, holds, writes_key, Conflicts, IsHolder};
+ghost use Rattle.lock_table.specs.Keys.{is_read, is_written, holds_lock, writes_key, Conflicts, IsHolder};
 ghost use Rattle.lock_table.specs.Table.{read_lock, write_lock, meets};
 
 use score_base::{Key, Memory, TxId, Value};
@@ -86,9 +86,9 @@ impl Locks {
     /// `t` takes the keys of these lists.
     pub fn take(&mut self, reads: &[Key], writes: &[(Key, Value)], t: TxId)
         requires free { (u : ℕ) → u ≢ t → ¬ Conflicts self.old reads.now writes.now u }
-        requires idle { (k : List ℕ) → ¬ IsTrue (holds self.old t k) }
+        requires idle { (k : List ℕ) → ¬ IsTrue (holds_lock self.old t k) }
         requires room { length reads.now + length writes.now ≤ self.old.spare }
-        ensures keys { (u : ℕ) (k : List ℕ) → holds self.new u k ≡ (holds self.old u k || (u == t && (is_read reads.now k || is_written writes.now k))) }
+        ensures keys { (u : ℕ) (k : List ℕ) → holds_lock self.new u k ≡ (holds_lock self.old u k || (u == t && (is_read reads.now k || is_written writes.now k))) }
         ensures written { (u : ℕ) (k : List ℕ) → writes_key self.new u k ≡ (writes_key self.old u k || (u == t && is_written writes.now k)) }
         ensures spare { self.old.spare ≤ self.new.spare + length reads.now + length writes.now }
     {
@@ -98,7 +98,7 @@ impl Locks {
 
     /// `t` holds no key any more, and all others hold what they held.
     pub fn free(&mut self, t: TxId)
-        ensures keys { (u : ℕ) (k : List ℕ) → holds self.new u k ≡ (not (u == t) && holds self.old u k) }
+        ensures keys { (u : ℕ) (k : List ℕ) → holds_lock self.new u k ≡ (not (u == t) && holds_lock self.old u k) }
         ensures written { (u : ℕ) (k : List ℕ) → writes_key self.new u k ≡ (not (u == t) && writes_key self.old u k) }
         ensures spare { self.old.spare ≤ self.new.spare }
     {

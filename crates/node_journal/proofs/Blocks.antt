@@ -9,7 +9,7 @@ use Rattle.std.proofs.Math.Seq.{take-append_seam}
 use Rattle.std.proofs.lemmas.Nat.{from_be_bytes-to_be_bytes_2}
 use Rattle.score_base.specs.declared.records.Record.{Record}
 use Rattle.journal_records.specs.Records.{decode_of}
-use Rattle.node_journal.specs.Log.{log_from, block_at, body_length, has_body, sized, behind, opened, framed, Spells}
+use Rattle.node_journal.specs.Log.{log_from, block_at, body_length, has_body, sized, with_front, opened, framed, Spells}
 
 same_place : (p q n : ℕ) (rest : List ℕ) → p ≡ q → log_from p n rest ≡ log_from q n rest
 same_place p q n rest e = ap (λ k. log_from k n rest) e
@@ -29,12 +29,12 @@ pub log_fault : (place : ℕ) (rest : List ℕ) → block_at rest ≡ None → l
 unfolding log_from
 log_fault place rest e = ap (λ o. opened place o (λ n. log_from (place + 1) n rest)) e
 
--- an open gate with a block behind it
-log_open : (place : ℕ) (block rest : List ℕ) (r : Record) → block_at (block ++ rest) ≡ Some (r, length block) → log_from place 0 (1 ∷ (block ++ rest)) ≡ behind (r ∷ []) (log_from (place + 1 + length block) 0 rest)
+-- an open gate with a block with_front it
+log_open : (place : ℕ) (block rest : List ℕ) (r : Record) → block_at (block ++ rest) ≡ Some (r, length block) → log_from place 0 (1 ∷ (block ++ rest)) ≡ with_front (r ∷ []) (log_from (place + 1 + length block) 0 rest)
 unfolding log_from
-log_open place block rest r e = ap (λ o. opened place o (λ n. log_from (place + 1) n (block ++ rest))) e ∙ ap (behind (r ∷ [])) (log_skip (place + 1) block rest)
+log_open place block rest r e = ap (λ o. opened place o (λ n. log_from (place + 1) n (block ++ rest))) e ∙ ap (with_front (r ∷ [])) (log_skip (place + 1) block rest)
 
-behind-behind : (a b : List Record) (x : Result (List Record) ℕ) → behind a (behind b x) ≡ behind (a ++ b) x
+behind-behind : (a b : List Record) (x : Result (List Record) ℕ) → with_front a (with_front b x) ≡ with_front (a ++ b) x
 behind-behind a b (Ok rs) = ap Ok (sym (append_assoc a b rs))
 behind-behind a b (Err p) = refl
 
@@ -49,9 +49,9 @@ spells_more front block rs r s b = record {
       let long : length (front ++ (1 ∷ block)) ≡ length front + length (1 ∷ block) = length-append front (1 ∷ block) in
       ap (log_from place 0) whole
       ∙ s.read place (1 ∷ (block ++ rest)) (omega arith)
-      ∙ ap (behind rs) (log_open (place + length front) block rest r (b.found rest h))
+      ∙ ap (with_front rs) (log_open (place + length front) block rest r (b.found rest h))
       ∙ behind-behind rs (r ∷ []) _
-      ∙ ap (λ p. behind (rs ++ r ∷ []) (log_from p 0 rest)) (omega (arith, long));
+      ∙ ap (λ p. with_front (rs ++ r ∷ []) (log_from p 0 rest)) (omega (arith, long));
 }
 
 chosen : (b : Bool) (n m : ℕ) (o : Option Record) (r : Record) → (if b then sized n o else None) ≡ Some (r, m) → (b ≡ true) × (o ≡ Some r) × (n ≡ m)
@@ -101,7 +101,7 @@ take_less k n xs h = grind (arith, common_steps)
 first_same : (k n : ℕ) (xs ys : List ℕ) → k ≤ n → take n xs ≡ take n ys → take k xs ≡ take k ys
 first_same k n xs ys h e = sym (take_less k n xs h) ∙ ap (take k) e ∙ take_less k n ys h
 
--- the same block, whatever stands behind its next gate
+-- the same block, whatever stands with_front its next gate
 found_again : (xs ys : List ℕ) (r : Record) (n : ℕ) → Found xs r n → take n xs ≡ take n ys → n < length ys → Found ys r n
 found_again xs ys r n f same next =
     let size : 2 + body_length xs ≡ n = omega (arith, f.size) in
@@ -114,7 +114,7 @@ found_again xs ys r n f same next =
       size = omega (arith, long, size);
     }
 
--- what was found behind a gate is a block
+-- what was found with_front a gate is a block
 pub taken_block : (xs : List ℕ) (r : Record) (n : ℕ) → block_at xs ≡ Some (r, n) → (n < length xs) × IsBlock (take n xs) r
 taken_block xs r n e =
     let f = found_of xs r n e in

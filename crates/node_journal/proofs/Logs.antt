@@ -8,7 +8,7 @@ use Rattle.std.proofs.Math.Seq.{take-add}
 use Rattle.score_base.specs.declared.records.Record.{Record}
 use Rattle.score_disk.specs.Files.{put_at}
 use Rattle.score_disk.proofs.Places.{take-put_at}
-use Rattle.node_journal.specs.Log.{log_from, log, block_at, behind, Spells, IsLog}
+use Rattle.node_journal.specs.Log.{log_from, log, block_at, with_front, Spells, IsLog}
 use Rattle.node_journal.specs.Torn.{KeepsClosed, opened_at}
 use Rattle.node_journal.proofs.Blocks.{log_closed, log_fault, IsBlock, taken_block, spells_more}
 
@@ -19,12 +19,12 @@ drop_one (x ∷ xs) ys h = refl
 one_byte : (xs : List ℕ) (n : ℕ) → 1 ≤ n → n ≤ length xs → 1 ≤ length (take n xs)
 one_byte xs n low high = omega (arith, length-take-le n xs high)
 
-read_to : (bytes : List ℕ) (rs : List Record) (at : ℕ) → 1 ≤ at → at < length bytes → Spells (drop 1 (take at bytes)) rs → log_from 1 0 (drop 1 bytes) ≡ behind rs (log_from at 0 (drop at bytes))
+read_to : (bytes : List ℕ) (rs : List Record) (at : ℕ) → 1 ≤ at → at < length bytes → Spells (drop 1 (take at bytes)) rs → log_from 1 0 (drop 1 bytes) ≡ with_front rs (log_from at 0 (drop at bytes))
 read_to bytes rs at low high s =
     let split : drop 1 bytes ≡ drop 1 (take at bytes) ++ drop at bytes = sym (ap (drop 1) (take-append-drop at bytes)) ∙ drop_one (take at bytes) (drop at bytes) (one_byte bytes at low (omega arith)) in
     let left : 0 < length (drop at bytes) = omega (arith, length-drop at bytes) in
     let place : 1 + length (drop 1 (take at bytes)) ≡ at = omega (arith, length-drop 1 (take at bytes), length-take-le at bytes (omega arith)) in
-    ap (log_from 1 0) split ∙ (s.read 1 (drop at bytes) left ∙ ap (λ p. behind rs (log_from p 0 (drop at bytes))) place)
+    ap (log_from 1 0) split ∙ (s.read 1 (drop at bytes) left ∙ ap (λ p. with_front rs (log_from p 0 (drop at bytes))) place)
 
 pub at_gate : (bytes : List ℕ) (at : ℕ) → at < length bytes → drop at bytes ≡ get_or bytes at 0 ∷ drop (at + 1) bytes
 at_gate bytes at h = rw add-one (drop-cons bytes at 0 h)
@@ -55,8 +55,8 @@ none_before : (front : List ℕ) (rs : List Record) → length front ≡ 0 → S
 none_before (x ∷ xs) rs h s = absurd (omega (arith, h))
 none_before [] rs h s =
     let ends : log_from 0 0 (0 ∷ []) ≡ Ok [] = log_closed 0 0 [] (λ e. omega (arith, e)) in
-    let read : log_from 0 0 (0 ∷ []) ≡ behind rs (log_from 0 0 (0 ∷ [])) = s.read 0 (0 ∷ []) (omega arith) in
-    let both : Ok [] ≡ behind rs (Ok []) = sym ends ∙ read ∙ ap (behind rs) ends in
+    let read : log_from 0 0 (0 ∷ []) ≡ with_front rs (log_from 0 0 (0 ∷ [])) = s.read 0 (0 ∷ []) (omega arith) in
+    let both : Ok [] ≡ with_front rs (Ok []) = sym ends ∙ read ∙ ap (with_front rs) ends in
     let nil : [] ≡ rs ++ [] = cc in
     sym (append-nil rs) ∙ sym nil
 
@@ -65,7 +65,7 @@ pub log_is : (bytes : List ℕ) (rs : List Record) (gate : ℕ) → IsLog bytes 
 log_is bytes rs gate l =
     let ends : log_from gate 0 (drop gate bytes) ≡ Ok [] = ap (log_from gate 0) (at_gate bytes gate l.within) ∙ log_closed gate _ _ l.closed in
     elim (cases_lt 2 (length bytes)) [
-      | inl long ↦ log_versioned bytes long (version_of bytes l.version) ∙ read_to bytes rs gate l.place l.within l.spelled ∙ ap (behind rs) ends ∙ ap Ok (append-nil rs)
+      | inl long ↦ log_versioned bytes long (version_of bytes l.version) ∙ read_to bytes rs gate l.place l.within l.spelled ∙ ap (with_front rs) ends ∙ ap Ok (append-nil rs)
       | inr short ↦
           let front : length (drop 1 (take gate bytes)) ≡ 0 = omega (arith, length-drop 1 (take gate bytes), length-take-le gate bytes (omega (arith, l.within)), l.place, l.within, short) in
           log_short bytes short ∙ ap Ok (sym (none_before (drop 1 (take gate bytes)) rs front l.spelled))
@@ -76,7 +76,7 @@ pub log_bad : (bytes : List ℕ) (rs : List Record) (at : ℕ) → 2 < length by
 log_bad bytes rs at long v low high s one none =
     let here : drop at bytes ≡ 1 ∷ drop (at + 1) bytes = at_gate bytes at high ∙ ap (λ g. g ∷ drop (at + 1) bytes) one in
     let fault : log_from at 0 (drop at bytes) ≡ Err at = ap (log_from at 0) here ∙ log_fault at (drop (at + 1) bytes) none in
-    log_versioned bytes long v ∙ read_to bytes rs at low high s ∙ ap (behind rs) fault
+    log_versioned bytes long v ∙ read_to bytes rs at low high s ∙ ap (with_front rs) fault
 
 -- one block more
 pub spells_next : (bytes : List ℕ) (rs : List Record) (r : Record) (at n : ℕ) → 1 ≤ at → at < length bytes → Spells (drop 1 (take at bytes)) rs → get_or bytes at 0 ≡ 1 → block_at (drop (at + 1) bytes) ≡ Some (r, n) → Spells (drop 1 (take (at + (1 + n)) bytes)) (rs ++ r ∷ [])
@@ -107,7 +107,7 @@ opened_is old frame gate h =
     let outer : drop (gate + 1) (put_at old (gate + 1) frame) ≡ frame ++ drop (gate + 1 + length frame) old = behind_put old (gate + 1) frame (omega arith) in
     append_assoc (take gate (put_at old (gate + 1) frame)) (1 ∷ []) (drop (gate + 1) (put_at old (gate + 1) frame)) ∙ ap (λ l. l ++ (1 ∷ drop (gate + 1) (put_at old (gate + 1) frame))) inner ∙ ap (λ l. take gate old ++ (1 ∷ l)) outer
 
--- the gate is open, and a block with a closed gate stands behind it
+-- the gate is open, and a block with a closed gate stands with_front it
 pub log_opened : (old block : List ℕ) (rs : List Record) (r : Record) (gate : ℕ) → IsLog old rs gate → IsBlock block r → IsLog (opened_at old gate (block ++ 0 ∷ [])) (rs ++ r ∷ []) (gate + (1 + length block))
 log_opened old block rs r gate l b =
     let rest = drop (gate + 1 + length (block ++ 0 ∷ [])) old in

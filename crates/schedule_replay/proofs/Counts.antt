@@ -33,7 +33,7 @@ use Rattle.grid_model.specs.Views.{Participant, Open, Stage, Apart, Reads, Colle
 use Rattle.grid_model.specs.Advances.{advance, advance_end, owns, request, request_of, prepares, prepare_for, parts_now, to_node}
 use Rattle.script_runs.specs.Walks.{unread, own_reads}
 use Rattle.grid_model.specs.Fitness.{is_fit_at}
-use Rattle.grid_model.specs.Rows.{served, version_for, release, ceilings, raises, answered, read_row, reply_row, judged, prepare_row, tells, decides, ballot_row, vote_row, are_all_among, closed_row, ack_row, ask_row, commit_row, abort_row, freed_by, tell_outs, row_of, answer_at, begun_at, begin_outs, not_voted, not_among, retry_row, ask_outs, if_pending}
+use Rattle.grid_model.specs.Rows.{served, version_for, release, ceilings, raises, answered, read_outs, reply_outs, judged, prepared_outs, tells, decides, ballot_outs, vote_outs, are_all_among, closed_outs, ack_outs, asked_outs, commit_outs, abort_outs, freed_by, tell_outs, message_outs, answer_at, begun_at, begin_outs, not_voted, not_among, retry_outs, ask_outs, if_pending}
 use Rattle.schedule_replay.specs.Numbering.{sends}
 use Rattle.schedule_replay.specs.Stages.{parts_left}
 
@@ -155,13 +155,13 @@ counts-answered : (b : Bool) (n x : ℕ) (q : ReadReq) (sid : ℕ) (w : Version)
 counts-answered true n x q sid w = record { sent = omega arith; held = omega arith; own = refl }
 counts-answered false n x q sid w = record { sent = omega arith; held = omega arith; own = refl }
 
-counts-read : (n : ℕ) (p : Participant) (x : ℕ) (q : ReadReq) (sid : ℕ) → Counts 1 1 (read_row n p x q sid)
+counts-read : (n : ℕ) (p : Participant) (x : ℕ) (q : ReadReq) (sid : ℕ) → Counts 1 1 (read_outs n p x q sid)
 counts-read n p x q sid = counts-append 0 0 1 1 (ceilings n (floor p.journal) sid) _ (counts-ceilings n (floor p.journal) sid) (counts-append 0 0 1 1 (raises n p.next sid) _ (counts-raises n p.next sid) (counts-answered (is_clear sid p.journal) n x q sid (version_for p.cluster p.journal q.key sid)))
 
 counts-taken : (t op sid value : ℕ) (os : List Out) → Counts 16 0 os → Counts 16 0 (out.Act (act.Taken t op sid value) ∷ os)
 counts-taken t op sid value os p = record { sent = p.sent; held = p.held; own = p.own }
 
-counts-reply : (c : ClusterData) (q : ReadRep) (s : Stage) → Counts 16 0 (reply_row c q s)
+counts-reply : (c : ClusterData) (q : ReadRep) (s : Stage) → Counts 16 0 (reply_outs c q s)
 counts-reply c q (Reads x j) =
     let y : Open = record x { progress = with_value q.op q.sid q.value x.progress } in
     counts-if (j == q.op) 16 0 (out.Act (act.Taken q.t q.op q.sid q.value) ∷ advance c y q.op) [] (counts-taken q.t q.op q.sid q.value (advance c y q.op) (counts-advance c y q.op)) (counts-none 16 0)
@@ -176,7 +176,7 @@ counts-judged n x t (Some u) y p = record { sent = omega arith; held = omega ari
 counts-judged n x t None (Some y) p = record { sent = omega arith; held = omega arith; own = refl }
 counts-judged n x t None None p = record { sent = omega arith; held = omega arith; own = refl }
 
-counts-prepare : (n x t : ℕ) (o : Option Outcome) (mine u : Option ℕ) (y : Option (Key × ℕ)) (p : ℕ) → Counts 1 0 (prepare_row n x t o mine u y p)
+counts-prepare : (n x t : ℕ) (o : Option Outcome) (mine u : Option ℕ) (y : Option (Key × ℕ)) (p : ℕ) → Counts 1 0 (prepared_outs n x t o mine u y p)
 counts-prepare n x t (Some o) mine u y p = counts-none 1 0
 counts-prepare n x t None (Some q) u y p = record { sent = omega arith; held = omega arith; own = refl }
 counts-prepare n x t None None u y p = counts-judged n x t u y p
@@ -187,29 +187,29 @@ counts-tells t o ns h = counts-more (length ns) 0 16 0 (tells t o ns) h (omega a
 counts-decides : (t f : ℕ) (ns : List ℕ) → length ns ≤ 16 → Counts 16 0 (decides t f ns)
 counts-decides t f ns h = let p : Counts 16 0 (tells t (outcome.Commit f) ns) = counts-tells t (outcome.Commit f) ns h in record { sent = p.sent; held = p.held; own = p.own }
 
-counts-ballot : (t : ℕ) (ns : List ℕ) (votes : List Voted) (x : ℕ) (b : Ballot) → length ns ≤ 16 → Counts 16 0 (ballot_row t ns votes x b)
+counts-ballot : (t : ℕ) (ns : List ℕ) (votes : List Voted) (x : ℕ) (b : Ballot) → length ns ≤ 16 → Counts 16 0 (ballot_outs t ns votes x b)
 counts-ballot t ns votes x (ballot.Yes p) h = counts-if _ 16 0 _ [] (counts-decides t _ ns h) (counts-none 16 0)
 counts-ballot t ns votes x (ballot.No why) h =
     let short : length (others x ns) ≤ 16 = omega (arith, filter-short (λ m. not (m == x)) ns, h) in
     let p : Counts 16 0 (tells t outcome.Abort (others x ns)) = counts-tells t outcome.Abort (others x ns) short in
     record { sent = p.sent; held = p.held; own = p.own }
 
-counts-vote : (c : ClusterData) (t x : ℕ) (b : Ballot) (s : Stage) → Counts 16 0 (vote_row c t x b s)
+counts-vote : (c : ClusterData) (t x : ℕ) (b : Ballot) (s : Stage) → Counts 16 0 (vote_outs c t x b s)
 counts-vote c t x b (Collects o) = counts-if (has_voted x o.progress.votes) 16 0 [] _ (counts-none 16 0) (counts-ballot t (parts_now c o) o.progress.votes x b (parts-short c.places (keys_of o.script.ops)))
 counts-vote c t x b Apart = counts-none 16 0
 counts-vote c t x b (Reads o j) = counts-none 16 0
 counts-vote c t x b (Commits y acks) = counts-none 16 0
 
-counts-closed : (t : ℕ) (ns acks : List ℕ) → Counts 0 0 (closed_row t ns acks)
+counts-closed : (t : ℕ) (ns acks : List ℕ) → Counts 0 0 (closed_outs t ns acks)
 counts-closed t ns acks = counts-if (are_all_among ns acks) 0 0 _ [] (record { sent = omega arith; held = omega arith; own = refl }) (counts-none 0 0)
 
-counts-ack : (t x : ℕ) (s : Stage) → Counts 0 0 (ack_row t x s)
+counts-ack : (t x : ℕ) (s : Stage) → Counts 0 0 (ack_outs t x s)
 counts-ack t x (Commits y acks) = counts-if (is_among x acks) 0 0 [] _ (counts-none 0 0) (counts-closed t y.parts (acks ++ x ∷ []))
 counts-ack t x Apart = counts-none 0 0
 counts-ack t x (Reads o j) = counts-none 0 0
 counts-ack t x (Collects o) = counts-none 0 0
 
-counts-ask_row : (t x : ℕ) (s : Stage) → Counts 1 0 (ask_row t x s)
+counts-ask_row : (t x : ℕ) (s : Stage) → Counts 1 0 (asked_outs t x s)
 counts-ask_row t x (Commits y acks) = record { sent = omega arith; held = omega arith; own = refl }
 counts-ask_row t x Apart = record { sent = omega arith; held = omega arith; own = refl }
 counts-ask_row t x (Reads o j) = counts-none 1 0
@@ -217,12 +217,12 @@ counts-ask_row t x (Collects o) = counts-none 1 0
 
 -- ---- ends
 
-counts-commit : (n t f h : ℕ) (o : Option ℕ) (done : Bool) (ack freed : List Out) → Counts 1 0 ack → Counts h 0 freed → Counts (1 + h) 0 (commit_row n t f o done ack ++ if_pending o freed)
+counts-commit : (n t f h : ℕ) (o : Option ℕ) (done : Bool) (ack freed : List Out) → Counts 1 0 ack → Counts h 0 freed → Counts (1 + h) 0 (commit_outs n t f o done ack ++ if_pending o freed)
 counts-commit n t f h (Some p) done ack freed a r = let all : Counts (1 + h) 0 (ack ++ freed) = counts-append 1 0 h 0 ack freed a r in record { sent = all.sent; held = all.held; own = all.own }
 counts-commit n t f h None true ack freed a r = counts-append 1 0 h 0 ack [] a (counts-none h 0)
 counts-commit n t f h None false ack freed a r = counts-none (1 + h) 0
 
-counts-abort : (n t h : ℕ) (o : Option ℕ) (freed : List Out) → Counts h 0 freed → Counts (1 + h) 0 (abort_row n t o ++ if_pending o freed)
+counts-abort : (n t h : ℕ) (o : Option ℕ) (freed : List Out) → Counts h 0 freed → Counts (1 + h) 0 (abort_outs n t o ++ if_pending o freed)
 counts-abort n t h (Some p) freed r = let all : Counts (1 + h) 0 freed = counts-more h 0 (1 + h) 0 freed (omega arith) (omega arith) r in record { sent = all.sent; held = all.held; own = all.own }
 counts-abort n t h None freed r = counts-none (1 + h) 0
 
@@ -232,7 +232,7 @@ counts-tell n p held t outcome.Abort = counts-abort n t (length held) (pending t
 
 -- ---- the table
 
-pub counts-row : (n : ℕ) (p : Participant) (held : List HeldRead) (s : Stage) (x : ℕ) (said : Message) → Counts (16 + length held) 1 (row_of n p held s x said)
+pub counts-row : (n : ℕ) (p : Participant) (held : List HeldRead) (s : Stage) (x : ℕ) (said : Message) → Counts (16 + length held) 1 (message_outs n p held s x said)
 counts-row n p held s x (message.ReadReq q) = counts-more 1 1 _ 1 _ (omega arith) (omega arith) (counts-read n p x q _)
 counts-row n p held s x (message.ReadRep q) = counts-more 16 0 _ 1 _ (omega arith) (omega arith) (counts-reply p.cluster q s)
 counts-row n p held s x (message.Prepare q) = counts-more 1 0 _ 1 _ (omega arith) (omega arith) (counts-prepare n x q.t _ _ _ _ _)
@@ -242,7 +242,7 @@ counts-row n p held s x (message.Ack t) = counts-more 0 0 _ 1 _ (omega arith) (o
 counts-row n p held s x (message.Ask t) = counts-more 1 0 _ 1 _ (omega arith) (omega arith) (counts-ask_row t x s)
 
 pub counts-answer : (n : ℕ) (p : Participant) (held : List HeldRead) (s : Stage) (x : ℕ) (said : Message) → Counts (16 + length held) 1 (answer_at n p held s x said)
-counts-answer n p held s x said = counts-if (is_fit_at n p s x said) (16 + length held) 1 (row_of n p held s x said) [] (counts-row n p held s x said) (counts-none (16 + length held) 1)
+counts-answer n p held s x said = counts-if (is_fit_at n p s x said) (16 + length held) 1 (message_outs n p held s x said) [] (counts-row n p held s x said) (counts-none (16 + length held) 1)
 
 pub counts-begin : (n : ℕ) (p : Participant) (s : ScriptData) → Counts 16 0 (begin_outs n p s)
 counts-begin n p s = let a : Counts 16 0 (advance p.cluster (begun_at s (commit_id p.journal)) 0) = counts-advance p.cluster (begun_at s (commit_id p.journal)) 0 in record { sent = a.sent; held = a.held; own = a.own }
@@ -254,7 +254,7 @@ IsShort Apart = 0 ≤ 16
 IsShort (Reads x j) = 0 ≤ 16
 IsShort (Collects x) = 0 ≤ 16
 
-pub counts-retry : (c : ClusterData) (t : ℕ) (s : Stage) → IsShort s → Counts 16 0 (retry_row c t s)
+pub counts-retry : (c : ClusterData) (t : ℕ) (s : Stage) → IsShort s → Counts 16 0 (retry_outs c t s)
 counts-retry c t Apart h = counts-none 16 0
 counts-retry c t (Reads x j) h = counts-more 1 0 16 0 (request c x j x.progress.turn) (omega arith) (omega arith) (counts-request c x j x.progress.turn)
 counts-retry c t (Collects x) h = counts-prepares c x (not_voted (parts_now c x) x.progress.votes) (omega (arith, filter-short (λ n. not (has_voted n x.progress.votes)) (parts_now c x), parts-short c.places (keys_of x.script.ops)))
@@ -264,7 +264,7 @@ pub counts-ask : (p : Participant) (t : ℕ) → Counts 1 0 (ask_outs p t)
 counts-ask p t = counts-if (is_some (pending t p.journal)) 1 0 (to_node (home_of t p.journal) (message.Ask t)) [] (counts-to_node (home_of t p.journal) (message.Ask t)) (counts-none 1 0)
 
 -- a transaction that is decided is told to each of its parts, however many
-pub retry-few : (c : ClusterData) (t : ℕ) (s : Stage) → sends (retry_row c t s) ≤ 16 + length (parts_left s)
+pub retry-few : (c : ClusterData) (t : ℕ) (s : Stage) → sends (retry_outs c t s) ≤ 16 + length (parts_left s)
 retry-few c t Apart = omega arith
 retry-few c t (Reads x j) = omega (arith, (counts-retry c t (Reads x j) (omega arith)).sent)
 retry-few c t (Collects x) = omega (arith, (counts-retry c t (Collects x) (omega arith)).sent)

@@ -14,7 +14,7 @@ use Rattle.grid_model.specs.Histories.{after, sent}
 use Rattle.grid_model.specs.Nodes.{node}
 use Rattle.grid_model.specs.Views.{view, stage, participant}
 use Rattle.grid_model.specs.Fitness.{tx_in}
-use Rattle.grid_model.specs.Rows.{answer, begin_outs, retry_row, ask_outs}
+use Rattle.grid_model.specs.Rows.{answer, begin_outs, retry_outs, ask_outs}
 use Rattle.grid_model.specs.Schedules.{next_number, acts_of, flag_of, losses, opened_row}
 use Rattle.grid_laws.specs.CalmRuns.{calm, played, plays}
 use Rattle.schedule_replay.specs.Replays.{IsFew, HasRoom}
@@ -32,8 +32,8 @@ few-begin d past k s f = counts-more 16 0 (16 + k) 1 (begin_outs s.home (partici
 pub few-answer : (d : DocumentData) (past : List Act) (k : ℕ) (e : Envelope) → IsFew d past k → Counts (16 + k) 1 (answer e.to (view d past e.to) e.from e.message)
 few-answer d past k e f = counts-more (16 + length (node d past e.to).held) 1 (16 + k) 1 (answer e.to (view d past e.to) e.from e.message) (omega (arith, f.held_few e.to)) (omega arith) (counts-answer e.to (participant (view d past e.to)) (view d past e.to).held (stage (view d past e.to) (tx_in e.message)) e.from e.message)
 
-pub few-retry : (d : DocumentData) (past : List Act) (k n t : ℕ) → IsFew d past k → Counts (16 + k) 1 (retry_row d.cluster t (stage (view d past n) t))
-few-retry d past k n t f = counts-more 16 0 (16 + k) 1 (retry_row d.cluster t (stage (view d past n) t)) (omega arith) (omega arith) (counts-retry d.cluster t (stage (view d past n) t) (short-at d past n t _ _))
+pub few-retry : (d : DocumentData) (past : List Act) (k n t : ℕ) → IsFew d past k → Counts (16 + k) 1 (retry_outs d.cluster t (stage (view d past n) t))
+few-retry d past k n t f = counts-more 16 0 (16 + k) 1 (retry_outs d.cluster t (stage (view d past n) t)) (omega arith) (omega arith) (counts-retry d.cluster t (stage (view d past n) t) (short-at d past n t _ _))
 
 pub few-ask : (d : DocumentData) (past : List Act) (k n t : ℕ) → IsFew d past k → Counts (16 + k) 1 (ask_outs (participant (view d past n)) t)
 few-ask d past k n t f = counts-more 1 0 (16 + k) 1 (ask_outs (participant (view d past n)) t) (omega arith) (omega arith) (counts-ask (participant (view d past n)) t)

@@ -19,7 +19,7 @@ use Rattle.grid_model.specs.Stories.{first_sid, with_value, progressed}
 use Rattle.grid_model.specs.Views.{Open, open_of, Reads}
 use Rattle.script_runs.specs.Walks.{own_map}
 use Rattle.grid_model.specs.Advances.{parts_now, prepare_for, advance}
-use Rattle.grid_model.specs.Rows.{reply_row}
+use Rattle.grid_model.specs.Rows.{reply_outs}
 use Rattle.schedule_replay.specs.Numbering.{sends}
 use Rattle.schedule_replay.proofs.Counts.{counts-advance}
 
@@ -34,17 +34,17 @@ prepare-told c x n t sid ps reads writes e f g h k = λ i. record { t = e i; sid
 same-number : (n : ℕ) → (n == n) ≡ true
 same-number n = grind (arith, nat_tests)
 
-taken-here : (c : ClusterData) (q : ReadRep) (x : Open) → out.Act (act.Taken q.t q.op q.sid q.value) ∷ advance c (record x { progress = with_value q.op q.sid q.value x.progress }) q.op ≡ reply_row c q (Reads x q.op)
+taken-here : (c : ClusterData) (q : ReadRep) (x : Open) → out.Act (act.Taken q.t q.op q.sid q.value) ∷ advance c (record x { progress = with_value q.op q.sid q.value x.progress }) q.op ≡ reply_outs c q (Reads x q.op)
 taken-here c q x = sym (ap (λ b. if b then out.Act (act.Taken q.t q.op q.sid q.value) ∷ advance c (record x { progress = with_value q.op q.sid q.value x.progress }) q.op else []) (same-number q.op))
 
 -- a reply that is taken
-pub taken-told : (c : ClusterData) (q : ReadRep) (s : ScriptData) (story more : Story) (x : Open) (outs front rest : List Out) → open_of s story ≡ x → more ≡ progressed (with_value q.op q.sid q.value) story → front ≡ out.Act (act.Taken q.t q.op q.sid q.value) ∷ [] → rest ≡ advance c (open_of s more) q.op → outs ≡ front ++ rest → outs ≡ reply_row c q (Reads x q.op)
+pub taken-told : (c : ClusterData) (q : ReadRep) (s : ScriptData) (story more : Story) (x : Open) (outs front rest : List Out) → open_of s story ≡ x → more ≡ progressed (with_value q.op q.sid q.value) story → front ≡ out.Act (act.Taken q.t q.op q.sid q.value) ∷ [] → rest ≡ advance c (open_of s more) q.op → outs ≡ front ++ rest → outs ≡ reply_outs c q (Reads x q.op)
 taken-told c q s story more x outs front rest same m f r o =
     o
     ∙ ap (λ (y : List Out). y ++ rest) f
     ∙ ap (λ (y : List Out). out.Act (act.Taken q.t q.op q.sid q.value) ∷ y) (r ∙ ap (λ (y : Story). advance c (open_of s y) q.op) m)
     ∙ taken-here c q (open_of s story)
-    ∙ ap (λ (y : Open). reply_row c q (Reads y q.op)) same
+    ∙ ap (λ (y : Open). reply_outs c q (Reads y q.op)) same
 
 -- outs that are a row have as many messages
 pub few-told : {A E : Type 0} (r : Result A E) (items : A → List Out) (row : List Out) (k : ℕ) → IfOk r (λ o. items o ≡ row) → sends row ≤ k → IfOk r (λ o. sends (items o) ≤ k)

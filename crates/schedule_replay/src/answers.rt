@@ -4,7 +4,7 @@ ghost use Rattle.std.specs.Prelude.{◌≡◌, ◌≤◌, ◌+◌, IfOk, IsTrue,
 ghost use Rattle.std.specs.Option.{option_copied};
 ghost use Rattle.placement.specs.Clusters.{ClusterData};
 ghost use Rattle.grid_model.specs.Fitness.{is_fit_at, tx_in};
-ghost use Rattle.grid_model.specs.Rows.{row_of, answer_at, begin_outs, retry_row, ask_outs};
+ghost use Rattle.grid_model.specs.Rows.{message_outs, answer_at, begin_outs, retry_outs, ask_outs};
 ghost use Rattle.grid_model.specs.Views.{stage_at, participant_of};
 ghost use Rattle.schedule_replay.specs.Numbering.{sends};
 ghost use Rattle.schedule_replay.specs.Stages.{shown, parts_left};
@@ -50,7 +50,7 @@ fn row_of(
     message: &Message,
 ) -> Result<Vec<Out>, Memory>
     requires { IsTrue (is_fit_at n (participant_of cluster.now node.now) (shown stage.now) from message.now) }
-    ensures { IfOk result (λ outs. outs.items ≡ row_of n (participant_of cluster.now node.now) node.now.held (shown stage.now) from message.now) }
+    ensures { IfOk result (λ outs. outs.items ≡ message_outs n (participant_of cluster.now node.now) node.now.held (shown stage.now) from message.now) }
 {
     match message {
         Message::ReadReq(q) => read_outs(alloc, cluster, n, node, from, q),
@@ -111,7 +111,7 @@ pub fn begin_outs(
 
 /// What the home sends again for a transaction that stands so.
 fn retry_row(alloc: Global, cluster: &Cluster, t: TxId, stage: &Stage) -> Result<Vec<Out>, Memory>
-    ensures { IfOk result (λ outs. outs.items ≡ retry_row cluster.now t (shown stage.now)) }
+    ensures { IfOk result (λ outs. outs.items ≡ retry_outs cluster.now t (shown stage.now)) }
 {
     let mut outs = Vec::new(alloc);
     match stage {
@@ -152,7 +152,7 @@ pub fn retry_outs(
     script: Option<&Script>,
     story: Option<&Story>,
 ) -> Result<Vec<Out>, Memory>
-    ensures row { IfOk result (λ outs. outs.items ≡ retry_row cluster.now t (stage_at n node.now t (option_copied script.entry) (option_copied story.entry))) }
+    ensures row { IfOk result (λ outs. outs.items ≡ retry_outs cluster.now t (stage_at n node.now t (option_copied script.entry) (option_copied story.entry))) }
     ensures few { IfOk result (λ outs. sends outs.items ≤ 16 + length (parts_left (stage_at n node.now t (option_copied script.entry) (option_copied story.entry)))) }
 {
     let stage = stage_of(n, node, t, script, story);

@@ -2,7 +2,7 @@
 
 ghost use Rattle.std.specs.Prelude.{◌≡◌, ◌++◌, ◌∷◌, [], IfOk, OnOk};
 ghost use Rattle.placement.specs.Places.{others};
-ghost use Rattle.grid_model.specs.Rows.{tells, greatest_vote, have_voted, decides, full_row, ballot_row, vote_row, are_all_among, ack_row, ask_row, not_voted, not_among};
+ghost use Rattle.grid_model.specs.Rows.{tells, greatest_vote, have_voted, decides, full_outs, ballot_outs, vote_outs, are_all_among, ack_outs, asked_outs, not_voted, not_among};
 ghost use Rattle.grid_model.specs.Advances.{parts_now};
 ghost use Rattle.schedule_replay.specs.Stages.{shown};
 
@@ -111,7 +111,7 @@ fn yes_row(
     t: TxId,
     vote: Voted,
 ) -> Result<Vec<Out>, Memory>
-    ensures { IfOk result (λ outs. outs.items ≡ full_row t (parts_now cluster.now tx.now) (tx.now.progress.votes ++ vote ∷ [])) }
+    ensures { IfOk result (λ outs. outs.items ≡ full_outs t (parts_now cluster.now tx.now) (tx.now.progress.votes ++ vote ∷ [])) }
 {
     let mut votes = tx.story.progress.votes.copy()?;
     votes.push(vote)?;
@@ -131,7 +131,7 @@ fn no_row(
     from: NodeId,
     why: &Cause,
 ) -> Result<Vec<Out>, Memory>
-    ensures { IfOk result (λ outs. outs.items ≡ ballot_row t (parts_now cluster.now tx.now) tx.now.progress.votes from (Ballot.No why.now)) }
+    ensures { IfOk result (λ outs. outs.items ≡ ballot_outs t (parts_now cluster.now tx.now) tx.now.progress.votes from (Ballot.No why.now)) }
 {
     let parts = parts_now(alloc, cluster, tx)?;
     let told = others(alloc, from, parts.as_slice())?;
@@ -150,7 +150,7 @@ pub fn vote_row(
     ballot: &Ballot,
     stage: &Stage,
 ) -> Result<Vec<Out>, Memory>
-    ensures { IfOk result (λ outs. outs.items ≡ vote_row cluster.now t from ballot.now (shown stage.now)) }
+    ensures { IfOk result (λ outs. outs.items ≡ vote_outs cluster.now t from ballot.now (shown stage.now)) }
 {
     let Stage::Collects(tx) = stage else {
         return Ok(Vec::new(alloc));
@@ -178,7 +178,7 @@ fn are_all_among(nodes: &[NodeId], among: &[NodeId]) -> bool
 
 /// What the home gives where an acknowledgement comes.
 pub fn ack_row(alloc: Global, t: TxId, from: NodeId, stage: &Stage) -> Result<Vec<Out>, Memory>
-    ensures { IfOk result (λ outs. outs.items ≡ ack_row t from (shown stage.now)) }
+    ensures { IfOk result (λ outs. outs.items ≡ ack_outs t from (shown stage.now)) }
 {
     let mut outs = Vec::new(alloc);
     let Stage::Commits(decided, acks) = stage else {
@@ -197,7 +197,7 @@ pub fn ack_row(alloc: Global, t: TxId, from: NodeId, stage: &Stage) -> Result<Ve
 
 /// What the home gives where a participant asks: no record and no open transaction means abort.
 pub fn ask_row(alloc: Global, t: TxId, from: NodeId, stage: &Stage) -> Result<Vec<Out>, Memory>
-    ensures { IfOk result (λ outs. outs.items ≡ ask_row t from (shown stage.now)) }
+    ensures { IfOk result (λ outs. outs.items ≡ asked_outs t from (shown stage.now)) }
 {
     let outcome = match stage {
         Stage::Reads(_, _) => return Ok(Vec::new(alloc)),

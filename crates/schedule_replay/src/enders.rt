@@ -5,7 +5,7 @@ ghost use Rattle.score_base.specs.declared.records.Record.TheVariants as record'
 ghost use Rattle.placement.specs.Clusters.{ClusterData};
 ghost use Rattle.journal_words.specs.Journals.{pending, ended, is_commit, home_of};
 ghost use Rattle.grid_model.specs.Advances.{to_node};
-ghost use Rattle.grid_model.specs.Rows.{commit_row, abort_row, end_outs, freed_by, tell_outs};
+ghost use Rattle.grid_model.specs.Rows.{commit_outs, abort_outs, end_outs, freed_by, tell_outs};
 ghost use Rattle.grid_model.specs.Views.{participant_of};
 
 use crate::advances::push_to;
@@ -72,7 +72,7 @@ fn commit_outs(
     t: TxId,
     f: Ident,
 ) -> Result<Vec<Out>, Memory>
-    ensures { IfOk result (λ outs. outs.items ≡ commit_row n t f (pending t (reverse records.now)) (is_commit (ended t (reverse records.now))) (to_node (home_of t (reverse records.now)) (Message.Ack t))) }
+    ensures { IfOk result (λ outs. outs.items ≡ commit_outs n t f (pending t (reverse records.now)) (is_commit (ended t (reverse records.now))) (to_node (home_of t (reverse records.now)) (Message.Ack t))) }
 {
     let mut outs = Vec::new(alloc);
     if pending(records, t).is_some() {
@@ -86,7 +86,7 @@ fn commit_outs(
 
 /// What a node gives, but for its held reads, where an abort is told.
 fn abort_outs(alloc: Global, n: NodeId, records: &[Record], t: TxId) -> Result<Vec<Out>, Memory>
-    ensures { IfOk result (λ outs. outs.items ≡ abort_row n t (pending t (reverse records.now))) }
+    ensures { IfOk result (λ outs. outs.items ≡ abort_outs n t (pending t (reverse records.now))) }
 {
     let mut outs = Vec::new(alloc);
     if pending(records, t).is_some() {

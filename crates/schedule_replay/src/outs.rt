@@ -2,7 +2,7 @@
 ghost use Rattle.std.specs.Prelude.{◌≡◌, ◌≤◌, ◌+◌, IfOk, length};
 ghost use Rattle.grid_model.specs.Nodes.{node, script_of};
 ghost use Rattle.grid_model.specs.Views.{participant, view, stage};
-ghost use Rattle.grid_model.specs.Rows.{answer, begin_outs, retry_row, ask_outs};
+ghost use Rattle.grid_model.specs.Rows.{answer, begin_outs, retry_outs, ask_outs};
 ghost use Rattle.run_state.specs.Kept.{past};
 ghost use Rattle.schedule_replay.specs.Numbering.{sends};
 ghost use Rattle.schedule_replay.specs.Replays.{HasRoom};
@@ -53,7 +53,7 @@ pub fn outs_at_retry(
     t: TxId,
     home: NodeId,
 ) -> Result<Vec<Out>, Memory>
-    ensures outs { IfOk result (λ outs. outs.items ≡ retry_row run.now.doc.cluster t (stage (view run.now.doc (past run.now) home) t)) }
+    ensures outs { IfOk result (λ outs. outs.items ≡ retry_outs run.now.doc.cluster t (stage (view run.now.doc (past run.now) home) t)) }
 {
     let doc = run.doc();
     let (script, story) = (script_of(doc.scripts(), t), run.story(t));

@@ -4,7 +4,7 @@ ghost use Rattle.std.specs.Prelude.{◌≡◌, ◌<◌, ◌+◌, ◌^◌, ◌++�
 ghost use Rattle.journal_words.specs.Journals.{commit_id, floor, is_clear};
 ghost use Rattle.grid_model.specs.Stories.{is_small, is_small_node};
 ghost use Rattle.grid_model.specs.Fitness.{date_ident};
-ghost use Rattle.grid_model.specs.Rows.{served, version_for, release, dated, ceiling_of, ceilings, raises, answered, read_row, reply_row};
+ghost use Rattle.grid_model.specs.Rows.{served, version_for, release, dated, ceiling_of, ceilings, raises, answered, read_outs, reply_outs};
 ghost use Rattle.grid_model.specs.Views.{Reads, participant_of};
 ghost use Rattle.grid_model.specs.declared.messages.ReadReq.{ReadReq};
 ghost use Rattle.schedule_replay.specs.Stages.{shown};
@@ -156,7 +156,7 @@ pub fn read_outs(
 ) -> Result<Vec<Out>, Memory>
     requires node { IsTrue (is_small_node node.now.journal node.now.next) }
     requires date { IsTrue (is_small (date_ident q.now.date)) }
-    ensures { IfOk result (λ outs. outs.items ≡ read_row n (participant_of cluster.now node.now) from q.now (dated q.now.date (commit_id node.now.journal))) }
+    ensures { IfOk result (λ outs. outs.items ≡ read_outs n (participant_of cluster.now node.now) from q.now (dated q.now.date (commit_id node.now.journal))) }
 {
     let records = node.records.as_slice();
     let sid = dated(q.date, commit_id(alloc, records)?);
@@ -176,7 +176,7 @@ pub fn read_outs(
 
 /// What the home gives where a reply comes for the operation that is read.
 fn taken_row(alloc: Global, cluster: &Cluster, tx: &Open, q: &ReadRep) -> Result<Vec<Out>, Memory>
-    ensures { IfOk result (λ outs. outs.items ≡ reply_row cluster.now q.now (Reads tx.now q.now.op)) }
+    ensures { IfOk result (λ outs. outs.items ≡ reply_outs cluster.now q.now (Reads tx.now q.now.op)) }
 {
     let story = with_value(q.op, q.sid, q.value, tx.story)?;
     let next = Open {
@@ -197,7 +197,7 @@ pub fn reply_outs(
     q: &ReadRep,
     stage: &Stage,
 ) -> Result<Vec<Out>, Memory>
-    ensures { IfOk result (λ outs. outs.items ≡ reply_row cluster.now q.now (shown stage.now)) }
+    ensures { IfOk result (λ outs. outs.items ≡ reply_outs cluster.now q.now (shown stage.now)) }
 {
     match stage {
         Stage::Reads(tx, j) if *j == q.op => taken_row(alloc, cluster, tx, q),

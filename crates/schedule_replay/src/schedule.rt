@@ -3,7 +3,7 @@ ghost use Rattle.std.specs.Prelude.{◌≡◌, ◌≤◌, ◌<◌, ◌+◌, ◌^
 ghost use Rattle.grid_model.specs.Histories.{sent, sent_at};
 ghost use Rattle.grid_model.specs.Nodes.{node, script_of};
 ghost use Rattle.grid_model.specs.Stories.{story};
-ghost use Rattle.grid_model.specs.Schedules.{next_left, or_void, acts_of, begin_row, deliver_row, drop_row, next_row, retry_at, ask_row, crash_row};
+ghost use Rattle.grid_model.specs.Schedules.{next_left, or_void, acts_of, begin_row, deliver_row, drop_row, next_row, retry_row, ask_row, crash_row};
 ghost use Rattle.grid_model.specs.Voids.{void_code};
 ghost use Rattle.run_state.specs.Kept.{past};
 ghost use Rattle.schedule_replay.specs.Numbering.{sends};
@@ -117,7 +117,7 @@ fn next_row(alloc: Global, run: &RunState) -> Result<Vec<Act>, Memory>
 /// The row of `retry`.
 fn retry_row(alloc: Global, run: &RunState, t: TxId) -> Result<Vec<Act>, Memory>
     requires { HasRoom run.now.doc (past run.now) 1 }
-    ensures { IfOk result (λ acts. acts.items ≡ retry_at run.now.doc (past run.now) calm t (script_of t run.now.doc.scripts)) }
+    ensures { IfOk result (λ acts. acts.items ≡ retry_row run.now.doc (past run.now) calm t (script_of t run.now.doc.scripts)) }
 {
     let Some(script) = script_of(run.doc().scripts(), t) else {
         return Ok(Vec::new(alloc));

@@ -2,22 +2,22 @@
 use Prim.Native.Nat.{zero, suc}
 use Rattle.std.proofs.Common.{◌≡◌, ℕ, ◌+◌, ◌<◌, ◌≤◌, List, [], ◌∷◌, ◌++◌, length, get_or, refl, sym, subst, arith}
 use Rattle.std.proofs.lemmas.Grind.{common_steps}
-use Rattle.version_chain.specs.Versions.{RisesFrom, newest, version_at}
+use Rattle.version_chain.specs.Versions.{RisesFrom, newest_in_chain, version_in_chain}
 
 pub RisesFrom-push : (n : ℕ) (vs : List (ℕ × ℕ)) (v : ℕ × ℕ)
-    → RisesFrom n vs → n < v.0 → newest vs < v.0 → RisesFrom n (vs ++ v ∷ [])
+    → RisesFrom n vs → n < v.0 → newest_in_chain vs < v.0 → RisesFrom n (vs ++ v ∷ [])
 RisesFrom-push n [] v up low high = (low, tt)
 RisesFrom-push n (w ∷ ws) v up low high = (up.0, RisesFrom-push w.0 ws v up.1 (omega arith) (omega arith))
 
--- no version is newer than the newest
-pub at_most_newest : (vs : List (ℕ × ℕ)) (j : ℕ) (d : ℕ × ℕ) → j < length vs → (get_or vs j d).0 ≤ newest vs
+-- no version is newer than the newest_in_chain
+pub at_most_newest : (vs : List (ℕ × ℕ)) (j : ℕ) (d : ℕ × ℕ) → j < length vs → (get_or vs j d).0 ≤ newest_in_chain vs
 at_most_newest [] j d within = absurd (omega (arith, within))
 at_most_newest (v ∷ vs) zero d within = omega arith
 at_most_newest (v ∷ vs) (suc j) d within = omega (arith, at_most_newest vs j d (omega (arith, within)))
 
--- the last version is the newest
+-- the last version is the newest_in_chain
 pub newest_last : (n : ℕ) (vs : List (ℕ × ℕ)) (j : ℕ) (d : ℕ × ℕ)
-    → RisesFrom n vs → j + 1 ≡ length vs → (get_or vs j d).0 ≡ newest vs
+    → RisesFrom n vs → j + 1 ≡ length vs → (get_or vs j d).0 ≡ newest_in_chain vs
 newest_last n [] j d up last = absurd (omega (arith, last))
 newest_last n (v ∷ []) zero d up last = omega arith
 newest_last n (v ∷ []) (suc j) d up last = absurd (omega (arith, last))
@@ -33,7 +33,7 @@ above_start n (v ∷ vs) (suc j) d up within = omega (arith, up.0, above_start v
 
 -- nothing that rises from at least sid is seen
 seen_past : (initial n : ℕ) (vs : List (ℕ × ℕ)) (sid : ℕ)
-    → RisesFrom n vs → sid ≤ n → version_at initial vs sid ≡ (0, initial)
+    → RisesFrom n vs → sid ≤ n → version_in_chain initial vs sid ≡ (0, initial)
 seen_past initial n [] sid up far = refl
 seen_past initial n (v ∷ vs) sid up far =
     let rest = seen_past initial v.0 vs sid up.1 (omega (arith, up.0)) in
@@ -42,7 +42,7 @@ seen_past initial n (v ∷ vs) sid up far =
 -- where the first version is above sid, the initial value is seen
 pub seen_none : (initial n : ℕ) (vs : List (ℕ × ℕ)) (sid : ℕ)
     → RisesFrom n vs → ((d : ℕ × ℕ) → 0 < length vs → sid < (get_or vs 0 d).0)
-    → version_at initial vs sid ≡ (0, initial)
+    → version_in_chain initial vs sid ≡ (0, initial)
 seen_none initial n [] sid up far = refl
 seen_none initial n (v ∷ vs) sid up far =
     let first : sid < v.0 = far v (omega arith) in
@@ -55,7 +55,7 @@ shifted i = omega arith
 -- a version at or below sid whose follower is above it is seen
 pub seen_at : (initial n : ℕ) (vs : List (ℕ × ℕ)) (sid i : ℕ) (d : ℕ × ℕ)
     → RisesFrom n vs → i < length vs → (get_or vs i d).0 ≤ sid
-    → (i + 1 < length vs → sid < (get_or vs (i + 1) d).0) → version_at initial vs sid ≡ get_or vs i d
+    → (i + 1 < length vs → sid < (get_or vs (i + 1) d).0) → version_in_chain initial vs sid ≡ get_or vs i d
 seen_at initial n [] sid i d up within low next = absurd (omega (arith, within))
 seen_at initial n (v ∷ []) sid zero d up within low next = grind (arith, common_steps, up.0, low)
 seen_at initial n (v ∷ w ∷ ws) sid zero d up within low next =
@@ -78,9 +78,9 @@ rises n (v ∷ vs) (suc i) d up more =
     subst (λ k. (get_or vs i d).0 < (get_or (v ∷ vs) k d).0) (sym (shifted i))
     (rises v.0 vs i d up.1 (omega (arith, more)))
 
--- one version more is the newest, or the newest stays
+-- one version more is the newest_in_chain, or the newest_in_chain stays
 pub newest-push : (vs : List (ℕ × ℕ)) (v : ℕ × ℕ) (top : ℕ)
-    → newest vs ≤ top → v.0 ≤ top → newest (vs ++ v ∷ []) ≤ top
+    → newest_in_chain vs ≤ top → v.0 ≤ top → newest_in_chain (vs ++ v ∷ []) ≤ top
 newest-push [] v top low last = omega (arith, last)
 newest-push (w ∷ ws) v top low last =
     let rest = newest-push ws v top (omega (arith, low)) last in

@@ -13,15 +13,15 @@ RisesFrom n [] = Unit {0}
 RisesFrom n (v ∷ vs) = (n < v.0) × RisesFrom v.0 vs
 
 -- the greatest identifier, or 0 where there is no version
-abbrev pub newest : List (ℕ × ℕ) → ℕ
-newest [] = 0
-newest (v ∷ vs) = max v.0 (newest vs)
+abbrev pub newest_in_chain : List (ℕ × ℕ) → ℕ
+newest_in_chain [] = 0
+newest_in_chain (v ∷ vs) = max v.0 (newest_in_chain vs)
 
 -- the version with the greater identifier
 abbrev pub greater : ℕ × ℕ → ℕ × ℕ → ℕ × ℕ
 greater v w = if nat_lt v.0 w.0 then w else v
 
 -- the greatest version at or below sid, where version 0 has the initial value
-abbrev pub version_at : ℕ → List (ℕ × ℕ) → ℕ → ℕ × ℕ
-version_at initial [] sid = (0, initial)
-version_at initial (v ∷ vs) sid = if nat_le v.0 sid then greater v (version_at initial vs sid) else version_at initial vs sid
+abbrev pub version_in_chain : ℕ → List (ℕ × ℕ) → ℕ → ℕ × ℕ
+version_in_chain initial [] sid = (0, initial)
+version_in_chain initial (v ∷ vs) sid = if nat_le v.0 sid then greater v (version_in_chain initial vs sid) else version_in_chain initial vs sid

@@ -14,7 +14,7 @@
 ghost use Rattle.std.specs.Prelude.{◌≡◌, ℕ, ◌+◌, ◌-◌, ◌*◌, ◌<◌, ◌≤◌, ◌^◌, ◌++◌, ◌∷◌, [], length, slice_index_or, OnOk, IfOk, IfErr};
 ghost use Rattle.std.specs.Ordering.{nat_cmp};
 ghost use Rattle.score_base.specs.Tables.{IsGap};
-ghost use Rattle.version_chain.specs.Versions.{newest, version_at, RisesFrom};
+ghost use Rattle.version_chain.specs.Versions.{newest_in_chain, version_in_chain, RisesFrom};
 
 use score_base::{Ident, Memory, Ordered, Steps, Value};
 use std::alloc::Global;
@@ -65,7 +65,7 @@ impl Chain {
     /// Puts a version that is newer than all others.
     pub fn put(&mut self, vn: Ident, value: Value)
         requires room { 1 ≤ self.old.spare }
-        requires above { newest self.old.versions < vn }
+        requires above { newest_in_chain self.old.versions < vn }
         ensures versions { self.new.versions ≡ self.old.versions ++ (vn, value) ∷ [] }
         ensures initial { self.new.initial ≡ self.old.initial }
         ensures spare { self.old.spare ≤ self.new.spare + 1 }
@@ -75,7 +75,7 @@ impl Chain {
 
     /// The version that a read at `sid` sees: the greatest at or below it.
     pub fn at(&self, sid: Ident) -> (Ident, Value)
-        ensures { result ≡ version_at self.now.initial self.now.versions sid }
+        ensures { result ≡ version_in_chain self.now.initial self.now.versions sid }
     {
         self.seen(self.versions.place(&sid), sid)
     }
@@ -83,7 +83,7 @@ impl Chain {
     /// As [`Chain::at`], and counts its comparisons.
     pub fn at_counted<L: Ledger>(&self, sid: Ident, steps: &mut Steps<L>) -> (Ident, Value)
         requires { steps.old < 2 ^ 62 }
-        ensures version { result ≡ version_at self.now.initial self.now.versions sid }
+        ensures version { result ≡ version_in_chain self.now.initial self.now.versions sid }
         ensures count { steps.old ≤ steps.new }
         ensures cost { 2 ^ (steps.new - steps.old) ≤ 2 * length self.now.versions + 1 }
     {
@@ -92,7 +92,7 @@ impl Chain {
 
     /// The identifier of the newest version, or 0 where there is none but the initial value.
     pub fn newest(&self) -> Ident
-        ensures newest { result ≡ newest self.now.versions }
+        ensures newest_in_chain { result ≡ newest_in_chain self.now.versions }
         ensures rising { RisesFrom 0 self.now.versions }
     {
         match self.versions.len() {
@@ -106,7 +106,7 @@ impl Chain {
         requires found { IfOk place (λ i. (i < length self.now.versions)
             × ((d : ℕ × ℕ) → nat_cmp (slice_index_or self.now.versions i d).0 sid ≡ Ordering.Equal)) }
         requires absent { IfErr place (λ i. IsGap nat_cmp self.now.versions sid i) }
-        ensures { result ≡ version_at self.now.initial self.now.versions sid }
+        ensures { result ≡ version_in_chain self.now.initial self.now.versions sid }
     {
         match place {
             Ok(i) => self.versions.pair(i),

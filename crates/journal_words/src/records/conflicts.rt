@@ -1,7 +1,7 @@
 //! What stands in the way of a transaction: the holder of one of its keys, and a newer version.
 ghost use Rattle.std.specs.Prelude.{◌≡◌, Some, reverse, IfOk};
 ghost use Rattle.script_lang.specs.Reads.{is_key_among};
-ghost use Rattle.journal_words.specs.Journals.{pendings, keys_in, shares, conflicts_with, prepared_of, is_locking, lesser, holds_out, holder, newer};
+ghost use Rattle.journal_words.specs.Journals.{pendings, keys_of_writes, shares, conflicts_with, prepared_of, is_locking, lesser, holds_out, holder, newer};
 
 use super::commits::pendings;
 use super::endings::{ended, pending};
@@ -20,7 +20,7 @@ pub fn is_key_among(key: &Key, keys: &[Key]) -> bool
 
 /// The keys that are written.
 pub fn keys_in(alloc: Global, writes: &[(Key, Value)]) -> Result<KeyList, Memory>
-    ensures { IfOk result (λ keys. keys ≡ keys_in writes.now) }
+    ensures { IfOk result (λ keys. keys ≡ keys_of_writes writes.now) }
 {
     let mut keys = KeyList::new(alloc);
     for write in writes {

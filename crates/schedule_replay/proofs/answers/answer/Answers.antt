@@ -1,6 +1,6 @@
 use Rattle.std.proofs.Common.{◌+◌, length}
 use Rattle.schedule_replay.specs.Stages.{shown}
-use Rattle.grid_model.specs.Rows.{row_of}
+use Rattle.grid_model.specs.Rows.{message_outs}
 use Rattle.grid_model.specs.Views.{participant_of}
 use Rattle.schedule_replay.proofs.Counts.{counts-row}
 use Rattle.schedule_replay.proofs.Told.{few-told}
@@ -11,6 +11,6 @@ returns-clause-few c =
     let p = participant_of c.args.cluster.now c.args.node.now in
     let held = c.args.node.now.held in
     few-told c.row_of.result (λ outs. outs.items)
-    (row_of c.args.n p held (shown c.stage_of-stage.result) c.args.from c.args.message.now)
+    (message_outs c.args.n p held (shown c.stage_of-stage.result) c.args.from c.args.message.now)
     (16 + length held) c.row_of.ensures
     (counts-row c.args.n p held (shown c.stage_of-stage.result) c.args.from c.args.message.now).sent
