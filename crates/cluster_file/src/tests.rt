@@ -2,25 +2,25 @@
 
 use crate::documents::read_document;
 use crate::laws::law_one_spelling;
-use crate::whys::{DocEnd, Refusal};
-use grid_model::Item;
+use crate::whys::DocEnd;
+use grid_model::{Document, Item};
 use score_base::{Key, Memory, TxId, Value, put_bytes, put_number};
 use std::alloc::Global;
-use std::process::Abort;
 
 const HEAD: &[u8] = b"nodes 2\npartition 0 n1\npartition 1 n2\ninit a 10\ninit b 0\n";
 
-/// Asserts that the text is refused with this line and why.
-fn refused(rt: &impl Abort, alloc: Global, text: &[u8], line: usize, why: u8) {
+/// Whether the text is refused with this line and why.
+fn is_refused(alloc: Global, text: &[u8], line: usize, why: u8) -> bool {
     match read_document(alloc, text) {
-        Err(end) => assert_eq!(rt; end, DocEnd::Refused(Refusal { line, why })),
-        Ok(_) => assert!(rt; false),
+        Err(DocEnd::Refused(refusal)) => refusal.line == line && refusal.why == why,
+        Err(DocEnd::Memory) => false,
+        Ok(_) => false,
     }
 }
 
-/// Asserts that the text is a document.
-fn accepted(rt: &impl Abort, alloc: Global, text: &[u8]) {
-    assert!(rt; read_document(alloc, text).is_ok());
+/// Whether the text is a document.
+fn is_accepted(alloc: Global, text: &[u8]) -> bool {
+    read_document(alloc, text).is_ok()
 }
 
 fn behind(alloc: Global, front: &[u8], rest: &[u8]) -> Result<Vec<u8>, Memory> {
@@ -30,16 +30,20 @@ fn behind(alloc: Global, front: &[u8], rest: &[u8]) -> Result<Vec<u8>, Memory> {
     Ok(text)
 }
 
-/// Asserts that these lines behind those of `HEAD` are refused with this line and why.
-fn refused_behind(rt: &impl Abort, alloc: Global, rest: &[u8], line: usize, why: u8) {
-    let text = behind(alloc, HEAD, rest).expect(rt, "memory");
-    refused(rt, alloc, text.as_slice(), line, why);
+/// Whether these lines behind those of `HEAD` are refused with this line and why.
+fn is_refused_behind(alloc: Global, rest: &[u8], line: usize, why: u8) -> bool {
+    match behind(alloc, HEAD, rest) {
+        Ok(text) => is_refused(alloc, text.as_slice(), line, why),
+        Err(_) => false,
+    }
 }
 
-/// Asserts that these lines behind those of `HEAD` make a document.
-fn accepted_behind(rt: &impl Abort, alloc: Global, rest: &[u8]) {
-    let text = behind(alloc, HEAD, rest).expect(rt, "memory");
-    accepted(rt, alloc, text.as_slice());
+/// Whether these lines behind those of `HEAD` make a document.
+fn is_accepted_behind(alloc: Global, rest: &[u8]) -> bool {
+    match behind(alloc, HEAD, rest) {
+        Ok(text) => is_accepted(alloc, text.as_slice()),
+        Err(_) => false,
+    }
 }
 
 /// So many lines, each with its number, counted from 0, between two texts.
@@ -68,184 +72,220 @@ fn lines(
     Ok(text)
 }
 
+/// Whether a front, so many numbered lines and an end make a document.
+fn are_accepted(
+    alloc: Global,
+    head: &[u8],
+    count: u64,
+    front: &[u8],
+    rest: &[u8],
+    end: &[u8],
+) -> bool {
+    match lines(alloc, head, count, front, rest, end) {
+        Ok(text) => is_accepted(alloc, text.as_slice()),
+        Err(_) => false,
+    }
+}
+
+/// Whether the line behind so many numbered ones, those of a front before them, is refused for a limit.
+fn are_past_a_limit(
+    alloc: Global,
+    head: &[u8],
+    count: u64,
+    front: &[u8],
+    rest: &[u8],
+    end: &[u8],
+    line: usize,
+) -> bool {
+    match lines(alloc, head, count, front, rest, end) {
+        Ok(text) => is_refused(alloc, text.as_slice(), line, 9),
+        Err(_) => false,
+    }
+}
+
+/// Whether a document with each form is read as it.
+fn has_each_form(alloc: Global) -> bool {
+    let rest =
+        b"tx 7 n1\nread a\nwrite b a + 1\nend\nschedule\nbegin 7\ndeliver 1\ndrop 2\nnext 3\n";
+    match behind(alloc, HEAD, rest) {
+        Ok(text) => match read_document(alloc, text.as_slice()) {
+            Ok(document) => is_as_spelled(&document),
+            Err(_) => false,
+        },
+        Err(_) => false,
+    }
+}
+
+fn is_as_spelled(document: &Document) -> bool {
+    match Key::new(b"a") {
+        Some(a) => {
+            document.cluster().nodes() == 2
+                && document.cluster().init(&a) == Value(10)
+                && document.scripts().len() == 1
+                && are_as_spelled(document.items())
+        }
+        None => false,
+    }
+}
+
+fn are_as_spelled(items: &[Item]) -> bool {
+    items.len() == 4
+        && items[0] == Item::Begin(TxId { number: 7 })
+        && items[1] == Item::Deliver(1)
+        && items[2] == Item::Drop(2)
+        && items[3] == Item::Next(3)
+}
+
 #[test]
 fn reads_a_document_with_each_form(rt: HostRuntime) {
     law_one_spelling();
-    let text = behind(
-        rt.alloc(),
-        HEAD,
-        b"tx 7 n1\nread a\nwrite b a + 1\nend\nschedule\nbegin 7\ndeliver 1\ndrop 2\nnext 3\n",
-    )
-    .expect(&rt, "memory");
-    let document = read_document(rt.alloc(), text.as_slice()).expect(&rt, "a document");
-    assert!(rt; document.cluster().nodes() == 2);
-    let a = Key::new(b"a").unwrap();
-    assert!(rt; document.cluster().init(&a) == Value(10));
-    assert!(rt; document.scripts().len() == 1);
-    let items = document.items();
-    assert!(rt; items.len() == 4);
-    assert!(rt; items[0] == Item::Begin(TxId { number: 7 }));
-    assert!(rt; items[1] == Item::Deliver(1));
-    assert!(rt; items[2] == Item::Drop(2));
-    assert!(rt; items[3] == Item::Next(3));
+    assert!(rt; has_each_form(rt.alloc()));
 }
 
 #[test]
 fn ends_of_input(rt: HostRuntime) {
     let alloc = rt.alloc();
-    refused(&rt, alloc, b"", 1, 10);
-    refused(&rt, alloc, b"nodes 2\npartition 0 n1\nfoo\t", 3, 10);
-    refused_behind(&rt, alloc, b"", 6, 10);
-    refused_behind(&rt, alloc, b"tx 1 n1\nread a", 7, 10);
-    refused_behind(&rt, alloc, b"tx 1 n1\nread a\n", 8, 10);
-    refused_behind(&rt, alloc, b"tx 1 n1\nread a\nend\n", 9, 10);
-    refused_behind(&rt, alloc, b"schedule\nnext 1", 7, 10);
-    accepted(&rt, alloc, b"nodes 1\npartition 0 n1\nschedule\n");
+    assert!(rt; is_refused(alloc, b"", 1, 10));
+    assert!(rt; is_refused(alloc, b"nodes 2\npartition 0 n1\nfoo\t", 3, 10));
+    assert!(rt; is_refused_behind(alloc, b"", 6, 10));
+    assert!(rt; is_refused_behind(alloc, b"tx 1 n1\nread a", 7, 10));
+    assert!(rt; is_refused_behind(alloc, b"tx 1 n1\nread a\n", 8, 10));
+    assert!(rt; is_refused_behind(alloc, b"tx 1 n1\nread a\nend\n", 9, 10));
+    assert!(rt; is_refused_behind(alloc, b"schedule\nnext 1", 7, 10));
+    assert!(rt; is_accepted(alloc, b"nodes 1\npartition 0 n1\nschedule\n"));
 }
 
 #[test]
 fn words_that_cannot_stand_there(rt: HostRuntime) {
     let alloc = rt.alloc();
-    refused(&rt, alloc, b"\n", 1, 1);
-    refused(&rt, alloc, b" nodes 2\n", 1, 1);
-    refused(&rt, alloc, b"nodes 2\ninit a 1\n", 2, 1);
-    refused(&rt, alloc, b"nodes 2 \n", 1, 1);
-    refused_behind(&rt, alloc, b"partition 2 n1\n", 6, 1);
-    refused_behind(&rt, alloc, b"write a 1\n", 6, 1);
-    refused_behind(&rt, alloc, b"tx 1 n1\nread a\nend\ninit c 1\n", 9, 1);
-    refused_behind(&rt, alloc, b"tx 1 n1\nread a\nschedule\n", 8, 1);
-    refused_behind(&rt, alloc, b"tx 1 n1\ncrash n1 0\n", 7, 1);
-    refused_behind(&rt, alloc, b"tx 1 n1\nread a a\n", 7, 1);
-    refused_behind(&rt, alloc, b"tx 1 n1\nread a\nend x\n", 8, 1);
-    refused_behind(&rt, alloc, b"schedule\nschedule\n", 7, 1);
-    refused_behind(&rt, alloc, b"schedule\nwrite a 1\n", 7, 1);
-    refused_behind(&rt, alloc, b"schedule\nnext 1 1\n", 7, 1);
+    assert!(rt; is_refused(alloc, b"\n", 1, 1));
+    assert!(rt; is_refused(alloc, b" nodes 2\n", 1, 1));
+    assert!(rt; is_refused(alloc, b"nodes 2\ninit a 1\n", 2, 1));
+    assert!(rt; is_refused(alloc, b"nodes 2 \n", 1, 1));
+    assert!(rt; is_refused_behind(alloc, b"partition 2 n1\n", 6, 1));
+    assert!(rt; is_refused_behind(alloc, b"write a 1\n", 6, 1));
+    assert!(rt; is_refused_behind(alloc, b"tx 1 n1\nread a\nend\ninit c 1\n", 9, 1));
+    assert!(rt; is_refused_behind(alloc, b"tx 1 n1\nread a\nschedule\n", 8, 1));
+    assert!(rt; is_refused_behind(alloc, b"tx 1 n1\ncrash n1 0\n", 7, 1));
+    assert!(rt; is_refused_behind(alloc, b"tx 1 n1\nread a a\n", 7, 1));
+    assert!(rt; is_refused_behind(alloc, b"tx 1 n1\nread a\nend x\n", 8, 1));
+    assert!(rt; is_refused_behind(alloc, b"schedule\nschedule\n", 7, 1));
+    assert!(rt; is_refused_behind(alloc, b"schedule\nwrite a 1\n", 7, 1));
+    assert!(rt; is_refused_behind(alloc, b"schedule\nnext 1 1\n", 7, 1));
 }
 
 #[test]
 fn words_too_few(rt: HostRuntime) {
     let alloc = rt.alloc();
-    refused(&rt, alloc, b"nodes\n", 1, 10);
-    refused(&rt, alloc, b"nodes 2\npartition 0\n", 2, 10);
-    refused_behind(&rt, alloc, b"init c\n", 6, 10);
-    refused_behind(&rt, alloc, b"tx 1\n", 6, 10);
-    refused_behind(&rt, alloc, b"tx 1 n1\nread\n", 7, 10);
-    refused_behind(&rt, alloc, b"tx 1 n1\nwrite\n", 7, 10);
-    refused_behind(&rt, alloc, b"tx 1 n1\nwrite b\n", 7, 10);
-    refused_behind(&rt, alloc, b"tx 1 n1\nend x\n", 7, 10);
-    refused_behind(&rt, alloc, b"schedule\nbegin\n", 7, 10);
-    refused_behind(&rt, alloc, b"schedule\ndeliver\n", 7, 10);
+    assert!(rt; is_refused(alloc, b"nodes\n", 1, 10));
+    assert!(rt; is_refused(alloc, b"nodes 2\npartition 0\n", 2, 10));
+    assert!(rt; is_refused_behind(alloc, b"init c\n", 6, 10));
+    assert!(rt; is_refused_behind(alloc, b"tx 1\n", 6, 10));
+    assert!(rt; is_refused_behind(alloc, b"tx 1 n1\nread\n", 7, 10));
+    assert!(rt; is_refused_behind(alloc, b"tx 1 n1\nwrite\n", 7, 10));
+    assert!(rt; is_refused_behind(alloc, b"tx 1 n1\nwrite b\n", 7, 10));
+    assert!(rt; is_refused_behind(alloc, b"tx 1 n1\nend x\n", 7, 10));
+    assert!(rt; is_refused_behind(alloc, b"schedule\nbegin\n", 7, 10));
+    assert!(rt; is_refused_behind(alloc, b"schedule\ndeliver\n", 7, 10));
 }
 
 #[test]
 fn misspelt_words(rt: HostRuntime) {
     let alloc = rt.alloc();
-    refused(&rt, alloc, b"nodes  2\n", 1, 2);
-    refused(&rt, alloc, b"nodes 18446744073709551616\n", 1, 2);
-    refused_behind(&rt, alloc, b"init c -1\n", 6, 2);
-    refused(&rt, alloc, b"nodes 2\npartition 0 n3\n", 2, 3);
-    refused(&rt, alloc, b"nodes 2\npartition 0 n1 \n", 2, 3);
-    refused(&rt, alloc, b"nodes 2\npartition 1 n1\n", 2, 4);
+    assert!(rt; is_refused(alloc, b"nodes  2\n", 1, 2));
+    assert!(rt; is_refused(alloc, b"nodes 18446744073709551616\n", 1, 2));
+    assert!(rt; is_refused_behind(alloc, b"init c -1\n", 6, 2));
+    assert!(rt; is_refused(alloc, b"nodes 2\npartition 0 n3\n", 2, 3));
+    assert!(rt; is_refused(alloc, b"nodes 2\npartition 0 n1 \n", 2, 3));
+    assert!(rt; is_refused(alloc, b"nodes 2\npartition 1 n1\n", 2, 4));
     let longer = b"init ccccccccccccccccccccccccccccccccc 1\nschedule\n";
-    refused_behind(&rt, alloc, longer, 6, 5);
-    refused_behind(&rt, alloc, b"tx 1 n1\nread A\nend\nschedule\n", 7, 5);
-    refused_behind(&rt, alloc, b"tx 0 n1\n", 6, 6);
-    refused_behind(&rt, alloc, b"tx 65536 n1\n", 6, 6);
+    assert!(rt; is_refused_behind(alloc, longer, 6, 5));
+    assert!(rt; is_refused_behind(alloc, b"tx 1 n1\nread A\nend\nschedule\n", 7, 5));
+    assert!(rt; is_refused_behind(alloc, b"tx 0 n1\n", 6, 6));
+    assert!(rt; is_refused_behind(alloc, b"tx 65536 n1\n", 6, 6));
     let other = b"tx 1 n1\nread a\nend\nschedule\nbegin 2\n";
-    refused_behind(&rt, alloc, other, 10, 6);
-    refused(&rt, alloc, b"nodes 2\npartition 0 n1 n2 n1\n", 2, 8);
-    refused_behind(&rt, alloc, b"init a 1\n", 6, 8);
-    refused_behind(&rt, alloc, b"tx 1 n1\nread a\nend\ntx 1 n1\n", 9, 8);
+    assert!(rt; is_refused_behind(alloc, other, 10, 6));
+    assert!(rt; is_refused(alloc, b"nodes 2\npartition 0 n1 n2 n1\n", 2, 8));
+    assert!(rt; is_refused_behind(alloc, b"init a 1\n", 6, 8));
+    assert!(rt; is_refused_behind(alloc, b"tx 1 n1\nread a\nend\ntx 1 n1\n", 9, 8));
 }
 
 #[test]
 fn writes(rt: HostRuntime) {
     let alloc = rt.alloc();
-    accepted_behind(&rt, alloc, b"tx 1 n1\nwrite b 1\nend\nschedule\n");
+    assert!(rt; is_accepted_behind(alloc, b"tx 1 n1\nwrite b 1\nend\nschedule\n"));
     let chosen = b"tx 1 n1\nread min\nwrite b min min min pick 1 2\nend\nschedule\n";
-    accepted_behind(&rt, alloc, chosen);
-    refused_behind(&rt, alloc, b"tx 1 n1\nwrite b a\nend\nschedule\n", 7, 7);
-    refused_behind(&rt, alloc, b"tx 1 n1\nwrite b 1\nwrite a b\n", 8, 7);
+    assert!(rt; is_accepted_behind(alloc, chosen));
+    assert!(rt; is_refused_behind(alloc, b"tx 1 n1\nwrite b a\nend\nschedule\n", 7, 7));
+    assert!(rt; is_refused_behind(alloc, b"tx 1 n1\nwrite b 1\nwrite a b\n", 8, 7));
     let other = b"tx 1 n1\nread a\nend\ntx 2 n1\nwrite b a\n";
-    refused_behind(&rt, alloc, other, 10, 7);
-    refused_behind(&rt, alloc, b"tx 1 n1\nwrite b 1 / 2\n", 7, 1);
-    refused_behind(&rt, alloc, b"tx 1 n1\nwrite b 1 \n", 7, 1);
-    refused_behind(&rt, alloc, b"tx 1 n1\nwrite b 01\n", 7, 2);
-    refused_behind(&rt, alloc, b"tx 1 n1\nwrite B A\n", 7, 5);
+    assert!(rt; is_refused_behind(alloc, other, 10, 7));
+    assert!(rt; is_refused_behind(alloc, b"tx 1 n1\nwrite b 1 / 2\n", 7, 1));
+    assert!(rt; is_refused_behind(alloc, b"tx 1 n1\nwrite b 1 \n", 7, 1));
+    assert!(rt; is_refused_behind(alloc, b"tx 1 n1\nwrite b 01\n", 7, 2));
+    assert!(rt; is_refused_behind(alloc, b"tx 1 n1\nwrite B A\n", 7, 5));
     let sixteen =
         b"tx 1 n1\nwrite b 0 + 1 + 2 + 3 + 4 + 5 + 6 + 7 + 8 + 9 + 10 + 11 + 12 + 13 + 14 + 15 + 16\nend\nschedule\n";
-    accepted_behind(&rt, alloc, sixteen);
+    assert!(rt; is_accepted_behind(alloc, sixteen));
     let more =
         b"tx 1 n1\nwrite b 0 + 1 + 2 + 3 + 4 + 5 + 6 + 7 + 8 + 9 + 10 + 11 + 12 + 13 + 14 + 15 + 16 + A\n";
-    refused_behind(&rt, alloc, more, 7, 9);
+    assert!(rt; is_refused_behind(alloc, more, 7, 9));
 }
 
 #[test]
 fn first_fault_decides(rt: HostRuntime) {
     let alloc = rt.alloc();
-    refused(&rt, alloc, b"nodes x 1\n", 1, 2);
-    refused(&rt, alloc, b"nodes 17\npartition x\n", 1, 9);
-    refused(&rt, alloc, b"nodes 2\npartition 1 n9\n", 2, 4);
-    refused(&rt, alloc, b"nodes 2\npartition 0 n1 n1 n9\n", 2, 8);
-    refused_behind(&rt, alloc, b"init a x\n", 6, 8);
-    refused_behind(&rt, alloc, b"tx 1 n9 x\nread A\n", 6, 3);
-    refused_behind(&rt, alloc, b"foo\x7f\n", 6, 11);
-    refused_behind(&rt, alloc, b"schedule\r\n", 6, 11);
-    refused_behind(&rt, alloc, b"schedule\nretry x\n", 7, 12);
-    refused_behind(&rt, alloc, b"schedule\nask\n", 7, 12);
-    refused_behind(&rt, alloc, b"schedule\ncrash n1 0\n", 7, 12);
-    refused_behind(&rt, alloc, b"schedule\nfuse n1 1 0\n", 7, 12);
-    refused_behind(&rt, alloc, b"schedule\nrestart n1\n", 7, 12);
+    assert!(rt; is_refused(alloc, b"nodes x 1\n", 1, 2));
+    assert!(rt; is_refused(alloc, b"nodes 17\npartition x\n", 1, 9));
+    assert!(rt; is_refused(alloc, b"nodes 2\npartition 1 n9\n", 2, 4));
+    assert!(rt; is_refused(alloc, b"nodes 2\npartition 0 n1 n1 n9\n", 2, 8));
+    assert!(rt; is_refused_behind(alloc, b"init a x\n", 6, 8));
+    assert!(rt; is_refused_behind(alloc, b"tx 1 n9 x\nread A\n", 6, 3));
+    assert!(rt; is_refused_behind(alloc, b"foo\x7f\n", 6, 11));
+    assert!(rt; is_refused_behind(alloc, b"schedule\r\n", 6, 11));
+    assert!(rt; is_refused_behind(alloc, b"schedule\nretry x\n", 7, 12));
+    assert!(rt; is_refused_behind(alloc, b"schedule\nask\n", 7, 12));
+    assert!(rt; is_refused_behind(alloc, b"schedule\ncrash n1 0\n", 7, 12));
+    assert!(rt; is_refused_behind(alloc, b"schedule\nfuse n1 1 0\n", 7, 12));
+    assert!(rt; is_refused_behind(alloc, b"schedule\nrestart n1\n", 7, 12));
 }
 
 #[test]
 fn limits_of_the_schedule(rt: HostRuntime) {
     let alloc = rt.alloc();
-    refused_behind(&rt, alloc, b"schedule\ndeliver 0\n", 7, 9);
-    refused_behind(&rt, alloc, b"schedule\ndrop 4294967296\n", 7, 9);
-    refused_behind(&rt, alloc, b"schedule\nnext 50001 x\n", 7, 9);
-    accepted_behind(&rt, alloc, b"schedule\nnext 49999\ndeliver 4294967295\n");
-    refused_behind(&rt, alloc, b"schedule\nnext 49999\nnext 2 x\n", 8, 9);
-    refused_behind(&rt, alloc, b"schedule\nnext 50000\nnext\n", 8, 10);
-    refused_behind(&rt, alloc, b"schedule\nnext 50000\nnext x\n", 8, 2);
-    refused_behind(&rt, alloc, b"schedule\nnext 50000\nbegin\n", 8, 9);
-    refused_behind(&rt, alloc, b"schedule\nnext 50000\ndeliver x\n", 8, 9);
-    refused_behind(&rt, alloc, b"schedule\nnext 50000\ndrop\n", 8, 9);
-    refused_behind(&rt, alloc, b"schedule\nnext 50000\nfoo\n", 8, 1);
+    assert!(rt; is_refused_behind(alloc, b"schedule\ndeliver 0\n", 7, 9));
+    assert!(rt; is_refused_behind(alloc, b"schedule\ndrop 4294967296\n", 7, 9));
+    assert!(rt; is_refused_behind(alloc, b"schedule\nnext 50001 x\n", 7, 9));
+    assert!(rt; is_accepted_behind(alloc, b"schedule\nnext 49999\ndeliver 4294967295\n"));
+    assert!(rt; is_refused_behind(alloc, b"schedule\nnext 49999\nnext 2 x\n", 8, 9));
+    assert!(rt; is_refused_behind(alloc, b"schedule\nnext 50000\nnext\n", 8, 10));
+    assert!(rt; is_refused_behind(alloc, b"schedule\nnext 50000\nnext x\n", 8, 2));
+    assert!(rt; is_refused_behind(alloc, b"schedule\nnext 50000\nbegin\n", 8, 9));
+    assert!(rt; is_refused_behind(alloc, b"schedule\nnext 50000\ndeliver x\n", 8, 9));
+    assert!(rt; is_refused_behind(alloc, b"schedule\nnext 50000\ndrop\n", 8, 9));
+    assert!(rt; is_refused_behind(alloc, b"schedule\nnext 50000\nfoo\n", 8, 1));
 }
 
 #[test]
 fn limits_of_the_cluster(rt: HostRuntime) {
     let alloc = rt.alloc();
     let head = b"nodes 1\n";
-    let many = lines(alloc, head, 64, b"partition ", b" n1\n", b"schedule\n").expect(&rt, "memory");
-    accepted(&rt, alloc, many.as_slice());
-    let more = lines(alloc, head, 64, b"partition ", b" n1\n", b"partition\n").expect(
-        &rt, "memory",
-    );
-    refused(&rt, alloc, more.as_slice(), 66, 9);
-    let keys = lines(alloc, HEAD, 4094, b"init k", b" 0\n", b"schedule\n").expect(&rt, "memory");
-    accepted(&rt, alloc, keys.as_slice());
-    let another = lines(alloc, HEAD, 4094, b"init k", b" 0\n", b"init c x\n").expect(&rt, "memory");
-    refused(&rt, alloc, another.as_slice(), 4100, 9);
+    assert!(rt; are_accepted(alloc, head, 64, b"partition ", b" n1\n", b"schedule\n"));
+    assert!(rt; are_past_a_limit(alloc, head, 64, b"partition ", b" n1\n", b"partition\n", 66));
+    assert!(rt; are_accepted(alloc, HEAD, 4094, b"init k", b" 0\n", b"schedule\n"));
+    assert!(rt; are_past_a_limit(alloc, HEAD, 4094, b"init k", b" 0\n", b"init c x\n", 4100));
     let end = b"tx 1 n1\nread a\nwrite c x\n";
-    let write = lines(alloc, HEAD, 4094, b"init k", b" 0\n", end).expect(&rt, "memory");
-    refused(&rt, alloc, write.as_slice(), 4102, 9);
+    assert!(rt; are_past_a_limit(alloc, HEAD, 4094, b"init k", b" 0\n", end, 4102));
 }
 
 #[test]
 fn limits_of_the_scripts(rt: HostRuntime) {
     let alloc = rt.alloc();
     let script = b"nodes 1\npartition 0 n1\ntx 1 n1\n";
-    let ops = lines(alloc, script, 32, b"read k", b"\n", b"end\nschedule\n").expect(&rt, "memory");
-    accepted(&rt, alloc, ops.as_slice());
-    let more = lines(alloc, script, 32, b"read k", b"\n", b"read\n").expect(&rt, "memory");
-    refused(&rt, alloc, more.as_slice(), 36, 9);
-    let write = lines(alloc, script, 32, b"read k", b"\n", b"write\n").expect(&rt, "memory");
-    refused(&rt, alloc, write.as_slice(), 36, 9);
+    assert!(rt; are_accepted(alloc, script, 32, b"read k", b"\n", b"end\nschedule\n"));
+    assert!(rt; are_past_a_limit(alloc, script, 32, b"read k", b"\n", b"read\n", 36));
+    assert!(rt; are_past_a_limit(alloc, script, 32, b"read k", b"\n", b"write\n", 36));
     let rest = b" n1\nread a\nend\n";
-    let scripts = lines(alloc, HEAD, 4096, b"tx 1", rest, b"schedule\n").expect(&rt, "memory");
-    accepted(&rt, alloc, scripts.as_slice());
-    let another = lines(alloc, HEAD, 4096, b"tx 1", rest, b"tx\n").expect(&rt, "memory");
-    refused(&rt, alloc, another.as_slice(), 12294, 9);
+    assert!(rt; are_accepted(alloc, HEAD, 4096, b"tx 1", rest, b"schedule\n"));
+    assert!(rt; are_past_a_limit(alloc, HEAD, 4096, b"tx 1", rest, b"tx\n", 12294));
 }

@@ -1,7 +1,8 @@
+//! The worked rows: what expressions come to, and for each why some lines that have it.
+
 use super::*;
 use score_base::{Key, Memory, TryCopy, Value};
 use std::alloc::Global;
-use std::test::Fail;
 
 fn key(reads: &mut Reads, bytes: &[u8], value: u64) -> Result<(), Memory> {
     match Key::new(bytes) {
@@ -24,80 +25,86 @@ fn value(alloc: Global, text: &[u8]) -> Result<Option<Value>, Memory> {
     }
 }
 
-#[test]
-fn arithmetic(rt: HostRuntime) -> Result<(), Fail> {
-    let sum = b"tx 1 n1\nread a\nread b\nwrite c a + b * 2\nend\n";
-    assert_eq!(rt; value(rt.alloc(), sum)?, Some(Value(26)));
-    let difference = b"tx 1 n1\nread a\nread b\nwrite c a - 30\nend\n";
-    assert_eq!(rt;
-        value(rt.alloc(), difference)?,
-        Some(Value(18446744073709551596))
-    );
-    let least = b"tx 1 n1\nread a\nread b\nwrite c a min b\nend\n";
-    assert_eq!(rt; value(rt.alloc(), least)?, Some(Value(3)));
-    let picked = b"tx 1 n1\nread a\nread b\nwrite c a pick 5 b\nend\n";
-    assert_eq!(rt; value(rt.alloc(), picked)?, Some(Value(5)));
-    let other = b"tx 1 n1\nread a\nread b\nwrite c 0 pick 5 b\nend\n";
-    assert_eq!(rt; value(rt.alloc(), other)?, Some(Value(3)));
-    Ok(())
+fn gives(alloc: Global, text: &[u8], wanted: u64) -> bool {
+    match value(alloc, text) {
+        Ok(found) => found == Some(Value(wanted)),
+        Err(_) => false,
+    }
 }
 
-// the first line at fault and why, in a cluster of two nodes; (0, 0) where there is none
-fn fault(alloc: Global, text: &[u8]) -> (usize, u8) {
+#[test]
+fn arithmetic(rt: HostRuntime) {
+    assert!(rt; gives(rt.alloc(), b"tx 1 n1\nread a\nread b\nwrite c a + b * 2\nend\n", 26));
+    let below = 18446744073709551596;
+    assert!(rt; gives(rt.alloc(), b"tx 1 n1\nread a\nread b\nwrite c a - 30\nend\n", below));
+    assert!(rt; gives(rt.alloc(), b"tx 1 n1\nread a\nread b\nwrite c a min b\nend\n", 3));
+    assert!(rt; gives(rt.alloc(), b"tx 1 n1\nread a\nread b\nwrite c a pick 5 b\nend\n", 5));
+    assert!(rt; gives(rt.alloc(), b"tx 1 n1\nread a\nread b\nwrite c 0 pick 5 b\nend\n", 3));
+}
+
+// the first line at fault, in a cluster of two nodes, is this one, and has this why
+fn is_refused(alloc: Global, text: &[u8], line: usize, why: u8) -> bool {
     match read_script(alloc, text, 2) {
-        Ok(_) => (0, 0),
-        Err(ScriptEnd::Bad(at)) => (at.line, at.why),
-        Err(ScriptEnd::Memory) => (0, 1),
+        Ok(_) => false,
+        Err(ScriptEnd::Bad(at)) => at.line == line && at.why == why,
+        Err(ScriptEnd::Memory) => false,
     }
 }
 
 #[test]
 fn refused_lines(rt: HostRuntime) {
-    assert_eq!(rt; fault(rt.alloc(), b""), (1, 10));
-    assert_eq!(rt; fault(rt.alloc(), b"read a\n"), (1, 1));
-    assert_eq!(rt; fault(rt.alloc(), b"tx 0 n1\n"), (1, 6));
-    assert_eq!(rt; fault(rt.alloc(), b"tx 1 n3\n"), (1, 3));
-    assert_eq!(rt; fault(rt.alloc(), b"tx 1 n1 \n"), (1, 1));
-    assert_eq!(rt; fault(rt.alloc(), b"tx 1 n1\nend x\n"), (2, 10));
-    assert_eq!(rt; fault(rt.alloc(), b"tx 1 n1\nread A\n"), (2, 5));
-    assert_eq!(rt; fault(rt.alloc(), b"tx 1 n1\nread\ta\n"), (2, 11));
-    assert_eq!(rt; fault(rt.alloc(), b"tx 1 n1\nread a\nend"), (3, 10));
-    assert_eq!(rt; fault(rt.alloc(), b"tx 1 n1\nread a\n"), (3, 10));
-    assert_eq!(rt;
-        fault(rt.alloc(), b"tx 1 n1\nread a\nend\nread b\n"),
-        (4, 1)
-    );
-    assert_eq!(rt; fault(rt.alloc(), b"tx 1 n1\nread a\nend\n"), (0, 0));
+    assert!(rt; is_refused(rt.alloc(), b"", 1, 10));
+    assert!(rt; is_refused(rt.alloc(), b"read a\n", 1, 1));
+    assert!(rt; is_refused(rt.alloc(), b"tx 0 n1\n", 1, 6));
+    assert!(rt; is_refused(rt.alloc(), b"tx 1 n3\n", 1, 3));
+    assert!(rt; is_refused(rt.alloc(), b"tx 1 n1 \n", 1, 1));
+    assert!(rt; is_refused(rt.alloc(), b"tx 1 n1\nend x\n", 2, 10));
+    assert!(rt; is_refused(rt.alloc(), b"tx 1 n1\nread A\n", 2, 5));
+    assert!(rt; is_refused(rt.alloc(), b"tx 1 n1\nread\ta\n", 2, 11));
+    assert!(rt; is_refused(rt.alloc(), b"tx 1 n1\nread a\nend", 3, 10));
+    assert!(rt; is_refused(rt.alloc(), b"tx 1 n1\nread a\n", 3, 10));
+    assert!(rt; is_refused(rt.alloc(), b"tx 1 n1\nread a\nend\nread b\n", 4, 1));
+    assert!(rt; read_script(rt.alloc(), b"tx 1 n1\nread a\nend\n", 2).is_ok());
 }
 
 #[test]
 fn refused_expressions(rt: HostRuntime) {
-    assert_eq!(rt; fault(rt.alloc(), b"tx 1 n1\nwrite a\n"), (2, 10));
-    assert_eq!(rt; fault(rt.alloc(), b"tx 1 n1\nwrite a 01\n"), (2, 2));
-    assert_eq!(rt; fault(rt.alloc(), b"tx 1 n1\nwrite a b\nread b\n"), (2, 7));
-    assert_eq!(rt; fault(rt.alloc(), b"tx 1 n1\nwrite a 1 ^ 2\n"), (2, 1));
-    assert_eq!(rt; fault(rt.alloc(), b"tx 1 n1\nwrite a 1 +\n"), (2, 10));
-    assert_eq!(rt; fault(rt.alloc(), b"tx 1 n1\nwrite a 1 + \n"), (2, 5));
-    assert_eq!(rt; fault(rt.alloc(), b"tx 1 n1\nwrite a 1 pick 2\n"), (2, 10));
+    assert!(rt; is_refused(rt.alloc(), b"tx 1 n1\nwrite a\n", 2, 10));
+    assert!(rt; is_refused(rt.alloc(), b"tx 1 n1\nwrite a 01\n", 2, 2));
+    assert!(rt; is_refused(rt.alloc(), b"tx 1 n1\nwrite a b\nread b\n", 2, 7));
+    assert!(rt; is_refused(rt.alloc(), b"tx 1 n1\nwrite a 1 ^ 2\n", 2, 1));
+    assert!(rt; is_refused(rt.alloc(), b"tx 1 n1\nwrite a 1 +\n", 2, 10));
+    assert!(rt; is_refused(rt.alloc(), b"tx 1 n1\nwrite a 1 + \n", 2, 5));
+    assert!(rt; is_refused(rt.alloc(), b"tx 1 n1\nwrite a 1 pick 2\n", 2, 10));
     let long =
         b"tx 1 n1\nwrite a 0 + 1 + 2 + 3 + 4 + 5 + 6 + 7 + 8 + 9 + 10 + 11 + 12 + 13 + 14 + 15 + 16 +\n";
-    assert_eq!(rt; fault(rt.alloc(), long), (2, 9));
+    assert!(rt; is_refused(rt.alloc(), long, 2, 9));
     let odd =
         b"tx 1 n1\nwrite a 0 + 1 + 2 + 3 + 4 + 5 + 6 + 7 + 8 + 9 + 10 + 11 + 12 + 13 + 14 + 15 + 16 /\n";
-    assert_eq!(rt; fault(rt.alloc(), odd), (2, 1));
+    assert!(rt; is_refused(rt.alloc(), odd, 2, 1));
+}
+
+// how many keys a script has, reads remotely, and writes
+fn has_counts(
+    alloc: Global,
+    text: &[u8],
+    all: usize,
+    read: usize,
+    written: usize,
+) -> Result<bool, Memory> {
+    match read_script(alloc, text, 1) {
+        Ok(script) => {
+            let copy = script.copy()?;
+            Ok(keys(alloc, &copy)?.len() == all
+                && read_keys(alloc, &copy)?.len() == read
+                && write_keys(alloc, &copy)?.len() == written)
+        }
+        Err(_) => Ok(false),
+    }
 }
 
 #[test]
-fn keys_of_a_script(rt: HostRuntime) -> Result<(), Fail> {
+fn keys_of_a_script(rt: HostRuntime) {
     let text = b"tx 1 n1\nwrite b 1\nread a\nread b\nwrite c a\nwrite b 2\nend\n";
-    match read_script(rt.alloc(), text, 1) {
-        Ok(script) => {
-            let copy = script.copy()?;
-            assert_eq!(rt; keys(rt.alloc(), &copy)?.len(), 3);
-            assert_eq!(rt; read_keys(rt.alloc(), &copy)?.len(), 1);
-            assert_eq!(rt; write_keys(rt.alloc(), &copy)?.len(), 2);
-        }
-        Err(_) => return Err(Fail::new("no script")),
-    }
-    Ok(())
+    assert!(rt; has_counts(rt.alloc(), text, 3, 1, 2).unwrap_or(false));
 }
