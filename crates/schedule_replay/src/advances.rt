@@ -106,7 +106,15 @@ pub fn push_request(
 ) -> Result<(), Memory>
     ensures { OnOk result (outs.new.items ≡ outs.old.items ++ request cluster.now tx.now j place) }
 {
-    push_request_of(alloc, outs, cluster, tx, j, place, op_at(tx.script.ops(), j))
+    push_request_of(
+        alloc,
+        outs,
+        cluster,
+        tx,
+        j,
+        place,
+        op_at(tx.script.ops(), j),
+    )
 }
 
 /// Those of the keys that the node holds.

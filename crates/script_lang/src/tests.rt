@@ -34,12 +34,42 @@ fn gives(alloc: Global, text: &[u8], wanted: u64) -> bool {
 
 #[test]
 fn arithmetic(rt: HostRuntime) {
-    assert!(rt; gives(rt.alloc(), b"tx 1 n1\nread a\nread b\nwrite c a + b * 2\nend\n", 26));
+    assert!(rt;
+        gives(
+            rt.alloc(),
+            b"tx 1 n1\nread a\nread b\nwrite c a + b * 2\nend\n",
+            26
+        )
+    );
     let below = 18446744073709551596;
-    assert!(rt; gives(rt.alloc(), b"tx 1 n1\nread a\nread b\nwrite c a - 30\nend\n", below));
-    assert!(rt; gives(rt.alloc(), b"tx 1 n1\nread a\nread b\nwrite c a min b\nend\n", 3));
-    assert!(rt; gives(rt.alloc(), b"tx 1 n1\nread a\nread b\nwrite c a pick 5 b\nend\n", 5));
-    assert!(rt; gives(rt.alloc(), b"tx 1 n1\nread a\nread b\nwrite c 0 pick 5 b\nend\n", 3));
+    assert!(rt;
+        gives(
+            rt.alloc(),
+            b"tx 1 n1\nread a\nread b\nwrite c a - 30\nend\n",
+            below
+        )
+    );
+    assert!(rt;
+        gives(
+            rt.alloc(),
+            b"tx 1 n1\nread a\nread b\nwrite c a min b\nend\n",
+            3
+        )
+    );
+    assert!(rt;
+        gives(
+            rt.alloc(),
+            b"tx 1 n1\nread a\nread b\nwrite c a pick 5 b\nend\n",
+            5
+        )
+    );
+    assert!(rt;
+        gives(
+            rt.alloc(),
+            b"tx 1 n1\nread a\nread b\nwrite c 0 pick 5 b\nend\n",
+            3
+        )
+    );
 }
 
 // the first line at fault, in a cluster of two nodes, is this one, and has this why
@@ -95,9 +125,11 @@ fn has_counts(
     match read_script(alloc, text, 1) {
         Ok(script) => {
             let copy = script.copy()?;
-            Ok(keys(alloc, &copy)?.len() == all
-                && read_keys(alloc, &copy)?.len() == read
-                && write_keys(alloc, &copy)?.len() == written)
+            Ok(
+                keys(alloc, &copy)?.len() == all
+                    && read_keys(alloc, &copy)?.len() == read
+                    && write_keys(alloc, &copy)?.len() == written,
+            )
         }
         Err(_) => Ok(false),
     }

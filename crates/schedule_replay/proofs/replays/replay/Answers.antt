@@ -44,8 +44,8 @@ returns c =
     let d : DocumentData = c.args.doc.now in
     let left : List Item = drop c.loop-item.item-index c.items-item-items.result.now in
     let acts : c.into_acts.result.items ≡ calm_run d =
-        c.into_acts.ensures
-        ∙ whole d c.loop-item.run.acts (past c.loop-item.run) left (drop_all c.loop-item.item-index c.items-item-items.result.now (grind arith)) c.loop-item.invariant.told in
+    c.into_acts.ensures
+    ∙ whole d c.loop-item.run.acts (past c.loop-item.run) left (drop_all c.loop-item.item-index c.items-item-items.result.now (grind arith)) c.loop-item.invariant.told in
     record {
       calm = acts;
       run = subst (λ h. IsRun d d.items h) (sym acts) (c.law_calm_run.ensures.run d);
