@@ -18,7 +18,7 @@ use Rattle.grid_model.specs.declared.stories.Story.{Story}
 use Rattle.grid_model.specs.Documents.{DocumentData}
 use Rattle.grid_model.specs.Histories.{after, sent, sent_at}
 use Rattle.grid_model.specs.Nodes.{Node, node, script_of, parts_of, is_home}
-use Rattle.grid_model.specs.Stories.{Phase, story, asked, heard, heard_at, if_told, has_voted, with_vote, with_ack, with_value, progressed}
+use Rattle.grid_model.specs.Stories.{Phase, story, asked, heard, heard_at, if_told, with_vote, with_ack, with_value, progressed}
 use Rattle.script_runs.specs.Waits.{waiting}
 use Rattle.grid_model.specs.Copies.{shown}
 use Rattle.script_runs.proofs.RemoteReads.{InOrder, remote_numbers, order-first, order-left, order-more}

@@ -10,7 +10,6 @@ use Rattle.score_base.specs.declared.causes.Outcome.TheVariants as outcome
 use Rattle.score_base.specs.declared.records.Record.{Record}
 use Rattle.script_lang.specs.Scripts.{ScriptData}
 use Rattle.script_lang.specs.Reads.{is_update}
-use Rattle.placement.specs.Places.{is_among}
 use Rattle.grid_model.specs.declared.acts.Act.{Act}
 use Rattle.grid_model.specs.declared.acts.Act.TheVariants as act
 use Rattle.grid_model.specs.declared.messages.Envelope.{Envelope}
@@ -22,7 +21,7 @@ use Rattle.grid_model.specs.Documents.{DocumentData}
 use Rattle.grid_model.specs.Histories.{sent, sent_at}
 use Rattle.journal_words.specs.Journals.{Decision, Prepared, decision, home_in, is_closed, prepared_of, undone}
 use Rattle.grid_model.specs.Nodes.{Node, got, journal, node, script_of, is_home}
-use Rattle.grid_model.specs.Stories.{story, asked, heard, heard_at, if_told, phase_at, is_open, with_vote, with_ack, has_voted, begun, Phase, progressed}
+use Rattle.grid_model.specs.Stories.{story, asked, heard, heard_at, if_told, phase_at, is_open, with_vote, with_ack, begun, Phase, progressed}
 use Rattle.script_runs.specs.Waits.{waiting}
 use Rattle.grid_model.specs.Views.{Open, Apart, acks_at, open_at, open_of, open_stage, stage, stage_by, view}
 use Rattle.grid_model.specs.Facts.{is_given_up, is_over, MeansNever, AbortsFinal}

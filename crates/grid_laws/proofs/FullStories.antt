@@ -17,7 +17,7 @@ use Rattle.grid_model.specs.declared.stories.Story.{Story}
 use Rattle.grid_model.specs.Documents.{DocumentData}
 use Rattle.grid_model.specs.Histories.{sent, sent_at}
 use Rattle.grid_model.specs.Nodes.{Node, node, script_of, parts_of, is_home}
-use Rattle.grid_model.specs.Stories.{Phase, story, told, asked, heard, heard_at, if_told, first_sid, with_vote, with_ack, has_voted, with_value, begun, progressed}
+use Rattle.grid_model.specs.Stories.{Phase, story, told, asked, heard, heard_at, if_told, first_sid, with_vote, with_ack, with_value, begun, progressed}
 use Rattle.script_runs.specs.Waits.{waiting}
 use Rattle.grid_model.specs.Copies.{snapshot, snapshot_in}
 use Rattle.grid_laws.proofs.Causes.{AtHome, AllDue, TakenDue, BeganDue}

@@ -18,7 +18,7 @@ use Rattle.grid_model.specs.declared.stories.Story.{Story}
 use Rattle.grid_model.specs.Documents.{DocumentData}
 use Rattle.grid_model.specs.Histories.{sent, sent_at}
 use Rattle.grid_model.specs.Nodes.{Node, node, script_of, parts_of, is_home}
-use Rattle.grid_model.specs.Stories.{Phase, story, asked, heard, heard_at, if_told, phase_at, first_sid, with_vote, with_ack, with_value, has_voted, begun, progressed}
+use Rattle.grid_model.specs.Stories.{Phase, story, asked, heard, heard_at, if_told, phase_at, first_sid, with_vote, with_ack, with_value, begun, progressed}
 use Rattle.script_runs.specs.Waits.{value_taken, waiting}
 use Rattle.script_runs.proofs.Walks.{taken-stays, taken-new, waiting-open}
 use Rattle.grid_laws.proofs.Causes.{AllDue, BeganDue, TakenDue}
