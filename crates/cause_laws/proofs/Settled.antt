@@ -8,16 +8,14 @@ use Rattle.grid_model.specs.Documents.{DocumentData}
 use Rattle.grid_model.specs.Histories.{after, sent, sent_at}
 use Rattle.journal_words.specs.Journals.{Decision, decision, is_closed}
 use Rattle.grid_model.specs.Nodes.{is_home, journal, script_of}
-use Rattle.grid_model.specs.Stories.{Aborted, Answered, Lost, Phase, asked, begun, decided_phase, has_voted, is_open, open_phase, phase, phase_by, story, told, undecided_phase}
+use Rattle.grid_model.specs.Stories.{Aborted, Answered, Lost, Phase, asked, begun, decided_phase, is_open, open_phase, phase, phase_by, story, told, undecided_phase}
 use Rattle.script_runs.specs.Waits.{waiting}
 use Rattle.grid_model.specs.declared.acts.Act.TheVariants as act
 use Rattle.grid_model.specs.declared.acts.Act.{Act}
 use Rattle.grid_model.specs.declared.messages.Message.TheVariants as message
 use Rattle.grid_model.specs.declared.messages.Message.{Message}
 use Rattle.grid_model.specs.declared.stories.Story.{Story}
-use Rattle.placement.specs.Places.{is_among, parts}
-use Rattle.score_base.specs.declared.ids.Ident.{Ident}
-use Rattle.score_base.specs.declared.ids.NodeId.{NodeId}
+use Rattle.placement.specs.Places.{parts}
 use Rattle.score_base.specs.declared.ids.TxId.{TxId}
 use Rattle.score_base.specs.declared.records.Record.TheVariants as record'
 use Rattle.score_base.specs.declared.records.Record.{Record}

@@ -18,7 +18,7 @@ use Rattle.grid_model.specs.declared.messages.Message.TheVariants as message
 use Rattle.grid_model.specs.declared.messages.Message.{Message}
 use Rattle.grid_model.specs.declared.stories.Story.{Story}
 use Rattle.grid_model.specs.declared.stories.Voted.{Voted}
-use Rattle.placement.specs.Places.{holders, is_among}
+use Rattle.placement.specs.Places.{holders}
 use Rattle.score_base.specs.declared.ids.Ident.{Ident}
 use Rattle.score_base.specs.declared.ids.NodeId.{NodeId}
 use Rattle.score_base.specs.declared.ids.TxId.{TxId}

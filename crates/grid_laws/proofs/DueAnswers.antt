@@ -27,7 +27,7 @@ use Rattle.grid_model.specs.Documents.{DocumentData}
 use Rattle.grid_model.specs.Histories.{sent, sent_at}
 use Rattle.journal_words.specs.Journals.{Decision, commit_id, undone}
 use Rattle.grid_model.specs.Nodes.{node, journal, script_of, parts_of, parts_in, is_home}
-use Rattle.grid_model.specs.Stories.{Collecting, phase_at, is_open, is_fit_ballot, is_small_node, story, first_sid, has_voted, heard_at, with_value, progressed}
+use Rattle.grid_model.specs.Stories.{Collecting, phase_at, is_open, is_fit_ballot, is_small_node, story, has_voted, heard_at, with_value, progressed}
 use Rattle.script_runs.specs.Waits.{waiting}
 use Rattle.grid_model.specs.Views.{Open, Stage, Apart, Reads, Collects, Commits, stage, stage_at, view, View, participant}
 use Rattle.grid_model.specs.Advances.{advance, parts_now}

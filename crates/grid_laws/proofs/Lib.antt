@@ -51,6 +51,7 @@ pub mod CausesShown
 pub mod RequestsFit
 pub mod ReadsDated
 pub mod RepliesFit
+pub mod BegunFit
 pub mod DeliveredFit
 pub mod Instances
 pub mod NodesNumbered

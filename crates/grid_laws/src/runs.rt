@@ -6,6 +6,7 @@ ghost use Rattle.grid_model.specs.Histories.{after};
 ghost use Rattle.grid_model.specs.Runs.{IsRun, Lawful};
 ghost use Rattle.grid_model.specs.Facts.{
   AbortsFinal,
+  BeginsFit,
   DecisionsRest,
   DeliveredFit,
   Facts,
@@ -72,6 +73,12 @@ pub fn law_identifiers()
 /// Each message that a run delivers is fit where it is got.
 pub fn law_fit()
     ensures { (d : DocumentData) (h : List Act) → IsOne d → IsRun d d.items h → DeliveredFit d h }
+{}
+
+/// Each transaction that begins in a run is fit to begin: its home is the node, and its number is not at
+/// the desk there.
+pub fn law_begun_fit()
+    ensures { (d : DocumentData) (h : List Act) → IsRun d d.items h → BeginsFit d (after [] h) }
 {}
 
 /// The facts on which one copy rests hold of every run, stops and restarts included.

@@ -6,11 +6,9 @@ use Rattle.score_base.specs.declared.ids.TxId.{TxId}
 use Rattle.score_base.specs.declared.ids.NodeId.{NodeId}
 use Rattle.score_base.specs.declared.ids.Ident.{Ident}
 use Rattle.score_base.specs.declared.causes.Ballot.TheVariants as ballot
-use Rattle.score_base.specs.declared.records.Record.{Record}
 use Rattle.script_lang.specs.Scripts.{ScriptData}
 use Rattle.script_lang.specs.Reads.{keys_of}
 use Rattle.placement.specs.Places.{parts, is_among}
-use Rattle.placement.specs.Clusters.{ClusterData}
 use Rattle.grid_model.specs.declared.acts.Act.{Act}
 use Rattle.grid_model.specs.declared.acts.Act.TheVariants as act
 use Rattle.grid_model.specs.declared.messages.Envelope.{Envelope}
@@ -22,11 +20,11 @@ use Rattle.grid_model.specs.Histories.{sent, sent_at}
 use Rattle.journal_words.specs.Journals.{Decision, decision, is_closed, undone}
 use Rattle.grid_model.specs.Nodes.{Node, node, script_of, parts_of, is_home_in}
 use Rattle.grid_model.specs.Advances.{parts_now}
-use Rattle.grid_model.specs.Stories.{Decided, open_phase, is_collecting, is_part, story, heard, heard_at, if_told, phase_by, phase_at, is_small_node, is_fit_ballot, is_counted_vote, with_vote, with_node, with_ack, progressed}
+use Rattle.grid_model.specs.Stories.{Decided, open_phase, story, heard, heard_at, if_told, phase_by, phase_at, is_small_node, is_counted_vote, with_vote, with_node, with_ack, progressed}
 use Rattle.script_runs.specs.Waits.{waiting}
-use Rattle.grid_model.specs.Views.{Stage, Open, open_at, acks_by, acks_at, view, stage_by, open_stage}
-use Rattle.grid_model.specs.Fitness.{is_part_at}
-use Rattle.grid_model.specs.NextViews.{changed_open, is_collects, is_commits, heard_view, OwnDecisions, is_running}
+use Rattle.grid_model.specs.Views.{Stage, Open, Participant, participant_of, open_at, acks_by, acks_at, view, stage_by, open_stage}
+use Rattle.grid_model.specs.Fitness.{counts_vote, counts_ack}
+use Rattle.grid_model.specs.NextViews.{changed_open, heard_view, OwnDecisions, is_running}
 use Rattle.grid_model.proofs.Undecided.{script-number}
 use Rattle.grid_model.proofs.ViewSteps.{same-view, entry, entry-decided, here, acks-told}
 
@@ -41,42 +39,25 @@ open-phase : (s : ScriptData) (closed : Bool) (y : Option Decision) (o : Option 
 open-phase s closed (Some y) o q is = grind (arith, entry-decided s closed y o)
 open-phase s closed None o q is = (grind arith, grind arith, refl)
 
-and-true : (b : Bool) → b ≡ (b && true)
-and-true true = refl
-and-true false = refl
-
-and-false : (b : Bool) → false ≡ (b && false)
-and-false true = refl
-and-false false = refl
-
--- a yes counts where its transaction collects
-counts-same : (c : ClusterData) (q : Open) (acks : List NodeId) (r : List Record) (next : Ident) (x : NodeId) (p : Ident) →
-    is_counted_vote (parts_now c q) (open_phase (waiting q.script.ops q.progress.values)) r next x p
-    ≡ ((is_small_node r next && (is_fit_ballot (ballot.Yes p) && is_part_at c (open_stage q (waiting q.script.ops q.progress.values)) x)) && is_collects (open_stage q (waiting q.script.ops q.progress.values)))
-counts-same c q acks r next x p = go (waiting q.script.ops q.progress.values) (is_small_node r next) (is_fit_ballot (ballot.Yes p))
-  where
-    go : (w : Option ℕ) (small fit : Bool) → (is_collecting (open_phase w) && (small && (fit && is_part (parts_now c q) (open_phase w) x))) ≡ ((small && (fit && is_part_at c (open_stage q w) x)) && is_collects (open_stage q w))
-    go (Some j) small fit = and-false (small && (fit && true))
-    go None small fit = and-true (small && (fit && is_among x (parts_now c q)))
+-- the phase of what stands at the desk is that of its stage
+counts-same : (p : Participant) (q : Open) (x : NodeId) (proposal : Ident) (w : Option ℕ) → is_counted_vote (parts_now p.cluster q) (open_phase w) p.journal p.next x proposal ≡ counts_vote p (open_stage q w) x proposal
+counts-same p q x proposal None = refl
+counts-same p q x proposal (Some j) = refl
 
 -- the yes of x counts in a story where it counts at the desk
-vote-entry : (c : ClusterData) (s : ScriptData) (closed : Bool) (y : Option Decision) (o : Option Story) (acks : List NodeId) (told : Bool) (x : NodeId) (p : Ident) (next : Ident) (r : List Record) →
-    entry s closed y (if_told (told && is_counted_vote (parts c.places (keys_of s.ops)) (phase_by s.ops o closed y) r next x p) (progressed (with_vote x p)) o)
-    ≡ (if told && ((is_small_node r next && (is_fit_ballot (ballot.Yes p) && is_part_at c (stage_by (if closed then None else y) (entry s closed y o) acks) x)) && is_collects (stage_by (if closed then None else y) (entry s closed y o) acks))
-    then changed_open (with_vote x p) (entry s closed y o)
-    else entry s closed y o)
-vote-entry c s closed y o acks told x p next r = vote-taken s closed y o _ x p ∙ go (entry s closed y o) refl
+vote-entry : (k : Participant) (s : ScriptData) (closed : Bool) (y : Option Decision) (o : Option Story) (acks : List NodeId) (told : Bool) (x : NodeId) (p : Ident) →
+    entry s closed y (if_told (told && is_counted_vote (parts k.cluster.places (keys_of s.ops)) (phase_by s.ops o closed y) k.journal k.next x p) (progressed (with_vote x p)) o)
+    ≡ (if told && counts_vote k (stage_by (if closed then None else y) (entry s closed y o) acks) x p then changed_open (with_vote x p) (entry s closed y o) else entry s closed y o)
+vote-entry k s closed y o acks told x p = vote-taken s closed y o _ x p ∙ go (entry s closed y o) refl
   where
     go : (en : Option Open) → entry s closed y o ≡ en →
-        (if told && is_counted_vote (parts c.places (keys_of s.ops)) (phase_by s.ops o closed y) r next x p then changed_open (with_vote x p) en else en)
-        ≡ (if told && ((is_small_node r next && (is_fit_ballot (ballot.Yes p) && is_part_at c (stage_by (if closed then None else y) en acks) x)) && is_collects (stage_by (if closed then None else y) en acks))
-        then changed_open (with_vote x p) en
-        else en)
+        (if told && is_counted_vote (parts k.cluster.places (keys_of s.ops)) (phase_by s.ops o closed y) k.journal k.next x p then changed_open (with_vote x p) en else en)
+        ≡ (if told && counts_vote k (stage_by (if closed then None else y) en acks) x p then changed_open (with_vote x p) en else en)
     go None is = grind arith
     go (Some q) is =
         let known = open-phase s closed y o q is in
         let none : (if closed then None else y) ≡ None = rw known.2 (grind arith) in
-        rw (known.0, none, ← known.1, counts-same c q acks r next x p) refl
+        rw (known.0, none, ← known.1, counts-same k q x p (waiting q.script.ops q.progress.values)) refl
 
 -- an acknowledgement leaves the desk
 ack-entry : (s : ScriptData) (closed : Bool) (y : Option Decision) (o : Option Story) (b : Bool) (x : NodeId) → entry s closed y (if_told b (with_ack x) o) ≡ entry s closed y o
@@ -97,14 +78,14 @@ same-if false x = refl
 
 vote-home : (d : DocumentData) (past : List Act) (x : NodeId) (u : TxId) (p : Ident) (s : ScriptData) (o : Option Story) →
     open_at s.home (node d past s.home) (Some s) (heard_at d past (Some s) (Some (letter s.home x (message.Vote u (ballot.Yes p)))) o)
-    ≡ (if (u == s.number) && ((is_small_node (node d past s.home).journal (node d past s.home).next && (is_fit_ballot (ballot.Yes p) && is_part_at d.cluster (at_stage s.home (node d past s.home) s.number (Some s) o) x)) && is_collects (at_stage s.home (node d past s.home) s.number (Some s) o))
+    ≡ (if (u == s.number) && counts_vote (participant_of d.cluster (node d past s.home)) (at_stage s.home (node d past s.home) s.number (Some s) o) x p
     then changed_open (with_vote x p) (open_at s.home (node d past s.home) (Some s) o)
     else open_at s.home (node d past s.home) (Some s) o)
-vote-home d past x u p s o = rw (here s.home) (vote-entry d.cluster s (is_closed s.number (node d past s.home).journal) (decision s.number (node d past s.home).journal) o (if is_some (undone s.number (node d past s.home).journal) then acks_by o else []) (u == s.number) x p (node d past s.home).next (node d past s.home).journal)
+vote-home d past x u p s o = rw (here s.home) (vote-entry (participant_of d.cluster (node d past s.home)) s (is_closed s.number (node d past s.home).journal) (decision s.number (node d past s.home).journal) o (if is_some (undone s.number (node d past s.home).journal) then acks_by o else []) (u == s.number) x p)
 
 vote-desk : (d : DocumentData) (past : List Act) (n x : NodeId) (u t : TxId) (p : Ident) (so : Option ScriptData) (o : Option Story) → ((s : ScriptData) → so ≡ Some s → s.number ≡ t) →
     open_at n (node d past n) so (heard_at d past so (Some (letter n x (message.Vote u (ballot.Yes p)))) o)
-    ≡ (if (u == t) && ((is_small_node (node d past n).journal (node d past n).next && (is_fit_ballot (ballot.Yes p) && is_part_at d.cluster (at_stage n (node d past n) t so o) x)) && is_collects (at_stage n (node d past n) t so o))
+    ≡ (if (u == t) && counts_vote (participant_of d.cluster (node d past n)) (at_stage n (node d past n) t so o) x p
     then changed_open (with_vote x p) (open_at n (node d past n) so o)
     else open_at n (node d past n) so o)
 vote-desk d past n x u t p None o number = same-if _ None
@@ -136,7 +117,7 @@ vote-acks d past n x u t p (Some s) o = go (n == s.home)
     go true = acks-told n (node d past n) t (Some s) o _ (progressed (with_vote x p)) (λ z. refl)
     go false = refl
 
-ack-counted : (told b : Bool) (x : NodeId) (z : Story) → acks_by (if_told (told && b) (with_ack x) (Some z)) ≡ (if told && (b && true) then with_node x z.acks else z.acks)
+ack-counted : (told b : Bool) (x : NodeId) (z : Story) → acks_by (if_told (told && b) (with_ack x) (Some z)) ≡ (if told && b then with_node x z.acks else z.acks)
 ack-counted false b x z = refl
 ack-counted true false x z = refl
 ack-counted true true x z = refl
@@ -151,7 +132,7 @@ decided-phase s z h y kept is = let known = undone-decided (is_closed s.number h
 
 ack-home : (d : DocumentData) (past : List Act) (x : NodeId) (u : TxId) (s : ScriptData) (z : Story) (y : Decision) → z.lost ≡ false → undone s.number (node d past s.home).journal ≡ Some y →
     acks_at s.home (node d past s.home) s.number (Some s) (heard_at d past (Some s) (Some (letter s.home x (message.Ack u))) (Some z))
-    ≡ (if (u == s.number) && ((is_small_node (node d past s.home).journal (node d past s.home).next && is_part_at d.cluster (at_stage s.home (node d past s.home) s.number (Some s) (Some z)) x) && is_commits (at_stage s.home (node d past s.home) s.number (Some s) (Some z)))
+    ≡ (if (u == s.number) && counts_ack (participant_of d.cluster (node d past s.home)) (at_stage s.home (node d past s.home) s.number (Some s) (Some z)) x
     then with_node x (acks_at s.home (node d past s.home) s.number (Some s) (Some z))
     else acks_at s.home (node d past s.home) s.number (Some s) (Some z))
 ack-home d past x u s z y kept is = rw (here s.home, is, decided-phase s z (node d past s.home) y kept is) (ack-counted (u == s.number) (is_small_node (node d past s.home).journal (node d past s.home).next && is_among x y.parts) x z)
@@ -160,32 +141,31 @@ ack-home d past x u s z y kept is = rw (here s.home, is, decided-phase s z (node
 no-decision : (n : NodeId) (h : Node) (t : TxId) (so : Option ScriptData) (o : Option Story) → undone t h.journal ≡ None → acks_at n h t so o ≡ []
 no-decision n h t so o none = grind arith
 
-no-commit : (en : Option Open) (acks : List NodeId) → is_commits (stage_by None en acks) ≡ false
-no-commit None acks = refl
-no-commit (Some q) acks = go (waiting q.script.ops q.progress.values)
+no-commit : (p : Participant) (en : Option Open) (acks : List NodeId) (x : NodeId) → counts_ack p (stage_by None en acks) x ≡ false
+no-commit p None acks x = refl
+no-commit p (Some q) acks x = go (waiting q.script.ops q.progress.values)
   where
-    go : (w : Option ℕ) → is_commits (open_stage q w) ≡ false
+    go : (w : Option ℕ) → counts_ack p (open_stage q w) x ≡ false
     go None = refl
     go (Some j) = refl
 
-if-false : {A : Type 0} (a b : Bool) (x y : A) → y ≡ (if a && (b && false) then x else y)
-if-false true true x y = refl
-if-false true false x y = refl
-if-false false b x y = refl
+if-false : {A : Type 0} (a : Bool) (x y : A) → y ≡ (if a && false then x else y)
+if-false true x y = refl
+if-false false x y = refl
 
 ack-acks : (d : DocumentData) (past : List Act) (n x : NodeId) (u t : TxId) (so : Option ScriptData) (o : Option Story) → ((s : ScriptData) → so ≡ Some s → s.number ≡ t) → IsTrue (is_none (undone t (node d past n).journal) || (is_home_in so n && is_running o)) →
     acks_at n (node d past n) t so (heard_at d past so (Some (letter n x (message.Ack u))) o)
-    ≡ (if (u == t) && ((is_small_node (node d past n).journal (node d past n).next && is_part_at d.cluster (at_stage n (node d past n) t so o) x) && is_commits (at_stage n (node d past n) t so o))
+    ≡ (if (u == t) && counts_ack (participant_of d.cluster (node d past n)) (at_stage n (node d past n) t so o) x
     then with_node x (acks_at n (node d past n) t so o)
     else acks_at n (node d past n) t so o)
 ack-acks d past n x u t so o number own = go (undone t (node d past n).journal) refl so o number own
   where
     go : (w : Option Decision) → undone t (node d past n).journal ≡ w → (so : Option ScriptData) (o : Option Story) → ((s : ScriptData) → so ≡ Some s → s.number ≡ t) → IsTrue (is_none w || (is_home_in so n && is_running o)) →
         acks_at n (node d past n) t so (heard_at d past so (Some (letter n x (message.Ack u))) o)
-        ≡ (if (u == t) && ((is_small_node (node d past n).journal (node d past n).next && is_part_at d.cluster (at_stage n (node d past n) t so o) x) && is_commits (at_stage n (node d past n) t so o))
+        ≡ (if (u == t) && counts_ack (participant_of d.cluster (node d past n)) (at_stage n (node d past n) t so o) x
         then with_node x (acks_at n (node d past n) t so o)
         else acks_at n (node d past n) t so o)
-    go None is so o number own = rw (is, no-decision n (node d past n) t so (heard_at d past so (Some (letter n x (message.Ack u))) o) is, no-decision n (node d past n) t so o is, no-commit (open_at n (node d past n) so o) []) (if-false (u == t) _ _ [])
+    go None is so o number own = rw (is, no-decision n (node d past n) t so (heard_at d past so (Some (letter n x (message.Ack u))) o) is, no-decision n (node d past n) t so o is, no-commit (participant_of d.cluster (node d past n)) (open_at n (node d past n) so o) [] x) (if-false (u == t) _ [])
     go (Some y) is None o number own = grind arith
     go (Some y) is (Some s) None number own = grind (arith, nat_tests)
     go (Some y) is (Some s) (Some z) number own =
@@ -197,7 +177,7 @@ ack-acks d past n x u t so o number own = go (undone t (node d past n).journal) 
 -- ---- the view
 
 -- the view of n behind a message from x
-pub step-got : (d : DocumentData) (past : List Act) (n x : NodeId) (m : ℕ) (said : Message) → sent_at m (sent past) ≡ Some (letter n x said) → OwnDecisions d past n → view d (act.Got m ∷ past) n ≡ heard_view n (view d past n) x said
+pub step-got : (d : DocumentData) (past : List Act) (n x : NodeId) (m : ℕ) (said : Message) → sent_at m (sent past) ≡ Some (letter n x said) → OwnDecisions d past n → view d (act.Got m ∷ past) n ≡ heard_view (view d past n) x said
 step-got d past n x m (message.Vote u (ballot.Yes p)) is own = same-view _ _ refl refl refl refl
     (λ t. rw is (vote-desk d past n x u t p (script_of t d.scripts) (story d past t) (λ s at. script-number t d.scripts s at)))
     (λ t. rw is (vote-acks d past n x u t p (script_of t d.scripts) (story d past t)))

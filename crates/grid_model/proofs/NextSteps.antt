@@ -1,5 +1,6 @@
 -- The view of a node behind an event is the next view: the outs of each row are those that it takes.
-use Rattle.std.proofs.Common.{ℕ, ◌+◌, max, Bool, true, false, ◌&&◌, ◌||◌, ◌==◌, nat_lt, IsTrue, filter, slice_get, List, [], ◌∷◌, ◌++◌, Option, None, Some, is_some, is_none, ◌≡◌, refl, ap, subst, sym, ◌∙◌, arith, ◌⊎◌, inl, inr, if◌then◌else◌}
+use Rattle.std.proofs.Common.{ℕ, ◌+◌, max, Bool, true, false, ◌&&◌, ◌||◌, ◌==◌, nat_lt, IsTrue, filter, slice_get, List, [], ◌∷◌, ◌++◌, Option, None, Some, is_some, is_none, ◌≡◌, refl, ap, subst, sym, ◌∙◌, arith, ◌⊎◌, inl, inr, if◌then◌else◌, ◌-◌}
+use Rattle.std.proofs.lemmas.Bool.Decides.{nat_tests}
 use Rattle.score_base.specs.declared.ids.TxId.{TxId}
 use Rattle.score_base.specs.declared.ids.NodeId.{NodeId}
 use Rattle.score_base.specs.declared.ids.Ident.{Ident}
@@ -17,6 +18,7 @@ use Rattle.placement.specs.Places.{preferred, others, is_among}
 use Rattle.placement.specs.Clusters.{ClusterData}
 use Rattle.grid_model.specs.declared.acts.Act.{Act}
 use Rattle.grid_model.specs.declared.acts.Act.TheVariants as act
+use Rattle.grid_model.specs.declared.events.Event.{Event}
 use Rattle.grid_model.specs.declared.events.Event.TheVariants as event
 use Rattle.grid_model.specs.declared.events.Out.{Out}
 use Rattle.grid_model.specs.declared.events.Out.TheVariants as out
@@ -34,10 +36,10 @@ use Rattle.script_runs.specs.Waits.{waiting}
 use Rattle.grid_model.specs.Views.{View, Open, Stage, Apart, Reads, Collects, Commits, view, stage, stage_by, open_stage, participant}
 use Rattle.grid_model.specs.Advances.{advance, advance_end, request_of, to_node, prepares, prepare_for, date_by, owns, parts_now}
 use Rattle.script_runs.specs.Walks.{op_at, own_reads, unread}
-use Rattle.grid_model.specs.Fitness.{is_fit, is_fit_at, tx_in}
-use Rattle.grid_model.specs.Rows.{release, served, ceiling_of, ceilings, raises, answered, read_outs, version_for, dated, reply_outs, prepared_outs, tells, have_voted, decides, greatest_vote, ballot_outs, vote_outs, are_all_among, ack_outs, asked_outs, commit_outs, abort_outs, tell_outs, freed_by, message_outs, answer, begin_outs, begun_at, retry_outs, not_voted, not_among, ask_outs, if_pending}
+use Rattle.grid_model.specs.Fitness.{is_fit, is_fit_at, tx_in, counts_vote}
+use Rattle.grid_model.specs.Rows.{release, served, ceiling_of, ceilings, raises, answered, read_outs, version_for, dated, reply_outs, prepared_outs, tells, have_voted, decides, greatest_vote, ballot_outs, vote_outs, are_all_among, ack_outs, asked_outs, commit_outs, abort_outs, tell_outs, freed_by, message_outs, answer, begin_outs, begun_at, retry_outs, not_voted, not_among, ask_outs, if_pending, outs_of}
 use Rattle.grid_model.specs.Schedules.{numbered}
-use Rattle.grid_model.specs.NextViews.{is_running, OwnDecisions, behind, behind_all, heard_view, next_view, changed_open, is_collects, desk_heard}
+use Rattle.grid_model.specs.NextViews.{is_running, OwnDecisions, Comes, brought, behind, behind_all, heard_view, next_view, changed_open, desk_heard}
 use Rattle.grid_model.proofs.ViewSteps.{here, step-began, step-decided}
 use Rattle.grid_model.proofs.HeardViews.{letter, step-got}
 use Rattle.grid_model.proofs.PlainOuts.{are_plain, plain-view, plain-append, plain-sends, plain-owns}
@@ -222,27 +224,27 @@ answer-given d past n x said own = go (is_fit_at n (participant (view d past n))
 
 -- ---- the events
 
-heard-open : (n : NodeId) (v : View) (x : NodeId) (said : Message) (t : TxId) (o : Open) → v.desk t ≡ Some o → (p : Open) × (desk_heard n v x said t ≡ Some p)
-heard-open n v x (message.Vote u (ballot.Yes p)) t o is = go ((u == t) && (is_fit n v x (message.Vote t (ballot.Yes p)) && is_collects (stage v t)))
+heard-open : (v : View) (x : NodeId) (said : Message) (t : TxId) (o : Open) → v.desk t ≡ Some o → (p : Open) × (desk_heard v x said t ≡ Some p)
+heard-open v x (message.Vote u (ballot.Yes p)) t o is = go ((u == t) && counts_vote (participant v) (stage v t) x p)
   where
     go : (b : Bool) → (q : Open) × ((if b then changed_open (with_vote x p) (v.desk t) else v.desk t) ≡ Some q)
     go true = (record o { progress = with_vote x p o.progress }, rw is refl)
     go false = (o, is)
-heard-open n v x said t o is = (o, is)
+heard-open v x said t o is = (o, is)
 
 never : {A : Type 0} → IsTrue false → A
 never is = grind arith
 
 decided-view : (d : DocumentData) (past : List Act) (n x : NodeId) (m k : ℕ) (said : Message) → sent_at m (sent past) ≡ Some (letter n x said) → OwnDecisions d past n → (t : TxId) (f : Ident) (rest : List Out) (o : Open) → (view d past n).desk t ≡ Some o → IsTrue (are_plain d n true rest) → view d (after (act.Got m ∷ past) (numbered k n (out.Act (act.Decided t f) ∷ rest))) n ≡ next_view n (view d past n) (event.Deliver x said) (out.Act (act.Decided t f) ∷ rest)
 decided-view d past n x m k said is own t f rest o desk plain =
-    let heard : view d (act.Got m ∷ past) n ≡ heard_view n (view d past n) x said = step-got d past n x m said is own in
-    let open_now = heard-open n (view d past n) x said t o desk in
+    let heard : view d (act.Got m ∷ past) n ≡ heard_view (view d past n) x said = step-got d past n x m said is own in
+    let open_now = heard-open (view d past n) x said t o desk in
     let at : (view d (act.Got m ∷ past) n).desk t ≡ Some open_now.0 = ap (λ w. w.desk t) heard ∙ open_now.1 in
     plain-view d (act.Decided t f ∷ act.Got m ∷ past) n true (Some (letter n x said)) None k rest plain (λ given. is)
     ∙ ap (λ w. behind_all (Some (letter n x said)) None w rest) (step-decided d (act.Got m ∷ past) n t f open_now.0 (Some (letter n x said)) None at ∙ ap (λ w. behind (Some (letter n x said)) None w (out.Act (act.Decided t f))) heard)
 
 -- a message is delivered
-pub deliver-view : (d : DocumentData) (past : List Act) (n x : NodeId) (m k : ℕ) (said : Message) → sent_at m (sent past) ≡ Some (letter n x said) → OwnDecisions d past n → view d (after (act.Got m ∷ past) (numbered k n (answer n (view d past n) x said))) n ≡ next_view n (view d past n) (event.Deliver x said) (answer n (view d past n) x said)
+deliver-view : (d : DocumentData) (past : List Act) (n x : NodeId) (m k : ℕ) (said : Message) → sent_at m (sent past) ≡ Some (letter n x said) → OwnDecisions d past n → view d (after (act.Got m ∷ past) (numbered k n (answer n (view d past n) x said))) n ≡ next_view n (view d past n) (event.Deliver x said) (answer n (view d past n) x said)
 deliver-view d past n x m k said is own = elim (answer-given d past n x said own) [
   | inl plain ↦ (plain-view d (act.Got m ∷ past) n true (Some (letter n x said)) None k (answer n (view d past n) x said) plain (λ given. is)
       ∙ ap (λ w. behind_all (Some (letter n x said)) None w (answer n (view d past n) x said)) (step-got d past n x m said is own))
@@ -250,13 +252,13 @@ deliver-view d past n x m k said is own = elim (answer-given d past n x said own
 ]
 
 -- a transaction begins
-pub begin-view : (d : DocumentData) (past : List Act) (n : NodeId) (k : ℕ) (s : ScriptData) → script_of s.number d.scripts ≡ Some s → s.home ≡ n → view d (after past (numbered k n (begin_outs n (participant (view d past n)) s))) n ≡ next_view n (view d past n) (event.Begin s) (begin_outs n (participant (view d past n)) s)
+begin-view : (d : DocumentData) (past : List Act) (n : NodeId) (k : ℕ) (s : ScriptData) → script_of s.number d.scripts ≡ Some s → s.home ≡ n → view d (after past (numbered k n (begin_outs n (participant (view d past n)) s))) n ≡ next_view n (view d past n) (event.Begin s) (begin_outs n (participant (view d past n)) s)
 begin-view d past n k s script home =
     plain-view d (act.Began s.number n (commit_id (journal d past n)) ∷ past) n false None (Some s) k (advance d.cluster (begun_at s (commit_id (journal d past n))) 0) (advance-plain d n false d.cluster (begun_at s (commit_id (journal d past n))) 0) (λ is. never is)
     ∙ ap (λ w. behind_all None (Some s) w (advance d.cluster (begun_at s (commit_id (journal d past n))) 0)) (step-began d past n n s (commit_id (journal d past n)) None script home)
 
 -- a home sends again
-pub retry-view : (d : DocumentData) (past : List Act) (n : NodeId) (k : ℕ) (t : TxId) → view d (after past (numbered k n (retry_outs d.cluster t (stage (view d past n) t)))) n ≡ next_view n (view d past n) (event.Retry t) (retry_outs d.cluster t (stage (view d past n) t))
+retry-view : (d : DocumentData) (past : List Act) (n : NodeId) (k : ℕ) (t : TxId) → view d (after past (numbered k n (retry_outs d.cluster t (stage (view d past n) t)))) n ≡ next_view n (view d past n) (event.Retry t) (retry_outs d.cluster t (stage (view d past n) t))
 retry-view d past n k t = plain-view d past n false None None k (retry_outs d.cluster t (stage (view d past n) t)) (retry-plain d n d.cluster t (stage (view d past n) t)) (λ is. never is)
 
 pub asks-plain : (d : DocumentData) (n : NodeId) (v : View) (t : TxId) → IsTrue (are_plain d n false (ask_outs (participant v) t))
@@ -267,5 +269,22 @@ asks-plain d n v t = go (is_some (pending t v.journal))
     go false = refl
 
 -- a participant asks
-pub ask-view : (d : DocumentData) (past : List Act) (n : NodeId) (k : ℕ) (t : TxId) → view d (after past (numbered k n (ask_outs (participant (view d past n)) t))) n ≡ next_view n (view d past n) (event.Ask t) (ask_outs (participant (view d past n)) t)
+ask-view : (d : DocumentData) (past : List Act) (n : NodeId) (k : ℕ) (t : TxId) → view d (after past (numbered k n (ask_outs (participant (view d past n)) t))) n ≡ next_view n (view d past n) (event.Ask t) (ask_outs (participant (view d past n)) t)
 ask-view d past n k t = plain-view d past n false None None k (ask_outs (participant (view d past n)) t) (asks-plain d n (view d past n) t) (λ is. never is)
+
+-- ---- an event
+
+-- an event comes
+pub event-view : (d : DocumentData) (past : List Act) (n m k : ℕ) (e : Event) → Comes d past n m e → view d (after (brought m e past) (numbered k n (outs_of n (view d past n) e))) n ≡ next_view n (view d past n) e (outs_of n (view d past n) e)
+event-view d past n m k (event.Begin s) script = go (s.home == n) refl (is_none ((view d past n).desk s.number))
+  where
+    outs : List Out
+    outs = begin_outs n (participant (view d past n)) s
+
+    go : (here : Bool) → (s.home == n) ≡ here → (new : Bool) → view d (after past (numbered k n (if here && new then outs else []))) n ≡ next_view n (view d past n) (event.Begin s) (if here && new then outs else [])
+    go true is true = let home : s.home ≡ n = grind (arith, nat_tests) in begin-view d past n k s script home
+    go true is false = refl
+    go false is new = refl
+event-view d past n m k (event.Deliver x said) (is, own) = deliver-view d past n x m k said is own
+event-view d past n m k (event.Retry t) comes = retry-view d past n k t
+event-view d past n m k (event.Ask t) comes = ask-view d past n k t

@@ -12,6 +12,7 @@ use Rattle.score_base.specs.declared.causes.Cause.TheVariants as cause
 use Rattle.score_base.specs.declared.causes.Outcome.{Outcome}
 use Rattle.score_base.specs.declared.causes.Outcome.TheVariants as outcome
 use Rattle.score_base.specs.declared.records.Record.{Record}
+use Rattle.script_lang.specs.Scripts.{ScriptData}
 use Rattle.placement.specs.Places.{is_among}
 use Rattle.grid_model.specs.declared.acts.Act.{Act}
 use Rattle.grid_model.specs.declared.acts.Act.TheVariants as act
@@ -26,7 +27,7 @@ use Rattle.grid_model.specs.Histories.{after, sent, sent_at}
 use Rattle.journal_words.specs.Journals.{Prepared, prepared_of, floor, is_clear, is_locking, commit_id, has_prepared, has_decided, has_commit, are_apart, all_fit}
 use Rattle.grid_model.specs.Nodes.{journal, is_home, script_of, parts_in, node, found}
 use Rattle.grid_model.specs.Views.{view}
-use Rattle.grid_model.specs.Fitness.{is_fit, date_ident}
+use Rattle.grid_model.specs.Fitness.{is_fit, is_fit_begin, date_ident}
 use Rattle.grid_model.specs.Acts.{EachAct, EachBehind, EachSent, has_refused}
 use Rattle.grid_model.specs.Copies.{snapshot}
 
@@ -178,6 +179,20 @@ GotIsFit d a past = Unit {0}
 -- each message that was got was fit where it was got
 abbrev pub AllFit : DocumentData → List Act → Type 0
 AllFit d past = EachBehind (GotIsFit d) past
+
+-- there is a script, and its begin is fit at n behind this past
+abbrev pub IsFitBegin : DocumentData → List Act → NodeId → Option ScriptData → Type 0
+IsFitBegin d past n None = ⊥
+IsFitBegin d past n (Some s) = IsTrue (is_fit_begin n (view d past n) s)
+
+-- an act that begins a transaction is a fit begin
+abbrev pub BeganIsFit : DocumentData → Act → List Act → Type 0
+BeganIsFit d (act.Began t n sid0) past = IsFitBegin d past n (script_of t d.scripts)
+BeganIsFit d a past = Unit {0}
+
+-- each transaction that began was fit to begin where it began
+abbrev pub BeginsFit : DocumentData → List Act → Type 0
+BeginsFit d past = EachBehind (BeganIsFit d) past
 
 -- ---- reads that are never held, and identifiers
 

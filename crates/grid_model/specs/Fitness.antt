@@ -1,5 +1,5 @@
 -- Which messages are fit at a node. A message that is not fit has no act but its Got.
-use Rattle.std.specs.Prelude.{◌+◌, Bool, true, ◌&&◌, ◌||◌, ◌==◌, not, nat_lt, nat_le, List, [], ◌∷◌, length, Option, Some, None}
+use Rattle.std.specs.Prelude.{◌+◌, Bool, true, ◌&&◌, ◌||◌, ◌==◌, not, nat_lt, nat_le, List, [], ◌∷◌, length, Option, Some, None, is_none}
 use Rattle.score_base.specs.declared.ids.NodeId.{NodeId}
 use Rattle.score_base.specs.declared.ids.TxId.{TxId}
 use Rattle.score_base.specs.declared.ids.Ident.{Ident}
@@ -7,6 +7,7 @@ use Rattle.score_base.specs.declared.causes.Date.{Date}
 use Rattle.score_base.specs.declared.causes.Date.TheVariants as date
 use Rattle.score_base.specs.declared.causes.Outcome.{Outcome}
 use Rattle.score_base.specs.declared.causes.Outcome.TheVariants as outcome
+use Rattle.script_lang.specs.Scripts.{ScriptData}
 use Rattle.placement.specs.Places.{is_among, holds}
 use Rattle.placement.specs.Clusters.{ClusterData}
 use Rattle.grid_model.specs.declared.messages.Message.{Message}
@@ -15,8 +16,8 @@ use Rattle.grid_model.specs.declared.messages.Prepare.{Prepare}
 use Rattle.grid_model.specs.declared.messages.ReadReq.{ReadReq}
 use Rattle.grid_model.specs.declared.messages.ReadRep.{ReadRep}
 use Rattle.journal_words.specs.Journals.{are_own_keys, keys_of_writes, pending}
-use Rattle.grid_model.specs.Stories.{is_small, is_small_node, is_fit_ballot}
-use Rattle.grid_model.specs.Views.{Participant, View, participant, Stage, Reads, Collects, Commits, stage}
+use Rattle.grid_model.specs.Stories.{is_small, is_small_node, is_fit_ballot, is_part, is_counted_vote, is_counted_ack}
+use Rattle.grid_model.specs.Views.{Participant, View, participant, Stage, Reads, Collects, Commits, stage, phase_in}
 use Rattle.grid_model.specs.Advances.{parts_now}
 
 -- the number of a date
@@ -53,11 +54,22 @@ is_fit_prepare c n q =
     && (nat_le 1 (length q.reads + length q.writes) && (nat_le (length q.reads) 32 && (nat_le (length q.writes) 32
     && (are_own_keys c n q.reads && are_own_keys c n (keys_of_writes q.writes)))))))))
 
+-- the parts of a transaction that is collecting
+abbrev pub parts_asked : ClusterData → Stage → List NodeId
+parts_asked c (Collects x) = parts_now c x
+parts_asked c s = []
+
 -- a sender of votes and acknowledgements is a part, where the transaction is collecting or decided
 abbrev pub is_part_at : ClusterData → Stage → NodeId → Bool
-is_part_at c (Collects x) y = is_among y (parts_now c x)
-is_part_at c (Commits x acks) y = is_among y x.parts
-is_part_at c s y = true
+is_part_at c s y = is_part (parts_asked c s) (phase_in s) y
+
+-- a yes of x with this proposal counts where its transaction stands so
+abbrev pub counts_vote : Participant → Stage → NodeId → Ident → Bool
+counts_vote p s x proposal = is_counted_vote (parts_asked p.cluster s) (phase_in s) p.journal p.next x proposal
+
+-- an acknowledgement of x counts where its transaction stands so
+abbrev pub counts_ack : Participant → Stage → NodeId → Bool
+counts_ack p s x = is_counted_ack (parts_asked p.cluster s) (phase_in s) p.journal p.next x
 
 -- the identifier is at least this one, where there is one
 abbrev pub is_at_least : Option Ident → Ident → Bool
@@ -96,3 +108,7 @@ is_fit_at n p s x said = is_small_node p.journal p.next && is_fit_content n p s 
 -- the message is fit at n, which got it from x
 abbrev pub is_fit : NodeId → View → NodeId → Message → Bool
 is_fit n v x said = is_fit_at n (participant v) (stage v (tx_in said)) x said
+
+-- a begin is fit at n: n is its home, and its number is not at the desk
+abbrev pub is_fit_begin : NodeId → View → ScriptData → Bool
+is_fit_begin n v s = (s.home == n) && is_none (v.desk s.number)

@@ -1,5 +1,5 @@
 -- The view of a node behind an event: what the event and each out that the node gives leave of what it knows.
-use Rattle.std.specs.Prelude.{ℕ, max, Bool, true, false, ◌&&◌, ◌||◌, ◌==◌, not, IsTrue, List, [], ◌∷◌, ◌++◌, length, Option, Some, None, is_none, if◌then◌else◌}
+use Rattle.std.specs.Prelude.{◌≡◌, ℕ, max, Bool, false, ◌&&◌, ◌||◌, ◌==◌, not, IsTrue, List, [], ◌∷◌, length, Option, Some, None, is_none, if◌then◌else◌}
 use Rattle.score_base.specs.declared.ids.TxId.{TxId}
 use Rattle.score_base.specs.declared.ids.NodeId.{NodeId}
 use Rattle.score_base.specs.declared.ids.Ident.{Ident}
@@ -24,49 +24,34 @@ use Rattle.grid_model.specs.declared.stories.Progress.{Progress}
 use Rattle.grid_model.specs.declared.stories.Story.{Story}
 use Rattle.grid_model.specs.Documents.{DocumentData}
 use Rattle.journal_words.specs.Journals.{Decision, decision, undone}
-use Rattle.grid_model.specs.Nodes.{journal, is_home, prepared_by, held_by, said_by, is_request, written, learnt, with_held, without_read}
+use Rattle.grid_model.specs.Histories.{sent, sent_at}
+use Rattle.grid_model.specs.Nodes.{journal, is_home, script_of, prepared_by, held_by, said_by, is_request, written, learnt, with_held, without_read}
 use Rattle.grid_model.specs.Stories.{story, with_request, with_value, with_vote, with_node}
-use Rattle.grid_model.specs.Views.{View, Open, Stage, Collects, Commits, stage}
+use Rattle.grid_model.specs.Views.{View, Open, participant, stage}
 use Rattle.grid_model.specs.Advances.{parts_now}
-use Rattle.grid_model.specs.Fitness.{is_fit}
+use Rattle.grid_model.specs.Fitness.{counts_vote, counts_ack}
 use Rattle.grid_model.specs.Rows.{begun_at}
 
 -- ---- a message that is got
-
--- the transaction is collecting
-abbrev pub is_collects : Stage → Bool
-is_collects (Collects x) = true
-is_collects s = false
-
--- the transaction is decided
-abbrev pub is_commits : Stage → Bool
-is_commits (Commits y acks) = true
-is_commits s = false
 
 -- an open transaction that came further, where there is one
 abbrev pub changed_open : (Progress → Progress) → Option Open → Option Open
 changed_open f None = None
 changed_open f (Some x) = Some (record x { progress = f x.progress })
 
--- the desk behind a message: a fit yes counts where its transaction is collecting
-abbrev pub desk_heard : NodeId → View → NodeId → Message → TxId → Option Open
-desk_heard n v x (message.Vote u (ballot.Yes p)) t =
-    if (u == t) && (is_fit n v x (message.Vote t (ballot.Yes p)) && is_collects (stage v t))
-    then changed_open (with_vote x p) (v.desk t)
-    else v.desk t
-desk_heard n v x said t = v.desk t
+-- the desk behind a message: a yes that counts
+abbrev pub desk_heard : View → NodeId → Message → TxId → Option Open
+desk_heard v x (message.Vote u (ballot.Yes p)) t = if (u == t) && counts_vote (participant v) (stage v t) x p then changed_open (with_vote x p) (v.desk t) else v.desk t
+desk_heard v x said t = v.desk t
 
--- the acknowledgements behind a message: a fit one counts where its transaction is decided
-abbrev pub acks_heard : NodeId → View → NodeId → Message → TxId → List NodeId
-acks_heard n v x (message.Ack u) t =
-    if (u == t) && (is_fit n v x (message.Ack t) && is_commits (stage v t))
-    then with_node x (v.acks t)
-    else v.acks t
-acks_heard n v x said t = v.acks t
+-- the acknowledgements behind a message: one that counts
+abbrev pub acks_heard : View → NodeId → Message → TxId → List NodeId
+acks_heard v x (message.Ack u) t = if (u == t) && counts_ack (participant v) (stage v t) x then with_node x (v.acks t) else v.acks t
+acks_heard v x said t = v.acks t
 
--- the view of n behind a message from x, before n gives anything
-abbrev pub heard_view : NodeId → View → NodeId → Message → View
-heard_view n v x said = record v { desk = desk_heard n v x said; acks = acks_heard n v x said }
+-- the view behind a message from x, before the node gives anything
+abbrev pub heard_view : View → NodeId → Message → View
+heard_view v x said = record v { desk = desk_heard v x said; acks = acks_heard v x said }
 
 -- ---- what it rests on
 
@@ -82,6 +67,20 @@ is_own_decision d past n t = is_none (undone t (journal d past n)) || (is_home d
 -- each transaction that is decided and not closed in the journal of n is of home n, began, and was not lost
 abbrev pub OwnDecisions : DocumentData → List Act → NodeId → Type 0
 OwnDecisions d past n = (t : TxId) → IsTrue (is_own_decision d past n t)
+
+-- ---- an event
+
+-- an event may come to n: a script is one of the document; a message is the one that was sent as m, and
+-- the decisions of n are its own
+abbrev pub Comes : DocumentData → List Act → NodeId → ℕ → Event → Type 0
+Comes d past n m (event.Begin s) = script_of s.number d.scripts ≡ Some s
+Comes d past n m (event.Deliver x said) = (sent_at m (sent past) ≡ Some (record { from = x; to = n; message = said })) × OwnDecisions d past n
+Comes d past n m e = Unit {0}
+
+-- the past behind which n gives its outs: a message that is delivered is got first
+abbrev pub brought : ℕ → Event → List Act → List Act
+brought m (event.Deliver x said) past = act.Got m ∷ past
+brought m e past = past
 
 -- ---- an out
 
@@ -166,10 +165,10 @@ behind_all e s v [] = v
 behind_all e s v (o ∷ os) = behind_all e s (behind e s v o) os
 
 -- the view behind what an event brings, before n gives anything
-abbrev pub view_heard : NodeId → View → Event → View
-view_heard n v (event.Deliver x said) = heard_view n v x said
-view_heard n v e = v
+abbrev pub view_heard : View → Event → View
+view_heard v (event.Deliver x said) = heard_view v x said
+view_heard v e = v
 
 -- the view of n behind an event to which it gives these outs, all of whose records are kept
 abbrev pub next_view : NodeId → View → Event → List Out → View
-next_view n v e os = behind_all (envelope_of n e) (script_begun e) (view_heard n v e) os
+next_view n v e os = behind_all (envelope_of n e) (script_begun e) (view_heard v e) os

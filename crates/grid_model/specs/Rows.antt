@@ -20,6 +20,8 @@ use Rattle.script_lang.specs.Scripts.{ScriptData}
 use Rattle.placement.specs.Places.{is_among, others}
 use Rattle.placement.specs.Clusters.{ClusterData, init}
 use Rattle.grid_model.specs.declared.acts.Act.TheVariants as act
+use Rattle.grid_model.specs.declared.events.Event.{Event}
+use Rattle.grid_model.specs.declared.events.Event.TheVariants as event
 use Rattle.grid_model.specs.declared.events.Out.{Out}
 use Rattle.grid_model.specs.declared.events.Out.TheVariants as out
 use Rattle.grid_model.specs.declared.messages.Message.{Message}
@@ -34,7 +36,7 @@ use Rattle.journal_words.specs.Journals.{commit_id, floor, is_clear, version_at,
 use Rattle.grid_model.specs.Stories.{has_voted, at_begin, with_value}
 use Rattle.grid_model.specs.Views.{Participant, View, participant, Open, Stage, Apart, Reads, Collects, Commits, stage}
 use Rattle.grid_model.specs.Advances.{advance, request, prepares, parts_now, to_node}
-use Rattle.grid_model.specs.Fitness.{is_fit_at, tx_in}
+use Rattle.grid_model.specs.Fitness.{is_fit_at, is_fit_begin, tx_in}
 
 -- ---- reads
 
@@ -240,3 +242,12 @@ retry_outs c t Apart = []
 -- what n asks the home of t; nothing where t is not pending at n
 abbrev pub ask_outs : Participant → TxId → List Out
 ask_outs p t = if is_some (pending t p.journal) then to_node (home_of t p.journal) (message.Ask t) else []
+
+-- ---- an event
+
+-- what n gives at an event: nothing at a begin that is not fit
+abbrev pub outs_of : NodeId → View → Event → List Out
+outs_of n v (event.Begin s) = if is_fit_begin n v s then begin_outs n (participant v) s else []
+outs_of n v (event.Deliver x said) = answer n v x said
+outs_of n v (event.Retry t) = retry_outs v.cluster t (stage v t)
+outs_of n v (event.Ask t) = ask_outs (participant v) t

@@ -25,7 +25,7 @@ use Rattle.grid_model.specs.Stories.{is_open}
 use Rattle.grid_model.specs.Rows.{answer, begin_outs, retry_outs, ask_outs}
 use Rattle.grid_model.specs.Views.{participant, stage}
 use Rattle.grid_model.specs.Voids.{void_code, voided}
-use Rattle.grid_model.specs.States.{State, state_of, state_behind, view_in, phase_in}
+use Rattle.grid_model.specs.States.{State, state_of, state_behind, view_in, phase_on}
 
 -- ---- numbers and records
 
@@ -155,7 +155,7 @@ flag_of (Some x) false = flag.Gone
 -- the loss of a script's transaction, where it is an open one of home n
 abbrev pub lost_on : State → NodeId → Option ScriptData → List Act
 lost_on st n None = []
-lost_on st n (Some s) = if (s.home == n) && is_open (phase_in st s) then act.Lost s.number ∷ [] else []
+lost_on st n (Some s) = if (s.home == n) && is_open (phase_on st s) then act.Lost s.number ∷ [] else []
 
 -- the transactions of home n that are reading or collecting are lost, in rising number
 abbrev pub losses_on : DocumentData → State → NodeId → List Act

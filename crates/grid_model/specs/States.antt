@@ -45,8 +45,8 @@ abbrev pub view_in : DocumentData → State → NodeId → View
 view_in d st n = view_of d n (st.nodes n) st.stories
 
 -- the phase of a script's transaction
-abbrev pub phase_in : State → ScriptData → Phase
-phase_in st s = phase_at s (st.stories s.number) (st.nodes s.home)
+abbrev pub phase_on : State → ScriptData → Phase
+phase_on st s = phase_at s (st.stories s.number) (st.nodes s.home)
 
 -- ---- one act more
 

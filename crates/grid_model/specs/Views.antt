@@ -13,7 +13,7 @@ use Rattle.grid_model.specs.declared.stories.HeldRead.{HeldRead}
 use Rattle.grid_model.specs.Documents.{DocumentData}
 use Rattle.journal_words.specs.Journals.{Decision, undone}
 use Rattle.grid_model.specs.Nodes.{Node, node, script_of}
-use Rattle.grid_model.specs.Stories.{Phase, phase_at, is_open, story}
+use Rattle.grid_model.specs.Stories.{Phase, Unbegun, Decided, Reading, Collecting, phase_at, is_open, story}
 use Rattle.script_runs.specs.Waits.{waiting}
 
 -- what a home knows of a transaction that is reading or collecting
@@ -115,3 +115,10 @@ stage_at n h t s o = stage_by (undone t h.journal) (open_at n h s o) (acks_at n 
 -- where t stands: decided with these acknowledgements, reading an operation, collecting, or none of these
 abbrev pub stage : View → TxId → Stage
 stage v t = stage_by (undone t v.journal) (v.desk t) (v.acks t)
+
+-- the phase of a transaction that stands so; of the others none is known
+abbrev pub phase_in : Stage → Phase
+phase_in (Reads x j) = Reading j
+phase_in (Collects x) = Collecting
+phase_in (Commits y acks) = Decided y
+phase_in Apart = Unbegun

@@ -1,29 +1,22 @@
 //! How what a node knows, and the state of a run, follow from what was before.
-ghost use Rattle.std.specs.Prelude.{◌≡◌, ℕ, List, [], ◌∷◌, ◌++◌, Some};
+ghost use Rattle.std.specs.Prelude.{◌≡◌, ℕ, List, [], ◌∷◌, ◌++◌};
 ghost use Rattle.grid_model.specs.declared.acts.Act.{Act};
+ghost use Rattle.grid_model.specs.declared.events.Event.{Event};
+ghost use Rattle.grid_model.specs.declared.items.Item.{Item};
 ghost use Rattle.grid_model.specs.Documents.{DocumentData};
-ghost use Rattle.script_lang.specs.Scripts.{ScriptData};
-ghost use Rattle.grid_model.specs.declared.acts.Act.TheVariants as act;
-ghost use Rattle.grid_model.specs.declared.events.Event.TheVariants as event;
-ghost use Rattle.grid_model.specs.declared.messages.Message.{Message};
-ghost use Rattle.grid_model.specs.Histories.{after, sent, sent_at};
-ghost use Rattle.grid_model.specs.Nodes.{script_of};
-ghost use Rattle.grid_model.specs.Views.{participant, view, stage};
-ghost use Rattle.grid_model.specs.Rows.{answer, begin_outs, retry_outs, ask_outs};
+ghost use Rattle.grid_model.specs.Histories.{after};
+ghost use Rattle.grid_model.specs.Views.{view};
+ghost use Rattle.grid_model.specs.Rows.{outs_of};
 ghost use Rattle.grid_model.specs.Schedules.{Choice, numbered, row, row_on};
 ghost use Rattle.grid_model.specs.States.{state_of, state_behind, state_after};
-ghost use Rattle.grid_model.specs.NextViews.{OwnDecisions, next_view};
+ghost use Rattle.grid_model.specs.NextViews.{OwnDecisions, Comes, brought, next_view};
 ghost use Rattle.grid_model.specs.Runs.{IsRun};
-ghost use Rattle.grid_model.specs.declared.items.Item.{Item};
 
 /// The view of a node behind an event is its next view: it follows from the view before, the event and
-/// the outs. The message is one that was sent to the node, or the script is one of the node's own; each
+/// the outs. The message is one that was sent to the node, or the script is one of the document; each
 /// record is kept.
 pub fn law_next_view()
-    ensures begin { (d : DocumentData) (past : List Act) (n : ℕ) (k : ℕ) (s : ScriptData) → script_of s.number d.scripts ≡ Some s → s.home ≡ n → view d (after past (numbered k n (begin_outs n (participant (view d past n)) s))) n ≡ next_view n (view d past n) (event.Begin s) (begin_outs n (participant (view d past n)) s) }
-    ensures deliver { (d : DocumentData) (past : List Act) (n x : ℕ) (m k : ℕ) (said : Message) → sent_at m (sent past) ≡ Some (record { from = x; to = n; message = said }) → OwnDecisions d past n → view d (after (act.Got m ∷ past) (numbered k n (answer n (view d past n) x said))) n ≡ next_view n (view d past n) (event.Deliver x said) (answer n (view d past n) x said) }
-    ensures retry { (d : DocumentData) (past : List Act) (n : ℕ) (k : ℕ) (t : ℕ) → view d (after past (numbered k n (retry_outs d.cluster t (stage (view d past n) t)))) n ≡ next_view n (view d past n) (event.Retry t) (retry_outs d.cluster t (stage (view d past n) t)) }
-    ensures ask { (d : DocumentData) (past : List Act) (n : ℕ) (k : ℕ) (t : ℕ) → view d (after past (numbered k n (ask_outs (participant (view d past n)) t))) n ≡ next_view n (view d past n) (event.Ask t) (ask_outs (participant (view d past n)) t) }
+    ensures { (d : DocumentData) (past : List Act) (n m k : ℕ) (e : Event) → Comes d past n m e → view d (after (brought m e past) (numbered k n (outs_of n (view d past n) e))) n ≡ next_view n (view d past n) e (outs_of n (view d past n) e) }
 {}
 
 /// Behind each run, whatever its items, the standing decisions in the journal of a node are of
