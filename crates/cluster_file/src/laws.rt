@@ -1,7 +1,10 @@
+//! A document has one spelling, and its limits are these.
 ghost use Rattle.std.specs.Prelude.{◌≡◌, ℕ, List, Ok};
 ghost use Rattle.grid_model.specs.Documents.{DocumentData, IsDocument, IsOne};
 ghost use Rattle.cluster_file.specs.Doc.{doc};
 ghost use Rattle.cluster_file.specs.Spelling.{spelling, IsBuilt, IsInRange};
+ghost use Rattle.script_lang.specs.declared.limits.TheConstants.{MAX_NODES, MAX_TX, MAX_OPS, MAX_STEPS};
+ghost use Rattle.cluster_file.specs.declared.limits.TheConstants.{MAX_PARTITIONS, MAX_KEYS, MAX_SCRIPTS, MAX_EVENTS, MAX_COUNT};
 
 /// A document has one spelling. Where `doc` finds a document in some bytes, they are its spelling; the
 /// document is all that the laws ask of one, each of its parts is in the range of its type, and each of
@@ -10,4 +13,17 @@ pub fn law_one_spelling()
     ensures writes { (bytes : List ℕ) (d : DocumentData) → doc bytes ≡ Ok d → bytes ≡ spelling d }
     ensures fits { (bytes : List ℕ) (d : DocumentData) → doc bytes ≡ Ok d → IsOne d × IsInRange d × IsBuilt d }
     ensures reads { (d : DocumentData) → IsDocument d → IsInRange d → IsBuilt d → doc (spelling d) ≡ Ok d }
+{}
+
+/// The limits of a document, in numbers: the definitions cite the constants of the code.
+pub fn law_limits()
+    ensures nodes { MAX_NODES ≡ 16 }
+    ensures transactions { MAX_TX ≡ 65535 }
+    ensures operations { MAX_OPS ≡ 32 }
+    ensures steps { MAX_STEPS ≡ 16 }
+    ensures partitions { MAX_PARTITIONS ≡ 64 }
+    ensures keys { MAX_KEYS ≡ 4096 }
+    ensures scripts { MAX_SCRIPTS ≡ 4096 }
+    ensures events { MAX_EVENTS ≡ 50000 }
+    ensures counts { MAX_COUNT ≡ 4294967295 }
 {}

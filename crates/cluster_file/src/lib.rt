@@ -18,5 +18,5 @@ mod tests;
 mod whys;
 
 pub use documents::read_document;
-pub use laws::law_one_spelling;
+pub use laws::{law_limits, law_one_spelling};
 pub use whys::{DocEnd, Refusal};
