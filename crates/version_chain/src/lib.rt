@@ -92,7 +92,7 @@ impl Chain {
 
     /// The identifier of the newest version, or 0 where there is none but the initial value.
     pub fn newest(&self) -> Ident
-        ensures newest_in_chain { result ≡ newest_in_chain self.now.versions }
+        ensures newest { result ≡ newest_in_chain self.now.versions }
         ensures rising { RisesFrom 0 self.now.versions }
     {
         match self.versions.len() {
