@@ -1,20 +1,19 @@
 -- A transaction has a lock that meets two lists exactly where it conflicts with them.
-use Rattle.std.proofs.Common.{◌≡◌, ◌≢◌, ℕ, Bool, true, false, ◌&&◌, ◌||◌, List, [], ◌∷◌, Option, Some, None, inl, inr, IsNone, IfSome, refl, sym, ap, ◌∙◌, nat_eq, arith}
+use Rattle.std.proofs.Common.{◌≡◌, ◌≢◌, ℕ, Bool, true, false, ◌&&◌, ◌||◌, List, [], ◌∷◌, Option, Some, None, inl, inr, IsNone, IfSome, IsTrue, refl, sym, ap, ◌∙◌, nat_eq, arith}
 use Rattle.std.specs.Cmp.Lexicographic.{pointwise, nat_list_eq_equiv}
 use Rattle.std.specs.FinSet as set
 use Rattle.std.proofs.lemmas.Bool.{eqb-true}
 use Rattle.std.proofs.lemmas.Bool.Decides.{nat_tests}
-use Rattle.lock_table.specs.declared.Lock.{Lock}
 use Rattle.lock_table.specs.Keys.{is_read, is_written, Held, Conflicts, IsHolder}
-use Rattle.lock_table.specs.Table.{places, written_places, meets}
-use Rattle.lock_table.proofs.Places.{is_at, holds_in, writes_in, held_is, written_is}
-use Rattle.lock_table.proofs.Least.{meets_in, holder_from, one_of, both_of, or_later, or_first, at_most_all, is_met, none_met}
+use Rattle.lock_table.specs.Table.{Lock, is_at, holds_in, writes_in, places, written_places, meets, meets_in, IsLeastMet}
+use Rattle.lock_table.proofs.Places.{held_is, written_is}
+use Rattle.lock_table.proofs.Least.{one_of, both_of, or_later, or_first}
 
 -- what a list of locks is seen as
 abbrev pub seen : List Lock → ℕ → Held
 seen ls spare = record { keys = set.from_list (places ls); written = set.from_list (written_places ls); spare = spare }
 
-same_key : (x y : List ℕ) → pointwise nat_eq x y ≡ true → x ≡ y
+pub same_key : (x y : List ℕ) → pointwise nat_eq x y ≡ true → x ≡ y
 same_key [] [] is = refl
 same_key [] (y ∷ ys) is = cc
 same_key (x ∷ xs) [] is = cc
@@ -122,23 +121,19 @@ met_in_conflict ls spare reads writes u h =
     met_by ls reads writes u h.key (sym (held_is ls u h.key) ∙ h.held_by) h.named
     (ap (λ b. b || is_written writes h.key) (sym (written_is ls u h.key)) ∙ h.written)
 
--- ---- what the loop over the locks gives
+-- ---- who conflicts least
 
-IsHolder-from : (ls : List Lock) (spare t : ℕ) (reads : List (List ℕ)) (writes : List (List ℕ × ℕ)) (p : ℕ) → holder_from None ls t reads writes ≡ Some p → IsHolder (seen ls spare) reads writes t p
-IsHolder-from ls spare t reads writes p is =
-    let met : (p ≢ t) × (meets_in ls reads writes p ≡ true) = elim (is_met None ls t reads writes p is) [ inl none ↦ cc | inr met ↦ met ] in
-    record {
-      other = met.0;
-      conflicts = Conflicts-from ls spare reads writes p met.1;
-      least = λ v other h. at_most_all None ls t reads writes p v is other (met_in_conflict ls spare reads writes v h);
-    }
-
-pub the_holder : (a : Option ℕ) (ls : List Lock) (spare t : ℕ) (reads : List (List ℕ)) (writes : List (List ℕ × ℕ)) → a ≡ holder_from None ls t reads writes → IfSome a (IsHolder (seen ls spare) reads writes t)
+pub the_holder : (a : Option ℕ) (ls : List Lock) (spare t : ℕ) (reads : List (List ℕ)) (writes : List (List ℕ × ℕ)) → IfSome a (IsLeastMet ls reads writes t)
+    → IfSome a (IsHolder (seen ls spare) reads writes t)
 the_holder None ls spare t reads writes is = tt
-the_holder (Some p) ls spare t reads writes is = IsHolder-from ls spare t reads writes p (sym is)
+the_holder (Some p) ls spare t reads writes is = record {
+  other = is.other;
+  conflicts = Conflicts-from ls spare reads writes p is.met;
+  least = λ v other h. is.least v other (met_in_conflict ls spare reads writes v h);
+}
 
-pub no_holder : (a : Option ℕ) (ls : List Lock) (spare t : ℕ) (reads : List (List ℕ)) (writes : List (List ℕ × ℕ)) → a ≡ holder_from None ls t reads writes → (IsNone a → (u : ℕ) → u ≢ t → Conflicts (seen ls spare) reads writes u → ⊥) × (((u : ℕ) → u ≢ t → ¬ Conflicts (seen ls spare) reads writes u) → IsNone a)
-no_holder None ls spare t reads writes is = ((λ _ u other h. none_met ls t reads writes u (sym is) other (met_in_conflict ls spare reads writes u h)), λ _. refl)
-no_holder (Some p) ls spare t reads writes is =
-    let holder = IsHolder-from ls spare t reads writes p (sym is) in
-    ((λ none. cc), λ free. absurd (free p holder.other holder.conflicts))
+pub no_holder : (a : Option ℕ) (ls : List Lock) (spare t : ℕ) (reads : List (List ℕ)) (writes : List (List ℕ × ℕ))
+    → (IsNone a → (u : ℕ) → u ≢ t → ¬ IsTrue (meets_in ls reads writes u)) × (((u : ℕ) → u ≢ t → ¬ IsTrue (meets_in ls reads writes u)) → IsNone a)
+    → (IsNone a → (u : ℕ) → u ≢ t → ¬ Conflicts (seen ls spare) reads writes u) × (((u : ℕ) → u ≢ t → ¬ Conflicts (seen ls spare) reads writes u) → IsNone a)
+no_holder a ls spare t reads writes is =
+    ((λ none u other h. is.0 none u other (met_in_conflict ls spare reads writes u h)), λ free. is.1 (λ u other m. free u other (Conflicts-from ls spare reads writes u m)))

@@ -1,10 +1,10 @@
 -- The least transaction with a lock that meets two lists.
-use Rattle.std.proofs.Common.{◌≡◌, ◌≢◌, ℕ, ◌≤◌, Bool, true, false, not, ◌&&◌, ◌||◌, List, [], ◌∷◌, Option, Some, None, min, ◌⊎◌, inl, inr, if◌then◌else◌, length, drop, refl, ap, ◌∙◌, nat_eq, arith}
-use Rattle.std.proofs.Math.ListN.{drop_of_length-le}
+use Rattle.std.proofs.Common.{◌≡◌, ◌≢◌, ℕ, ◌+◌, ◌<◌, ◌≤◌, Bool, true, false, not, ◌&&◌, ◌||◌, List, [], ◌∷◌, Option, Some, None, IsNone, IfSome, IsTrue, min, ◌⊎◌, inl, inr, if◌then◌else◌, length, drop, refl, sym, ap, ◌∙◌, nat_eq, arith}
+use Rattle.std.specs.List.{slice_index_or}
+use Rattle.std.proofs.lemmas.List.{drop_more, drop_all}
 use Rattle.std.proofs.lemmas.Bool.{cases_lt}
 use Rattle.std.proofs.lemmas.Bool.Decides.{eqb_tells, nat_tests}
-use Rattle.lock_table.specs.declared.Lock.{Lock}
-use Rattle.lock_table.specs.Table.{meets}
+use Rattle.lock_table.specs.Table.{Lock, meets, meets_in, IsLeastMet, lock_of, locks_of}
 
 -- the lesser of two transactions, of which the first may be missing
 abbrev pub lesser : Option ℕ → ℕ → ℕ
@@ -15,11 +15,6 @@ lesser (Some u) t = min u t
 abbrev pub holder_from : Option ℕ → List Lock → ℕ → List (List ℕ) → List (List ℕ × ℕ) → Option ℕ
 holder_from a [] t reads writes = a
 holder_from a (l ∷ ls) t reads writes = holder_from (if not (nat_eq l.t t) && meets reads writes l then Some (lesser a l.t) else a) ls t reads writes
-
--- whether u has a lock that meets the lists
-abbrev pub meets_in : List Lock → List (List ℕ) → List (List ℕ × ℕ) → ℕ → Bool
-meets_in [] reads writes u = false
-meets_in (l ∷ ls) reads writes u = (nat_eq l.t u && meets reads writes l) || meets_in ls reads writes u
 
 pub one_of : (a b : Bool) → (a || b) ≡ true → (a ≡ true) ⊎ (b ≡ true)
 one_of true b e = inl refl
@@ -114,6 +109,36 @@ none_met (l ∷ ls) t reads writes u is other met =
       | inr later ↦ none_met ls t reads writes u h.1 other later
     ]
 
--- what the loop over the locks ends with
-pub whole : (a x : Option ℕ) (ls : List Lock) (i t : ℕ) (reads : List (List ℕ)) (writes : List (List ℕ × ℕ)) → length ls ≤ i → holder_from a (drop i ls) t reads writes ≡ x → a ≡ x
-whole a x ls i t reads writes all is = rw (drop_of_length-le ls all) at is
+-- ---- what the loop over the locks ends with
+
+pub least_met : (a : Option ℕ) (ls : List Lock) (t : ℕ) (reads : List (List ℕ)) (writes : List (List ℕ × ℕ)) → a ≡ holder_from None ls t reads writes
+    → IfSome a (IsLeastMet ls reads writes t)
+least_met None ls t reads writes is = tt
+least_met (Some p) ls t reads writes is =
+    let met : (p ≢ t) × (meets_in ls reads writes p ≡ true) = elim (is_met None ls t reads writes p (sym is)) [ inl none ↦ cc | inr met ↦ met ] in
+    record {
+      other = met.0;
+      met = met.1;
+      least = λ v other m. at_most_all None ls t reads writes p v (sym is) other m;
+    }
+
+pub no_other : (a : Option ℕ) (ls : List Lock) (t : ℕ) (reads : List (List ℕ)) (writes : List (List ℕ × ℕ)) → a ≡ holder_from None ls t reads writes
+    → (IsNone a → (u : ℕ) → u ≢ t → ¬ IsTrue (meets_in ls reads writes u)) × (((u : ℕ) → u ≢ t → ¬ IsTrue (meets_in ls reads writes u)) → IsNone a)
+no_other None ls t reads writes is = ((λ _ u other m. none_met ls t reads writes u (sym is) other m), λ _. refl)
+no_other (Some p) ls t reads writes is =
+    let met = least_met (Some p) ls t reads writes is in
+    ((λ none. cc), λ free. absurd (free p met.other met.met))
+
+-- one lock further
+pub one_further : (ps : List ((List ℕ × ℕ) × Bool)) (i : ℕ) (p : (List ℕ × ℕ) × Bool) (a b x : Option ℕ) (t : ℕ) (reads : List (List ℕ)) (writes : List (List ℕ × ℕ))
+    → i < length ps → p ≡ slice_index_or ps i p → b ≡ (if not (nat_eq p.0.1 t) && meets reads writes (lock_of p) then Some (lesser a p.0.1) else a)
+    → holder_from a (locks_of (drop i ps)) t reads writes ≡ x → holder_from b (locks_of (drop (i + 1) ps)) t reads writes ≡ x
+one_further ps i p a b x t reads writes within read now before =
+    ap (λ c. holder_from c (locks_of (drop (i + 1) ps)) t reads writes) now
+    ∙ ap (λ qs. holder_from a (locks_of qs) t reads writes) (sym (drop_more ps i p within ∙ ap (λ q. q ∷ drop (i + 1) ps) (sym read)))
+    ∙ before
+
+-- all locks
+pub whole : (ps : List ((List ℕ × ℕ) × Bool)) (i : ℕ) (a x : Option ℕ) (t : ℕ) (reads : List (List ℕ)) (writes : List (List ℕ × ℕ))
+    → length ps ≤ i → holder_from a (locks_of (drop i ps)) t reads writes ≡ x → a ≡ x
+whole ps i a x t reads writes all is = ap (λ qs. holder_from a (locks_of qs) t reads writes) (sym (drop_all i ps all)) ∙ is

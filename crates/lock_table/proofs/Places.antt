@@ -1,29 +1,17 @@
 -- Which keys a list of locks holds: more locks, and without those of one transaction.
-use Rattle.std.proofs.Common.{◌≡◌, ℕ, Bool, true, false, not, cond, ◌&&◌, ◌||◌, List, [], ◌∷◌, ◌++◌, map, refl, sym, ap, ◌∙◌, nat_eq, arith}
+use Prim.Native.Nat.{zero, suc}
+use Rattle.std.proofs.Common.{◌≡◌, ℕ, Bool, true, false, not, cond, ◌&&◌, ◌||◌, List, [], ◌∷◌, ◌++◌, refl, sym, ap, ◌∙◌, nat_eq, arith}
 use Rattle.std.specs.Cmp.{IsTotalOrder, unsigned_tied, both_tied, then_total, on_total, nat_cmp_total}
-use Rattle.std.specs.Cmp.Lexicographic.{pointwise, slice_cmp, nat_list_cmp_total, nat_list_eq_equiv, texts_ties}
+use Rattle.std.specs.Cmp.Lexicographic.{slice_cmp, nat_list_cmp_total, nat_list_eq_equiv, texts_ties}
 use Rattle.std.specs.Ordering.{nat_cmp, eq_by_cmp}
-use Rattle.std.specs.List.{filter}
+use Rattle.std.specs.List.{filter, insert}
 use Rattle.std.specs.FinSet as set
 use Rattle.std.proofs.lemmas.Bool.Decides.{nat_tests}
-use Rattle.lock_table.specs.declared.Lock.{Lock}
-use Rattle.lock_table.specs.Keys.{by_transaction, is_read, is_written}
-use Rattle.lock_table.specs.Table.{place, places, written_places, read_lock, write_lock}
+use Rattle.lock_table.specs.Keys.{by_transaction}
+use Rattle.lock_table.specs.Table.{Lock, is_at, holds_in, writes_in, place, places, written_places, lock_of, locks_of}
 
 pub by_transaction_total : IsTotalOrder by_transaction
 by_transaction_total = then_total (on_total (λ p. p.0) nat_cmp_total) (on_total (λ p. p.1) nat_list_cmp_total)
-
--- whether a lock is u's on k
-abbrev pub is_at : Lock → ℕ → List ℕ → Bool
-is_at l u k = nat_eq u l.t && pointwise nat_eq l.key k
-
-abbrev pub holds_in : List Lock → ℕ → List ℕ → Bool
-holds_in [] u k = false
-holds_in (l ∷ ls) u k = is_at l u k || holds_in ls u k
-
-abbrev pub writes_in : List Lock → ℕ → List ℕ → Bool
-writes_in [] u k = false
-writes_in (l ∷ ls) u k = (is_at l u k && l.writes) || writes_in ls u k
 
 tied : (l : Lock) (u : ℕ) (k : List ℕ) → eq_by_cmp by_transaction (u, k) (place l) ≡ is_at l u k
 tied l u k = sym (both_tied _ _ (nat_cmp u l.t) (slice_cmp nat_cmp k l.key) (sym (unsigned_tied u l.t)) (nat_list_eq_equiv.symm l.key k ∙ texts_ties k l.key))
@@ -71,35 +59,6 @@ nothing_of : (a : Bool) → false ≡ (a && false)
 nothing_of true = refl
 nothing_of false = refl
 
-either_of : (a b c : Bool) → ((a && b) || (a && c)) ≡ (a && (b || c))
-either_of true b c = refl
-either_of false b c = refl
-
-either_of_true : (a b c : Bool) → (((a && b) && true) || (a && c)) ≡ (a && (b || c))
-either_of_true true true c = refl
-either_of_true true false c = refl
-either_of_true false b c = refl
-
-neither_of : (a : Bool) → ((a && false) || false) ≡ false
-neither_of true = refl
-neither_of false = refl
-
-pub holds_in-reads : (t : ℕ) (rs : List (List ℕ)) (u : ℕ) (k : List ℕ) → holds_in (map (read_lock t) rs) u k ≡ (nat_eq u t && is_read rs k)
-holds_in-reads t [] u k = nothing_of (nat_eq u t)
-holds_in-reads t (r ∷ rs) u k = ap (λ b. (nat_eq u t && pointwise nat_eq r k) || b) (holds_in-reads t rs u k) ∙ either_of (nat_eq u t) (pointwise nat_eq r k) (is_read rs k)
-
-pub writes_in-reads : (t : ℕ) (rs : List (List ℕ)) (u : ℕ) (k : List ℕ) → writes_in (map (read_lock t) rs) u k ≡ false
-writes_in-reads t [] u k = refl
-writes_in-reads t (r ∷ rs) u k = ap (λ b. ((nat_eq u t && pointwise nat_eq r k) && false) || b) (writes_in-reads t rs u k) ∙ neither_of (nat_eq u t && pointwise nat_eq r k)
-
-pub holds_in-writes : (t : ℕ) (ws : List (List ℕ × ℕ)) (u : ℕ) (k : List ℕ) → holds_in (map (write_lock t) ws) u k ≡ (nat_eq u t && is_written ws k)
-holds_in-writes t [] u k = nothing_of (nat_eq u t)
-holds_in-writes t (w ∷ ws) u k = ap (λ b. (nat_eq u t && pointwise nat_eq w.0 k) || b) (holds_in-writes t ws u k) ∙ either_of (nat_eq u t) (pointwise nat_eq w.0 k) (is_written ws k)
-
-pub writes_in-writes : (t : ℕ) (ws : List (List ℕ × ℕ)) (u : ℕ) (k : List ℕ) → writes_in (map (write_lock t) ws) u k ≡ (nat_eq u t && is_written ws k)
-writes_in-writes t [] u k = nothing_of (nat_eq u t)
-writes_in-writes t (w ∷ ws) u k = ap (λ b. ((nat_eq u t && pointwise nat_eq w.0 k) && true) || b) (writes_in-writes t ws u k) ∙ either_of_true (nat_eq u t) (pointwise nat_eq w.0 k) (is_written ws k)
-
 -- ---- without the locks of t
 
 -- whether a lock is of another transaction than t
@@ -132,29 +91,40 @@ pub writes_in-filter : (t : ℕ) (ls : List Lock) (u : ℕ) (k : List ℕ) → w
 writes_in-filter t [] u k = nothing_of (not (nat_eq u t))
 writes_in-filter t (l ∷ ls) u k = writes_head t l ls (filter (is_other t) ls) u k (nat_eq l.t t) refl (writes_in-filter t ls u k)
 
--- ---- with the locks that t takes
+-- ---- with one lock more
 
-three : (h a r w : Bool) → ((h || (a && r)) || (a && w)) ≡ (h || (a && (r || w)))
-three true a r w = refl
-three false true r w = refl
-three false false r w = refl
+or_later_too : (a b : Bool) → (a || b) ≡ (b || a)
+or_later_too true true = refl
+or_later_too true false = refl
+or_later_too false true = refl
+or_later_too false false = refl
 
-pub holds_in-taken : (ls : List Lock) (t : ℕ) (rs : List (List ℕ)) (ws : List (List ℕ × ℕ)) (u : ℕ) (k : List ℕ) → holds_in ((ls ++ map (read_lock t) rs) ++ map (write_lock t) ws) u k ≡ (holds_in ls u k || (nat_eq u t && (is_read rs k || is_written ws k)))
-holds_in-taken ls t rs ws u k =
-    holds_in-append (ls ++ map (read_lock t) rs) (map (write_lock t) ws) u k
-    ∙ ap (λ b. b || holds_in (map (write_lock t) ws) u k) (holds_in-append ls (map (read_lock t) rs) u k)
-    ∙ ap (λ b. (holds_in ls u k || b) || holds_in (map (write_lock t) ws) u k) (holds_in-reads t rs u k)
-    ∙ ap (λ b. (holds_in ls u k || (nat_eq u t && is_read rs k)) || b) (holds_in-writes t ws u k)
-    ∙ three (holds_in ls u k) (nat_eq u t) (is_read rs k) (is_written ws k)
+pub holds_insert : (ps : List ((List ℕ × ℕ) × Bool)) (i : ℕ) (x : (List ℕ × ℕ) × Bool) (u : ℕ) (k : List ℕ)
+    → holds_in (locks_of (insert ps i x)) u k ≡ (holds_in (locks_of ps) u k || is_at (lock_of x) u k)
+holds_insert ps zero x u k = or_later_too (is_at (lock_of x) u k) (holds_in (locks_of ps) u k)
+holds_insert [] (suc i) x u k = or_later_too (is_at (lock_of x) u k) false
+holds_insert (p ∷ ps) (suc i) x u k =
+    ap (λ b. is_at (lock_of p) u k || b) (holds_insert ps i x u k)
+    ∙ or_assoc (is_at (lock_of p) u k) (holds_in (locks_of ps) u k) (is_at (lock_of x) u k)
 
-or_false : (a b : Bool) → ((a || false) || b) ≡ (a || b)
-or_false true b = refl
-or_false false b = refl
+pub writes_insert : (ps : List ((List ℕ × ℕ) × Bool)) (i : ℕ) (x : (List ℕ × ℕ) × Bool) (u : ℕ) (k : List ℕ)
+    → writes_in (locks_of (insert ps i x)) u k ≡ (writes_in (locks_of ps) u k || (is_at (lock_of x) u k && x.1))
+writes_insert ps zero x u k = or_later_too (is_at (lock_of x) u k && x.1) (writes_in (locks_of ps) u k)
+writes_insert [] (suc i) x u k = or_later_too (is_at (lock_of x) u k && x.1) false
+writes_insert (p ∷ ps) (suc i) x u k =
+    ap (λ b. (is_at (lock_of p) u k && p.1) || b) (writes_insert ps i x u k)
+    ∙ or_assoc (is_at (lock_of p) u k && p.1) (writes_in (locks_of ps) u k) (is_at (lock_of x) u k && x.1)
 
-pub writes_in-taken : (ls : List Lock) (t : ℕ) (rs : List (List ℕ)) (ws : List (List ℕ × ℕ)) (u : ℕ) (k : List ℕ) → writes_in ((ls ++ map (read_lock t) rs) ++ map (write_lock t) ws) u k ≡ (writes_in ls u k || (nat_eq u t && is_written ws k))
-writes_in-taken ls t rs ws u k =
-    writes_in-append (ls ++ map (read_lock t) rs) (map (write_lock t) ws) u k
-    ∙ ap (λ b. b || writes_in (map (write_lock t) ws) u k) (writes_in-append ls (map (read_lock t) rs) u k)
-    ∙ ap (λ b. (writes_in ls u k || b) || writes_in (map (write_lock t) ws) u k) (writes_in-reads t rs u k)
-    ∙ ap (λ b. (writes_in ls u k || false) || b) (writes_in-writes t ws u k)
-    ∙ or_false (writes_in ls u k) (nat_eq u t && is_written ws k)
+-- ---- a table without the locks of t
+
+map_kept : (b : Bool) (p : (List ℕ × ℕ) × Bool) (rest : List ((List ℕ × ℕ) × Bool))
+    → locks_of (cond (not b) (p ∷ rest) rest) ≡ cond (not b) (lock_of p ∷ locks_of rest) (locks_of rest)
+map_kept true p rest = refl
+map_kept false p rest = refl
+
+pub locks_of-filter : (t : ℕ) (ps : List ((List ℕ × ℕ) × Bool))
+    → locks_of (filter (λ p. not (nat_eq p.0.1 t)) ps) ≡ filter (is_other t) (locks_of ps)
+locks_of-filter t [] = refl
+locks_of-filter t (p ∷ ps) =
+    map_kept (nat_eq p.0.1 t) p (filter (λ q. not (nat_eq q.0.1 t)) ps)
+    ∙ ap (λ ls. cond (not (nat_eq p.0.1 t)) (lock_of p ∷ ls) ls) (locks_of-filter t ps)

@@ -23,7 +23,7 @@ by_transaction a b = ordering_then (nat_cmp a.0 b.0) (slice_cmp nat_cmp a.1 b.1)
 abbrev pub Pairs : Type 0
 Pairs = set.FinSet by_transaction
 
--- the keys that each transaction holds_lock, those of them that it writes, and the room for more
+-- the keys that each transaction holds, those of them that it writes, and the room for more
 pub record Held : Type 0 where
   pub keys : Pairs
   pub written : Pairs
@@ -35,11 +35,11 @@ held_code =
     let pairs : Coded Pairs = set.code (coded× coded_ℕ (coded_list coded_ℕ)) in
     code_by (Pairs × (Pairs × ℕ)) (coded× pairs (coded× pairs coded_ℕ)) (λ h. (h.keys, (h.written, h.spare))) (λ p. record { keys = p.0; written = p.1.0; spare = p.1.1 }) (λ _. refl)
 
--- whether t holds_lock a key
+-- whether t holds a key
 abbrev pub holds_lock : Held → ℕ → List ℕ → Bool
 holds_lock held t k = set.contains held.keys (t, k)
 
--- whether t holds_lock a key that it writes
+-- whether t holds a key that it writes
 abbrev pub writes_key : Held → ℕ → List ℕ → Bool
 writes_key held t k = set.contains held.written (t, k)
 

@@ -9,40 +9,32 @@
 //! Only `reserve` takes memory.
 #![tactic(auto)]
 
-ghost use Rattle.std.specs.Prelude.{◌≡◌, ◌≢◌, ℕ, ◌+◌, ◌≤◌, ◌↔◌, ◌==◌, ◌&&◌, ◌||◌, not, ◌++◌, List, map, length, min, IsTrue, IsNone, IfSome, MatchOption, OnOk, vec_len, vec_capacity};
+ghost use Rattle.std.specs.Prelude.{◌≡◌, ◌≢◌, ℕ, ◌+◌, ◌≤◌, ◌↔◌, ◌==◌, ◌&&◌, ◌||◌, not, nat_eq, List, length, min, IsTrue, IsNone, IfSome, MatchOption, OnOk};
 ghost use Rattle.std.specs.FinSet as set;
 ghost use Rattle.lock_table.specs.Keys.{is_read, is_written, holds_lock, writes_key, Conflicts, IsHolder};
-ghost use Rattle.lock_table.specs.Table.{read_lock, write_lock, meets};
+ghost use Rattle.std.specs.Cmp.Lexicographic.{pointwise};
+ghost use Rattle.lock_table.specs.Table.{lock_of, locks_of, meets, meets_in, IsLeastMet, holds_in, writes_in};
 
-use score_base::{Key, Memory, TxId, Value};
+use score_base::{Key, Memory, Ordered, TxId, Value};
 use std::alloc::Global;
 use std::marker::Model;
-
-/// A key that a transaction holds, and whether it writes it.
-#[derive(Drop, Debug)]
-struct Lock {
-    t: TxId,
-    key: Key,
-    writes: bool,
-}
 
 /// The keys that transactions hold.
 #[derive(Drop, Debug)]
 pub struct Locks {
-    locks: Vec<Lock>,
+    locks: Ordered<(Key, TxId), bool>,
 }
 
 impl Model for Locks {
-    ghost use Rattle.std.specs.Prelude.{◌-◌, vec_len, vec_capacity};
     ghost use Rattle.std.specs.FinSet as set;
     ghost use Rattle.lock_table.specs.Keys.{Held, held_code};
-    ghost use Rattle.lock_table.specs.Table.{places, written_places};
+    ghost use Rattle.lock_table.specs.Table.{locks_of, places, written_places};
 
     ghost Value = { Held };
 
     ghost coded = { held_code };
 
-    ghost view = { λ h. record { keys = set.from_list (places h.locks.items); written = set.from_list (written_places h.locks.items); spare = vec_capacity h.locks - vec_len h.locks } };
+    ghost view = { λ h. record { keys = set.from_list (places (locks_of h.locks.pairs)); written = set.from_list (written_places (locks_of h.locks.pairs)); spare = h.locks.spare } };
 }
 
 impl Locks {
@@ -52,7 +44,7 @@ impl Locks {
         ensures written { result.written ≡ set.empty }
     {
         Locks {
-            locks: Vec::new(alloc),
+            locks: Ordered::new(alloc),
         }
     }
 
@@ -64,8 +56,7 @@ impl Locks {
         ensures keys { self.new.keys ≡ self.old.keys }
         ensures written { self.new.written ≡ self.old.written }
     {
-        self.locks.reserve(n)?;
-        Ok(())
+        self.locks.reserve(n)
     }
 
     /// The least transaction other than `t` that holds a key of these lists, where it writes the key
@@ -74,13 +65,7 @@ impl Locks {
         ensures none { IsNone result ↔ ((u : ℕ) → u ≢ t → ¬ Conflicts self.now reads.now writes.now u) }
         ensures holder { IfSome result (IsHolder self.now reads.now writes.now t) }
     {
-        let mut least = None;
-        for lock in &self.locks {
-            if lock.t != t && meets(lock, reads, writes) {
-                least = Some(lesser(least, lock.t));
-            }
-        }
-        least
+        least_holder(&self.locks, reads, writes, t)
     }
 
     /// `t` takes the keys of these lists.
@@ -92,8 +77,8 @@ impl Locks {
         ensures written { (u : ℕ) (k : List ℕ) → writes_key self.new u k ≡ (writes_key self.old u k || (u == t && is_written writes.now k)) }
         ensures spare { self.old.spare ≤ self.new.spare + length reads.now + length writes.now }
     {
-        take_reads(&mut self.locks, reads, t);
         take_writes(&mut self.locks, writes, t);
+        take_reads(&mut self.locks, reads, t);
     }
 
     /// `t` holds no key any more, and all others hold what they held.
@@ -102,15 +87,35 @@ impl Locks {
         ensures written { (u : ℕ) (k : List ℕ) → writes_key self.new u k ≡ (not (u == t) && writes_key self.old u k) }
         ensures spare { self.old.spare ≤ self.new.spare }
     {
-        self.locks.retain(|lock| lock.t != t);
+        self.locks.retain(|lock| (lock.0).1 != t);
     }
 }
 
-/// Whether the lists name the key of a lock, where the lock or they write it.
-fn meets(lock: &Lock, reads: &[Key], writes: &[(Key, Value)]) -> bool
-    ensures { result ≡ meets reads.now writes.now lock.now }
+/// The least transaction other than `t` with a lock that meets the lists.
+fn least_holder(
+    locks: &Ordered<(Key, TxId), bool>,
+    reads: &[Key],
+    writes: &[(Key, Value)],
+    t: TxId,
+) -> Option<TxId>
+    ensures none { IsNone result ↔ ((u : ℕ) → u ≢ t → ¬ IsTrue (meets_in (locks_of locks.now.pairs) reads.now writes.now u)) }
+    ensures least { IfSome result (IsLeastMet (locks_of locks.now.pairs) reads.now writes.now t) }
 {
-    is_written(writes, &lock.key) || (lock.writes && is_read(reads, &lock.key))
+    let mut least = None;
+    for i in 0..locks.len() {
+        let lock = locks.pair(i);
+        if (lock.0).1 != t && meets(&lock, reads, writes) {
+            least = Some(lesser(least, (lock.0).1));
+        }
+    }
+    least
+}
+
+/// Whether the lists name the key of a lock, where the lock or they write it.
+fn meets(lock: &((Key, TxId), bool), reads: &[Key], writes: &[(Key, Value)]) -> bool
+    ensures { result ≡ meets reads.now writes.now (lock_of lock.now) }
+{
+    is_written(writes, &(lock.0).0) || (lock.1 && is_read(reads, &(lock.0).0))
 }
 
 fn is_read(reads: &[Key], key: &Key) -> bool
@@ -135,33 +140,40 @@ fn lesser(least: Option<TxId>, t: TxId) -> TxId
     }
 }
 
-fn take_reads(locks: &mut Vec<Lock>, reads: &[Key], t: TxId)
-    requires { vec_len locks.old + length reads.now ≤ vec_capacity locks.old }
-    ensures items { locks.new.items ≡ locks.old.items ++ map (read_lock t) reads.now }
-    ensures len { vec_len locks.new ≡ vec_len locks.old + length reads.now }
-    ensures capacity { vec_capacity locks.new ≡ vec_capacity locks.old }
+/// `t` takes these keys as keys that it reads.
+fn take_reads(locks: &mut Ordered<(Key, TxId), bool>, reads: &[Key], t: TxId)
+    requires { length reads.now ≤ locks.old.spare }
+    ensures keys { (u : ℕ) (k : List ℕ) → holds_in (locks_of locks.new.pairs) u k ≡ (holds_in (locks_of locks.old.pairs) u k || (u == t && is_read reads.now k)) }
+    ensures written { (u : ℕ) (k : List ℕ) → writes_in (locks_of locks.new.pairs) u k ≡ writes_in (locks_of locks.old.pairs) u k }
+    ensures spare { locks.old.spare ≤ locks.new.spare + length reads.now }
 {
     for key in reads {
-        locks.push_reserved(Lock {
-            t,
-            key: *key,
-            writes: false,
-        });
+        take_key(locks, key, t, false);
     }
 }
 
-fn take_writes(locks: &mut Vec<Lock>, writes: &[(Key, Value)], t: TxId)
-    requires { vec_len locks.old + length writes.now ≤ vec_capacity locks.old }
-    ensures items { locks.new.items ≡ locks.old.items ++ map (write_lock t) writes.now }
-    ensures len { vec_len locks.new ≡ vec_len locks.old + length writes.now }
-    ensures capacity { vec_capacity locks.new ≡ vec_capacity locks.old }
+/// `t`, which holds no key, takes these keys as keys that it writes.
+fn take_writes(locks: &mut Ordered<(Key, TxId), bool>, writes: &[(Key, Value)], t: TxId)
+    requires room { length writes.now ≤ locks.old.spare }
+    requires idle { (k : List ℕ) → holds_in (locks_of locks.old.pairs) t k ≡ writes_in (locks_of locks.old.pairs) t k }
+    ensures keys { (u : ℕ) (k : List ℕ) → holds_in (locks_of locks.new.pairs) u k ≡ (holds_in (locks_of locks.old.pairs) u k || (u == t && is_written writes.now k)) }
+    ensures written { (u : ℕ) (k : List ℕ) → writes_in (locks_of locks.new.pairs) u k ≡ (writes_in (locks_of locks.old.pairs) u k || (u == t && is_written writes.now k)) }
+    ensures spare { locks.old.spare ≤ locks.new.spare + length writes.now }
 {
     for write in writes {
-        locks.push_reserved(Lock {
-            t,
-            key: write.0,
-            writes: true,
-        });
+        take_key(locks, &write.0, t, true);
+    }
+}
+
+/// `t` takes this key, if it does not hold it.
+fn take_key(locks: &mut Ordered<(Key, TxId), bool>, key: &Key, t: TxId, writes: bool)
+    requires { 1 ≤ locks.old.spare }
+    ensures keys { (u : ℕ) (k : List ℕ) → holds_in (locks_of locks.new.pairs) u k ≡ (holds_in (locks_of locks.old.pairs) u k || (u == t && pointwise nat_eq key.now k)) }
+    ensures written { (u : ℕ) (k : List ℕ) → writes_in (locks_of locks.new.pairs) u k ≡ (writes_in (locks_of locks.old.pairs) u k || ((writes && not (holds_in (locks_of locks.old.pairs) t key.now)) && (u == t && pointwise nat_eq key.now k))) }
+    ensures spare { locks.old.spare ≤ locks.new.spare + 1 }
+{
+    if let Err(i) = locks.place(&(*key, t)) {
+        locks.insert(i, (*key, t), writes);
     }
 }
 

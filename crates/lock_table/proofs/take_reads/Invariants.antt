@@ -1,9 +1,11 @@
-use Rattle.std.proofs.Common.{◌≡◌, ◌+◌, ◌++◌, map, take, vec_len, vec_capacity}
-use Rattle.lock_table.specs.Table.{read_lock}
+use Rattle.std.proofs.Common.{ℕ, List, ◌≡◌, ◌+◌, ◌≤◌, ◌&&◌, ◌||◌, nat_eq, drop}
+use Rattle.lock_table.specs.Keys.{is_read}
+use Rattle.lock_table.specs.Table.{locks_of, holds_in, writes_in}
 use Rattle.lock_table.proofs.take_reads.Given as goal
 
 abbrev pub invariant-loop-key : goal.invariant-loop-key
-invariant-loop-key l =
-    (l.locks.items ≡ l.initial.locks.items ++ map (read_lock l.t) (take l.key-index l.reads))
-    × (vec_len l.locks ≡ vec_len l.initial.locks + l.key-index)
-    × (vec_capacity l.locks ≡ vec_capacity l.initial.locks)
+invariant-loop-key l = record {
+  keys : (u : ℕ) (k : List ℕ) → (holds_in (locks_of l.locks.pairs) u k || (nat_eq u l.t && is_read (drop l.key-index l.reads) k)) ≡ (holds_in (locks_of l.initial.locks.pairs) u k || (nat_eq u l.t && is_read l.reads k));
+  written : (u : ℕ) (k : List ℕ) → writes_in (locks_of l.locks.pairs) u k ≡ writes_in (locks_of l.initial.locks.pairs) u k;
+  spare : l.initial.locks.spare ≤ l.locks.spare + l.key-index;
+}

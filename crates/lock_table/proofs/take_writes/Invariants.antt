@@ -1,9 +1,12 @@
-use Rattle.std.proofs.Common.{◌≡◌, ◌+◌, ◌++◌, map, take, vec_len, vec_capacity}
-use Rattle.lock_table.specs.Table.{write_lock}
+use Rattle.std.proofs.Common.{ℕ, List, ◌≡◌, ◌+◌, ◌≤◌, ◌&&◌, ◌||◌, nat_eq, drop}
+use Rattle.lock_table.specs.Keys.{is_written}
+use Rattle.lock_table.specs.Table.{locks_of, holds_in, writes_in}
 use Rattle.lock_table.proofs.take_writes.Given as goal
 
 abbrev pub invariant-loop-write : goal.invariant-loop-write
-invariant-loop-write l =
-    (l.locks.items ≡ l.initial.locks.items ++ map (write_lock l.t) (take l.write-index l.writes))
-    × (vec_len l.locks ≡ vec_len l.initial.locks + l.write-index)
-    × (vec_capacity l.locks ≡ vec_capacity l.initial.locks)
+invariant-loop-write l = record {
+  idle : (k : List ℕ) → holds_in (locks_of l.locks.pairs) l.t k ≡ writes_in (locks_of l.locks.pairs) l.t k;
+  keys : (u : ℕ) (k : List ℕ) → (holds_in (locks_of l.locks.pairs) u k || (nat_eq u l.t && is_written (drop l.write-index l.writes) k)) ≡ (holds_in (locks_of l.initial.locks.pairs) u k || (nat_eq u l.t && is_written l.writes k));
+  written : (u : ℕ) (k : List ℕ) → (writes_in (locks_of l.locks.pairs) u k || (nat_eq u l.t && is_written (drop l.write-index l.writes) k)) ≡ (writes_in (locks_of l.initial.locks.pairs) u k || (nat_eq u l.t && is_written l.writes k));
+  spare : l.initial.locks.spare ≤ l.locks.spare + l.write-index;
+}
