@@ -3,7 +3,7 @@ use Rattle.grid_laws.proofs.DueActs.{due-before}
 use Rattle.journal_words.proofs.Decisions.{decision-some}
 use Rattle.cause_laws.proofs.StoryTests.{KeepsHeard, began-kept, else-kept, got-kept, if-kept}
 use Rattle.grid_laws.proofs.Causes.{AllDue, IsDue}
-use Rattle.grid_laws.proofs.Frames.{journal-more}
+use Rattle.grid_model.proofs.Growing.{journal-more}
 use Rattle.grid_model.specs.Documents.{DocumentData}
 use Rattle.grid_model.specs.Histories.{after, sent, sent_at}
 use Rattle.journal_words.specs.Journals.{Decision, decision, is_closed}

@@ -18,3 +18,4 @@ pub mod Decisions
 pub mod NewRecords
 pub mod Orders
 pub mod LastWrites
+pub mod Later
