@@ -24,7 +24,7 @@ use Rattle.grid_model.specs.Documents.{DocumentData, number_order, script_number
 use Rattle.grid_model.specs.Histories.{after, sent, sent_at}
 use Rattle.journal_words.specs.Journals.{commit_id}
 use Rattle.grid_model.specs.Nodes.{node, journal, script_of}
-use Rattle.grid_model.specs.Stories.{begun, story, with_value, progressed}
+use Rattle.grid_model.specs.Stories.{begun_in, story, with_value, progressed}
 use Rattle.script_runs.specs.Waits.{waiting}
 use Rattle.grid_model.specs.Views.{view, stage, Open, open_of, participant}
 use Rattle.grid_model.specs.Advances.{advance}
@@ -110,8 +110,8 @@ shown-begin d past m b s is new all =
     let left : shown now s.number ++ owns ≡ reads_by [] s.ops = ap (λ zs. zs ++ owns) none ∙ sym (first-reads s.ops) in
     let T : List Act → Type 0 = λ acts. AllShown d (after past acts) in
     subst T
-    (sym (kept-first m s.home b (act.Began s.number s.home sid0) (advance d.cluster (open_of s (begun sid0)) 0) refl))
-    (shown-advance d now m s.home b s (begun sid0) 0 is (story-began d past s.number s.home sid0) left (λ t w other e. other-began d past s.number t s.home sid0 w other (all t w e)))
+    (sym (kept-first m s.home b (act.Began s.number s.home sid0) (advance d.cluster (open_of s (begun_in d (node d past) s.number sid0)) 0) refl))
+    (shown-advance d now m s.home b s (begun_in d (node d past) s.number sid0) 0 is (story-began d past s.number s.home sid0) left (λ t w other e. other-began d past s.number t s.home sid0 w other (all t w e)))
 
 -- ---- the shapes of an event
 

@@ -20,7 +20,7 @@ use Rattle.grid_model.specs.Documents.{DocumentData, number_order, script_number
 use Rattle.grid_model.specs.Histories.{after, sent, sent_at}
 use Rattle.journal_words.specs.Journals.{commit_id}
 use Rattle.grid_model.specs.Nodes.{node, journal, script_of}
-use Rattle.grid_model.specs.Stories.{begun, story, with_value, progressed}
+use Rattle.grid_model.specs.Stories.{begun_in, story, with_value, progressed}
 use Rattle.grid_model.specs.Views.{view, stage, Stage, View, Open, Reads, open_of, participant}
 use Rattle.grid_model.specs.Advances.{advance}
 use Rattle.grid_model.specs.Fitness.{is_fit_at}
@@ -90,8 +90,8 @@ told-begin d past m b s is all =
     let now : List Act = act.Began s.number s.home sid0 ∷ past in
     let T : List Act → Type 0 = λ acts. AllTold d (after past acts) in
     subst T
-    (sym (kept-first m s.home b (act.Began s.number s.home sid0) (advance d.cluster (open_of s (begun sid0)) 0) refl))
-    (told-advance d now m s.home b s (begun sid0) 0 is (story-began d past s.number s.home sid0) (λ t w other e. other-told w d past (act.Void 0) s.number t s.home sid0 other (all t w e)))
+    (sym (kept-first m s.home b (act.Began s.number s.home sid0) (advance d.cluster (open_of s (begun_in d (node d past) s.number sid0)) 0) refl))
+    (told-advance d now m s.home b s (begun_in d (node d past) s.number sid0) 0 is (story-began d past s.number s.home sid0) (λ t w other e. other-told w d past (act.Void 0) s.number t s.home sid0 other (all t w e)))
 
 -- ---- the shapes of an event
 

@@ -5,6 +5,7 @@ pub mod MessageCauses
 pub mod Causes
 pub mod Frames
 pub mod OpenPhases
+pub mod DecisionsCount
 pub mod DueActs
 pub mod DueReads
 pub mod DueParts

@@ -41,7 +41,7 @@ pub reading-phases : phases read_then_write reading ≡ Reading 1 ∷ []
 reading-phases = refl
 
 abbrev pub open_again : Open
-open_again = record { script = copy_script; progress = record { sid0 = 1; turn = 1; sid = None; values = []; votes = [] } }
+open_again = record { script = copy_script; progress = record { sid0 = 1; turn = 0; sid = None; values = []; votes = [] } }
 
 pub reading-stage : stage (view read_then_write reading 1) 1 ≡ Reads open_again 1
 reading-stage = refl

@@ -153,6 +153,10 @@ abbrev pub over_at : (NodeId → Node) → Option ScriptData → ℕ
 over_at nodes None = 0
 over_at nodes (Some s) = times_over s.number (nodes s.home).journal
 
+-- a transaction that begins where the nodes are so
+abbrev pub begun_in : DocumentData → (NodeId → Node) → TxId → Ident → Story
+begun_in d nodes t sid0 = begun (over_at nodes (script_of t d.scripts)) sid0
+
 -- a transaction that came further
 abbrev pub progressed : (Progress → Progress) → Story → Story
 progressed f x = record x { progress = f x.progress }
@@ -216,7 +220,7 @@ asked d t said o = o
 
 -- the story of t behind one act more, by the messages that were sent and by the nodes
 abbrev pub told_on : DocumentData → List Envelope → (NodeId → Node) → Act → TxId → Option Story → Option Story
-told_on d ms nodes (act.Began u n sid0) t o = if u == t then Some (begun (over_at nodes (script_of t d.scripts)) sid0) else o
+told_on d ms nodes (act.Began u n sid0) t o = if u == t then Some (begun_in d nodes t sid0) else o
 told_on d ms nodes (act.Sent m x y said) t o = asked d t said o
 told_on d ms nodes (act.Got m) t o = heard_on d nodes (script_of t d.scripts) (sent_at m ms) o
 told_on d ms nodes (act.Taken u j sid v) t o = if_told (u == t) (progressed (with_value j sid v)) o
