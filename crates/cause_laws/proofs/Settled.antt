@@ -123,20 +123,21 @@ settled-closed d past s due h = go (story d past s.number) refl h
         let counts : x.skipped ≡ 0 = subst (λ o. skipped_in o ≡ 0) e (all-count d past due s.number) in
         rw (counts, later-all s.number r) (open-begun s x (is_closed s.number r) (decision s.number r) ∙ rw h refl)
 
+-- what is not settled is neither shut nor decided
+pub unsettled-undecided : (b : Bool) (o : Option Decision) → (b || is_some o) ≡ false → o ≡ None
+unsettled-undecided true o i = cc
+unsettled-undecided false None i = refl
+unsettled-undecided false (Some y) i = cc
+
+pub unsettled-unshut : (b : Bool) (o : Option Decision) → (b || is_some o) ≡ false → (b || false) ≡ false
+unsettled-unshut true o i = cc
+unsettled-unshut false o i = refl
+
 pub unsettled-open : (d : DocumentData) (past : List Act) (s : ScriptData) (x : Story) → story d past s.number ≡ Some x → is_settled d past s ≡ false → is_open (phase d past s) ≡ true
 unsettled-open d past s x told h =
     let r : List Record = journal d past s.home in
     let P : Option Story → Type 0 = λ o. is_open (phase_by s.ops o (is_closed s.number r) (later_decision (skipped_in o) s.number r)) ≡ true in
     let Q : Option Story → Type 0 = λ o. (is_shut s o || is_some (decision s.number r)) ≡ false in
     let none : (is_shut s (Some x) || is_some (decision s.number r)) ≡ false = subst Q told h in
-    let undecided : decision s.number r ≡ None = none-some (is_shut s (Some x)) (decision s.number r) none in
-    subst P (sym told) (rw (undecided-later x.skipped s.number r undecided) (open-begun s x (is_closed s.number r) None ∙ rw (shut-none (is_shut s (Some x)) (decision s.number r) none) refl))
-  where
-    none-some : (b : Bool) (o : Option Decision) → (b || is_some o) ≡ false → o ≡ None
-    none-some true o i = cc
-    none-some false None i = refl
-    none-some false (Some y) i = cc
-
-    shut-none : (b : Bool) (o : Option Decision) → (b || is_some o) ≡ false → (b || false) ≡ false
-    shut-none true o i = cc
-    shut-none false o i = refl
+    let later : later_decision x.skipped s.number r ≡ None = undecided-later x.skipped s.number r (unsettled-undecided (is_shut s (Some x)) (decision s.number r) none) in
+    subst P (sym told) (rw later (open-begun s x (is_closed s.number r) None ∙ rw (unsettled-unshut (is_shut s (Some x)) (decision s.number r) none) refl))
