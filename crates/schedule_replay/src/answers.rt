@@ -97,7 +97,7 @@ pub fn begin_outs(
     ensures few { IfOk result (λ outs. sends outs.items ≤ 16) }
 {
     let sid0 = commit_id(alloc, node.records.as_slice())?;
-    let story = begun(alloc, sid0);
+    let story = begun(alloc, 0, sid0);
     let tx = Open {
         script,
         story: &story,
