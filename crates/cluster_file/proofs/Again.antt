@@ -88,13 +88,13 @@ init_line_again d k v new room is low =
     (goes (name_new_key d.known k) _ (with_key d.known k) _ (passes (has_name d.known k) _ _ _ new (name_again MAX_KEYS d.known k room))
     (goes (number_at (decimal v ∷ [])) _ (v, []) _ (number_again v [] low) refl))
 
-pub tx_line_again : (d : Draft) (t : TxId) (n : NodeId) → length d.scripts < MAX_SCRIPTS → is_taken d.numbers t ≡ false → is_tx t ≡ true → nat_le n d.nodes ≡ true → is_node n ≡ true → tx_line d (decimal t ∷ node_word n ∷ []) ≡ Ok (record d { script = Some (record { number = t; home = n; ops = [] }); numbers = with_number d.numbers t; part = part.Scripts })
+pub tx_line_again : (d : Draft) (t : TxId) (n : NodeId) → length d.scripts < MAX_SCRIPTS → is_taken d.numbers t ≡ false → is_tx t ≡ true → nat_le n d.nodes ≡ true → is_node n ≡ true → tx_line d (decimal t ∷ node_word n ∷ []) ≡ Ok (record d { script = Some (record { number = t; home = n; session = 0; ops = [] }); numbers = with_number d.numbers t; part = part.Scripts })
 unfolding tx_line
 tx_line_again d t n room new is low node =
     let less : nat_le MAX_SCRIPTS (length d.scripts) ≡ false = grind (arith, nat_tests, room) in
     let both = and_parts (nat_le 1 n) (nat_le n MAX_NODES) node in
     passes (nat_le MAX_SCRIPTS (length d.scripts)) _ _ _ less
-    (goes (first_line d.nodes d.numbers (decimal t ∷ node_word n ∷ [])) _ (record { number = t; home = n; ops = [] }) _ (first_line_again d.nodes d.numbers t n new is both.0 low (small n MAX_NODES both.1 (omega arith))) refl)
+    (goes (first_line d.nodes d.numbers (decimal t ∷ node_word n ∷ [])) _ (record { number = t; home = n; session = 0; ops = [] }) _ (first_line_again d.nodes d.numbers t n new is both.0 low (small n MAX_NODES both.1 (omega arith))) refl)
 
 pub read_line_again : (d : Draft) (s : ScriptData) (k : Key) → length s.ops < MAX_OPS → length (insert_key (slice_cmp nat_cmp) d.known.keys k) ≤ MAX_KEYS → is_key k ≡ true → script_line d s (codes "read") (k ∷ []) ≡ Ok (record d { script = Some (record s { ops = s.ops ++ op.Read k ∷ [] }); known = with_key d.known k })
 unfolding script_line

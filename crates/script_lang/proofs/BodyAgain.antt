@@ -27,7 +27,7 @@ use Rattle.script_lang.proofs.NamesRead.{name_again}
 use Rattle.script_lang.proofs.StepsRead.{expr_again}
 
 pub first_line_again : (nodes : ℕ) (numbers : BTreeSet TxId) (t : TxId) (n : NodeId) → is_taken numbers t ≡ false → (nat_le 1 t && nat_le t MAX_TX) ≡ true → nat_le 1 n ≡ true → nat_le n nodes ≡ true → n < 2 ^ 64
-    → first_line nodes numbers (decimal t ∷ (110 ∷ decimal n) ∷ []) ≡ Ok (record { number = t; home = n; ops = [] })
+    → first_line nodes numbers (decimal t ∷ (110 ∷ decimal n) ∷ []) ≡ Ok (record { number = t; home = n; session = 0; ops = [] })
 unfolding first_line
 first_line_again nodes numbers t n new is least most low =
     goes (tx_of (decimal t)) _ t _ (tx_again t is)

@@ -35,7 +35,7 @@ first_line nodes numbers ws = do
   v ← word_at w.1
   n ← node_of nodes v.0
   end ← end_at v.1
-  Ok (record { number = t; home = n; ops = [] })
+  Ok (record { number = t; home = n; session = 0; ops = [] })
 
 -- 'read k'
 unfoldable pub read_line : ℕ → BTreeSet Key → ScriptData → List (List ℕ) → Result (Stage × BTreeSet Key) Why

@@ -38,7 +38,7 @@ pub fn first_line(
     let (word, rest) = word_at(rest)?;
     let home = node_of(nodes, word)?;
     end_at(rest)?;
-    Ok(ScriptDraft::new(alloc, number, home))
+    Ok(ScriptDraft::new(alloc, number, home, 0))
 }
 
 #[tactic(auto, unfolding(crate::specs::ScriptLines::read_line))]
