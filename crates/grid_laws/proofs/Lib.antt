@@ -32,6 +32,7 @@ pub mod DecisionsRest
 pub mod AbortsFinal
 pub mod ClosedSay
 pub mod LowWords
+pub mod FloorsLow
 pub mod ActsLow
 pub mod OutProposals
 pub mod EventProposals
