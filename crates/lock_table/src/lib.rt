@@ -219,34 +219,4 @@ fn take_key(locks: &mut Ordered<(Key, TxId), bool>, key: &Key, t: TxId, writes: 
 }
 
 #[cfg(test)]
-mod tests {
-    use super::*;
-    use std::test::Fail;
-
-    // Two transactions read `a`, and the first writes `b` too.
-    #[test]
-    fn least_holder(rt: HostRuntime) -> Result<(), Fail> {
-        let a = Key::new(b"a").ok_or("a key")?;
-        let b = Key::new(b"b").ok_or("a key")?;
-        let first = TxId { number: 4 };
-        let second = TxId { number: 2 };
-        let third = TxId { number: 7 };
-        let mut locks = Locks::new(rt.alloc());
-        locks.reserve(3)?;
-        assert!(rt; locks.holder(&[a], &[(b, Value(11))], first).is_none());
-        locks.take(&[a], &[(b, Value(11))], first);
-        assert!(rt; locks.holder(&[a], &[], second).is_none());
-        locks.take(&[a], &[], second);
-        assert_eq!(rt; locks.holder(&[], &[(a, Value(1))], third), Some(second));
-        assert_eq!(rt; locks.holder(&[b], &[], third), Some(first));
-        assert_eq!(rt; locks.holder(&[b], &[], first), None);
-        locks.free(second);
-        assert_eq!(rt; locks.holder(&[], &[(a, Value(1))], third), Some(first));
-        locks.free(first);
-        assert_eq!(rt;
-            locks.holder(&[], &[(a, Value(1)), (b, Value(2))], third),
-            None
-        );
-        Ok(())
-    }
-}
+mod tests;
