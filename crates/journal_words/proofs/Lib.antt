@@ -23,3 +23,4 @@ pub mod ParticipantWords
 pub mod AlikeWords
 pub mod AlikeFits
 pub mod SmallFits
+pub mod Needless

@@ -1,5 +1,6 @@
 -- What a compaction keeps of a journal: the records without what a later one makes needless. The newest stands first.
-use Rattle.std.specs.Prelude.{◌≡◌, Bool, true, ◌&&◌, ◌==◌, nat_le, List, [], ◌∷◌, reverse, if◌then◌else◌}
+use Rattle.std.specs.Prelude.{◌≡◌, Bool, true, false, ◌&&◌, ◌==◌, nat_le, List, [], ◌∷◌, reverse, if◌then◌else◌}
+use Rattle.std.specs.List.{slice_index_or}
 use Rattle.score_base.specs.declared.ids.TxId.{TxId}
 use Rattle.score_base.specs.declared.ids.Ident.{Ident}
 use Rattle.score_base.specs.declared.records.Record.{Record}
@@ -25,6 +26,33 @@ small [] = []
 small (record'.Ceiling c ∷ r) = record'.Ceiling c ∷ without_ceilings (small r)
 small (record'.Closed t ∷ r) = without_decided t (small r)
 small (x ∷ r) = x ∷ small r
+
+-- a record that those behind it make needless, where a Ceiling comes behind and these transactions are closed behind
+abbrev pub is_needless : Bool → (TxId → Bool) → Record → Bool
+is_needless ceiling closed (record'.Ceiling c) = ceiling
+is_needless ceiling closed (record'.Decided t f parts) = closed t
+is_needless ceiling closed (record'.Closed t) = true
+is_needless ceiling closed x = false
+
+-- the records that are not
+abbrev pub without_needless : Bool → (TxId → Bool) → List Record → List Record
+without_needless ceiling closed [] = []
+without_needless ceiling closed (x ∷ r) =
+    if is_needless ceiling closed x then without_needless ceiling closed r else x ∷ without_needless ceiling closed r
+
+-- the record is a Ceiling
+abbrev pub is_ceiling : Record → Bool
+is_ceiling (record'.Ceiling c) = true
+is_ceiling x = false
+
+-- the record is a Closed of t
+abbrev pub closes : TxId → Record → Bool
+closes t (record'.Closed u) = u == t
+closes t x = false
+
+-- the flag of t is set; behind the flags none is
+abbrev pub is_set : List Bool → TxId → Bool
+is_set flags t = slice_index_or flags t false
 
 -- Small of a list of records in the order of time
 abbrev pub small_in_time : List Record → List Record
