@@ -11,6 +11,7 @@ mod endings;
 mod fitting;
 mod pairs;
 mod proposals;
+mod smaller;
 mod values;
 
 pub use commits::{commit_id, is_clear};
@@ -21,4 +22,5 @@ pub use decisions::{
 pub use endings::{ended, floor, pending};
 pub use fitting::{are_own_keys, fits, is_among};
 pub use proposals::{Prepared, home_of, prepared_of};
+pub use smaller::small;
 pub use values::{newest, newest_version, version_at};
