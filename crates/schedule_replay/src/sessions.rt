@@ -34,8 +34,8 @@ fn snapshot_of(story: &Story) -> Ident
 /// What a transaction leaves to its session that its home did not decide.
 #[tactic(auto, using(crate::proofs::Left::undecided_left))]
 fn left_undecided(script: &Script, story: &Story, node: &PlainNode) -> Ident
-    requires { story.now.lost ≡ false }
-    requires { later_decision story.now.skipped script.now.number node.now.journal ≡ None }
+    requires running { story.now.lost ≡ false }
+    requires undecided { later_decision story.now.skipped script.now.number node.now.journal ≡ None }
     ensures { result ≡ left_by (phase_at script.now (Some story.now) node.now) (Some story.now) }
 {
     if !story.aborted && story.finished && !is_update(script.ops()) {
