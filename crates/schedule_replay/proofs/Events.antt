@@ -28,7 +28,7 @@ use Rattle.schedule_replay.proofs.Reopened.{are_lost, losses-lost, lost-posts, l
 -- ---- what nodes give
 
 pub few-begin : (d : DocumentData) (past : List Act) (k : ℕ) (s : ScriptData) → IsFew d past k → Counts (16 + k) 1 (begin_outs s.home (participant (view d past s.home)) s (floor_at d past s))
-few-begin d past k s f = counts-more 16 0 (16 + k) 1 (begin_outs s.home (participant (view d past s.home)) s (floor_at d past s)) (omega arith) (omega arith) (counts-begin s.home (participant (view d past s.home)) s)
+few-begin d past k s f = counts-more 16 0 (16 + k) 1 (begin_outs s.home (participant (view d past s.home)) s (floor_at d past s)) (omega arith) (omega arith) (counts-begin s.home (participant (view d past s.home)) s (floor_at d past s))
 
 pub few-answer : (d : DocumentData) (past : List Act) (k : ℕ) (e : Envelope) → IsFew d past k → Counts (16 + k) 1 (answer e.to (view d past e.to) e.from e.message)
 few-answer d past k e f = counts-more (16 + length (node d past e.to).held) 1 (16 + k) 1 (answer e.to (view d past e.to) e.from e.message) (omega (arith, f.held_few e.to)) (omega arith) (counts-answer e.to (participant (view d past e.to)) (view d past e.to).held (stage (view d past e.to) (tx_in e.message)) e.from e.message)
