@@ -31,7 +31,8 @@ told-more : (a : Act) (past : List Act) (t : TxId) (o : Option Story) → IsTold
 told-more a past t None h = tt
 told-more a past t (Some x) h = λ e. finished-more a past t (h e)
 
-told-now : (d : DocumentData) (past now : List Act) (a : Act) (t : TxId) → now ≡ a ∷ past → IsTold now t (story d past t) → IsTold now t (story d (a ∷ past) t)
+told-now : (d : DocumentData) (past now : List Act) (a : Act) (t : TxId) → now ≡ a ∷ past
+    → IsTold now t (story d past t) → IsTold now t (story d (a ∷ past) t)
 told-now d past now (act.Began u n sid0) t at k =
     else-claim (IsTold now t) (u == t) (Some (begun_in d (node d past) t sid0)) (story d past t) (λ same. λ e. cc) k
 told-now d past now (act.Sent m x y said) t at k = asked-claim (IsTold now t) (λ j x i. i) d t said (story d past t) k
@@ -53,7 +54,9 @@ stories-told d (a ∷ past) t =
     told-now d past (a ∷ past) a t refl (told-more a past t (story d past t) (stories-told d past t))
 
 -- a finished read-only transaction has all its values
-pub reader-full : (d : DocumentData) (past : List Act) (s : ScriptData) (x : Story) → AllDue d past → script_of s.number d.scripts ≡ Some s → story d past s.number ≡ Some x → x.finished ≡ true → is_update s.ops ≡ false → Full d past s.home s.number s (snapshot_in (Some x)) x.progress.values
+pub reader-full : (d : DocumentData) (past : List Act) (s : ScriptData) (x : Story) → AllDue d past
+    → script_of s.number d.scripts ≡ Some s → story d past s.number ≡ Some x → x.finished ≡ true
+    → is_update s.ops ≡ false → Full d past s.home s.number s (snapshot_in (Some x)) x.progress.values
 reader-full d past s x all is told finished reader =
     let P : Option Story → Type 0 = λ o. IsTold past s.number o in
     let says : is_finished past s.number ≡ true = subst P told (stories-told d past s.number) finished in

@@ -38,7 +38,8 @@ use Rattle.session_laws.proofs.PhasesSay.{Answers, answered-story, answers-phase
 -- ---- what is decided
 
 -- it is an update
-pub decided-update : (d : DocumentData) (past : List Act) (s : ScriptData) (f : Ident) → AllDue d past → script_of s.number d.scripts ≡ Some s → IsDecided d past s.number f → is_update s.ops ≡ true
+pub decided-update : (d : DocumentData) (past : List Act) (s : ScriptData) (f : Ident) → AllDue d past
+    → script_of s.number d.scripts ≡ Some s → IsDecided d past s.number f → is_update s.ops ≡ true
 decided-update d past s f all is w =
     let rests = (decisions-rest d past all false w.0 s.number f w.2).1 in
     let n = rests.reached.0 in
@@ -52,7 +53,8 @@ decided-update d past s f all is w =
     same y z e = cc
 
 -- it was not lost, aborted or answered
-shut-undecided : (d : DocumentData) (past : List Act) (s : ScriptData) (f : Ident) → AllDue d past → script_of s.number d.scripts ≡ Some s → is_shut s (story d past s.number) ≡ true → IsDecided d past s.number f → ⊥
+shut-undecided : (d : DocumentData) (past : List Act) (s : ScriptData) (f : Ident) → AllDue d past
+    → script_of s.number d.scripts ≡ Some s → is_shut s (story d past s.number) ≡ true → IsDecided d past s.number f → ⊥
 shut-undecided d past s f all is shut w = go (story d past s.number) (flags-meant d past s.number) shut
   where
     go : (o : Option Story) → Meant past s.number o → is_shut s o ≡ true → ⊥
@@ -70,12 +72,15 @@ shut-undecided d past s f all is shut w = go (story d past s.number) (flags-mean
 
 -- ---- committed
 
-left-decided : (ops : List Op) (x : Story) (c : Bool) (y : Decision) → x.lost ≡ false → left_by (phase_by ops (Some x) c (Some y)) (Some x) ≡ y.final
+left-decided : (ops : List Op) (x : Story) (c : Bool) (y : Decision) → x.lost ≡ false
+    → left_by (phase_by ops (Some x) c (Some y)) (Some x) ≡ y.final
 left-decided ops x true y e = rw e refl
 left-decided ops x false y e = rw e refl
 
 -- what is decided leaves its final identifier
-decided-left : (d : DocumentData) (past : List Act) (s : ScriptData) (x : Story) (y : Decision) → AllDue d past → script_of s.number d.scripts ≡ Some s → story d past s.number ≡ Some x → decision s.number (journal d past s.home) ≡ Some y → left_on (state_of d past) s ≡ y.final
+decided-left : (d : DocumentData) (past : List Act) (s : ScriptData) (x : Story) (y : Decision) → AllDue d past
+    → script_of s.number d.scripts ≡ Some s → story d past s.number ≡ Some x
+    → decision s.number (journal d past s.home) ≡ Some y → left_on (state_of d past) s ≡ y.final
 decided-left d past s x y all is told e =
     let r = journal d past s.home in
     let has : IsDecided d past s.number y.final = (s.home, home-is d s.number s.home s is refl, decision-has s.number y r e) in
@@ -90,13 +95,16 @@ decided-left d past s x y all is told e =
     go false i no' = refl
 
 -- what is decided at the end, and was settled before, left that
-pub committed-left : (d : DocumentData) (front past : List Act) (s : ScriptData) (x : Story) (f : Ident) → Follows d front past → script_of s.number d.scripts ≡ Some s → story d front s.number ≡ Some x → is_settled d front s ≡ true → IsDecided d past s.number f → left_on (state_of d front) s ≡ f
+pub committed-left : (d : DocumentData) (front past : List Act) (s : ScriptData) (x : Story) (f : Ident)
+    → Follows d front past → script_of s.number d.scripts ≡ Some s → story d front s.number ≡ Some x
+    → is_settled d front s ≡ true → IsDecided d past s.number f → left_on (state_of d front) s ≡ f
 committed-left d front past s x f b is told settled w = elim (or_cases (is_shut s (story d front s.number)) (is_some (decision s.number (journal d front s.home))) settled) [
   | inl shut ↦ absurd (shut-undecided d past s f b.due is (shut-later d front past s b shut) w)
   | inr some ↦ go (decision s.number (journal d front s.home)) refl some
 ]
   where
-    go : (o : Option Decision) → decision s.number (journal d front s.home) ≡ o → is_some o ≡ true → left_on (state_of d front) s ≡ f
+    go : (o : Option Decision) → decision s.number (journal d front s.home) ≡ o → is_some o ≡ true
+        → left_on (state_of d front) s ≡ f
     go None e i = cc
     go (Some y) e i =
         let has : IsDecided d front s.number y.final = (s.home, home-is d s.number s.home s is refl, decision-has s.number y (journal d front s.home) e) in
@@ -106,7 +114,9 @@ committed-left d front past s x f b is told settled w = elim (or_cases (is_shut 
 -- ---- answered
 
 -- what is not decided at the end was not decided before
-undecided-before : (d : DocumentData) (front past : List Act) (s : ScriptData) → Follows d front past → script_of s.number d.scripts ≡ Some s → decision s.number (journal d past s.home) ≡ None → decision s.number (journal d front s.home) ≡ None
+undecided-before : (d : DocumentData) (front past : List Act) (s : ScriptData) → Follows d front past
+    → script_of s.number d.scripts ≡ Some s → decision s.number (journal d past s.home) ≡ None
+    → decision s.number (journal d front s.home) ≡ None
 undecided-before d front past s b is none = go (decision s.number (journal d front s.home)) refl
   where
     none-some : (y : Decision) → None ≡ Some y → ⊥
@@ -122,7 +132,9 @@ undecided-before d front past s b is none = go (decision s.number (journal d fro
         absurd (none-some says.0 (sym none ∙ says.1))
 
 -- what is neither lost nor aborted at the end was so before
-unflagged-before : (d : DocumentData) (front past : List Act) (s : ScriptData) (x z : Story) → Follows d front past → story d front s.number ≡ Some x → story d past s.number ≡ Some z → z.aborted ≡ false → z.lost ≡ false → (x.aborted ≡ false) × (x.lost ≡ false)
+unflagged-before : (d : DocumentData) (front past : List Act) (s : ScriptData) (x z : Story) → Follows d front past
+    → story d front s.number ≡ Some x → story d past s.number ≡ Some z → z.aborted ≡ false → z.lost ≡ false
+    → (x.aborted ≡ false) × (x.lost ≡ false)
 unflagged-before d front past s x z b told end a l = (go x.aborted (λ e. never (or_left x.aborted x.lost e)), go x.lost (λ e. never (or_right x.aborted x.lost e)))
   where
     never : (x.aborted || x.lost) ≡ true → ⊥
@@ -136,14 +148,18 @@ unflagged-before d front past s x z b told end a l = (go x.aborted (λ e. never 
     go false no' = refl
 
 -- what is answered at the end, and was settled before, was answered before
-answered-before : (d : DocumentData) (front past : List Act) (s : ScriptData) (x z : Story) → Follows d front past → script_of s.number d.scripts ≡ Some s → story d front s.number ≡ Some x → is_settled d front s ≡ true → story d past s.number ≡ Some z → Answers s.ops z (decision s.number (journal d past s.home)) → Answers s.ops x (decision s.number (journal d front s.home))
+answered-before : (d : DocumentData) (front past : List Act) (s : ScriptData) (x z : Story) → Follows d front past
+    → script_of s.number d.scripts ≡ Some s → story d front s.number ≡ Some x → is_settled d front s ≡ true
+    → story d past s.number ≡ Some z → Answers s.ops z (decision s.number (journal d past s.home))
+    → Answers s.ops x (decision s.number (journal d front s.home))
 answered-before d front past s x z b is told settled end a =
     let none : decision s.number (journal d front s.home) ≡ None = undecided-before d front past s b is a.undecided in
     let free = unflagged-before d front past s x z b told end a.going a.kept in
     let P : Option Story → Type 0 = λ o. (is_shut s o || is_some (decision s.number (journal d front s.home))) ≡ true in
     record { kept = free.1; undecided = none; going = free.0; told = go x.lost x.aborted (x.finished && not (is_update s.ops)) (decision s.number (journal d front s.home)) free.1 free.0 none (subst P told settled) }
   where
-    go : (l c r : Bool) (o : Option Decision) → l ≡ false → c ≡ false → o ≡ None → ((l || (c || r)) || is_some o) ≡ true → r ≡ true
+    go : (l c r : Bool) (o : Option Decision) → l ≡ false → c ≡ false → o ≡ None → ((l || (c || r)) || is_some o) ≡ true
+        → r ≡ true
     go false false true None i j k e = refl
     go false false false None i j k e = cc
     go true c r o i j k e = cc
@@ -151,7 +167,9 @@ answered-before d front past s x z b is told settled end a =
     go false false r (Some y) i j k e = cc
 
 -- it left its snapshot
-pub answered-left : (d : DocumentData) (front past : List Act) (s : ScriptData) (x : Story) (i : Ident) → Follows d front past → script_of s.number d.scripts ≡ Some s → story d front s.number ≡ Some x → is_settled d front s ≡ true → AnsweredAt d past s i → left_on (state_of d front) s ≡ i
+pub answered-left : (d : DocumentData) (front past : List Act) (s : ScriptData) (x : Story) (i : Ident)
+    → Follows d front past → script_of s.number d.scripts ≡ Some s → story d front s.number ≡ Some x
+    → is_settled d front s ≡ true → AnsweredAt d past s i → left_on (state_of d front) s ≡ i
 answered-left d front past s x i b is told settled at =
     let r = journal d front s.home in
     let all : AllDue d front = follows-due d front past b in

@@ -23,7 +23,8 @@ use Rattle.grid_laws.proofs.DueAnswers.{home-is}
 -- ---- a decision that counts
 
 -- in a run each decision counts
-pub counts-all : (d : DocumentData) (past : List Act) → AllDue d past → (s : ScriptData) → later_decision (skipped_in (story d past s.number)) s.number (journal d past s.home) ≡ decision s.number (journal d past s.home)
+pub counts-all : (d : DocumentData) (past : List Act) → AllDue d past → (s : ScriptData)
+    → later_decision (skipped_in (story d past s.number)) s.number (journal d past s.home) ≡ decision s.number (journal d past s.home)
 counts-all d past all s =
     ap (λ k. later_decision k s.number (journal d past s.home)) (all-count d past all s.number)
     ∙ later-all s.number (journal d past s.home)
@@ -53,17 +54,20 @@ open-final (Some j) = refl
 undecided-final : (ops : List Op) (x : Story) → final_in (undecided_phase ops x) ≡ None
 undecided-final ops x = go x.aborted (x.finished && not (is_update ops))
   where
-    go : (a b : Bool) → final_in (if a then Aborted else (if b then Answered else open_phase (waiting ops x.progress.values))) ≡ None
+    go : (a b : Bool)
+        → final_in (if a then Aborted else (if b then Answered else open_phase (waiting ops x.progress.values))) ≡ None
     go true b = refl
     go false true = refl
     go false false = open-final (waiting ops x.progress.values)
 
-decided-final : (ops : List Op) (x : Story) (c : Bool) (o : Option Decision) (f : Ident) → final_in (decided_phase ops x c o) ≡ Some f → HasFinal o f
+decided-final : (ops : List Op) (x : Story) (c : Bool) (o : Option Decision) (f : Ident)
+    → final_in (decided_phase ops x c o) ≡ Some f → HasFinal o f
 decided-final ops x c None f e = absurd (none-some f (sym (undecided-final ops x) ∙ e))
 decided-final ops x true (Some y) f e = (y, refl, some-same y.final f e)
 decided-final ops x false (Some y) f e = (y, refl, some-same y.final f e)
 
-phase-final : (ops : List Op) (o : Option Story) (c : Bool) (w : Option Decision) (f : Ident) → final_in (phase_by ops o c w) ≡ Some f → HasFinal w f
+phase-final : (ops : List Op) (o : Option Story) (c : Bool) (w : Option Decision) (f : Ident)
+    → final_in (phase_by ops o c w) ≡ Some f → HasFinal w f
 phase-final ops None c w f e = absurd (none-some f e)
 phase-final ops (Some x) c w f e = go x.lost e
   where
@@ -71,12 +75,14 @@ phase-final ops (Some x) c w f e = go x.lost e
     go true i = absurd (none-some f i)
     go false i = decided-final ops x c w f i
 
-committed-final : (d : DocumentData) (past : List Act) (s : ScriptData) (f : Ident) → CommittedAt d past s f → final_in (phase d past s) ≡ Some f
+committed-final : (d : DocumentData) (past : List Act) (s : ScriptData) (f : Ident) → CommittedAt d past s f
+    → final_in (phase d past s) ≡ Some f
 committed-final d past s f (closed e) = ap final_in e
 committed-final d past s f (decided ns e) = ap final_in e
 
 -- a committed transaction is decided with its final identifier
-pub committed-decided : (d : DocumentData) (past : List Act) (s : ScriptData) (f : Ident) → AllDue d past → script_of s.number d.scripts ≡ Some s → CommittedAt d past s f → IsDecided d past s.number f
+pub committed-decided : (d : DocumentData) (past : List Act) (s : ScriptData) (f : Ident) → AllDue d past
+    → script_of s.number d.scripts ≡ Some s → CommittedAt d past s f → IsDecided d past s.number f
 committed-decided d past s f all is c =
     let r = journal d past s.home in
     let o : Option Story = story d past s.number in
@@ -98,17 +104,21 @@ open-unanswered : (w : Option ℕ) → open_phase w ≡ Answered → ⊥
 open-unanswered None e = cc
 open-unanswered (Some j) e = cc
 
-decided-answers : (ops : List Op) (x : Story) (c : Bool) (o : Option Decision) → x.lost ≡ false → decided_phase ops x c o ≡ Answered → Answers ops x o
+decided-answers : (ops : List Op) (x : Story) (c : Bool) (o : Option Decision) → x.lost ≡ false
+    → decided_phase ops x c o ≡ Answered → Answers ops x o
 decided-answers ops x true (Some y) l e = cc
 decided-answers ops x false (Some y) l e = cc
 decided-answers ops x c None l e = go x.aborted (x.finished && not (is_update ops)) refl refl e
   where
-    go : (a b : Bool) → x.aborted ≡ a → (x.finished && not (is_update ops)) ≡ b → (if a then Aborted else (if b then Answered else open_phase (waiting ops x.progress.values))) ≡ Answered → Answers ops x None
+    go : (a b : Bool) → x.aborted ≡ a → (x.finished && not (is_update ops)) ≡ b
+        → (if a then Aborted else (if b then Answered else open_phase (waiting ops x.progress.values))) ≡ Answered
+        → Answers ops x None
     go true b i j e = cc
     go false true i j e = record { kept = l; undecided = refl; going = i; told = j }
     go false false i j e = absurd (open-unanswered (waiting ops x.progress.values) e)
 
-phase-answers : (ops : List Op) (x : Story) (c : Bool) (o : Option Decision) → phase_by ops (Some x) c o ≡ Answered → Answers ops x o
+phase-answers : (ops : List Op) (x : Story) (c : Bool) (o : Option Decision) → phase_by ops (Some x) c o ≡ Answered
+    → Answers ops x o
 phase-answers ops x c o e = go x.lost refl e
   where
     go : (b : Bool) → x.lost ≡ b → (if b then Lost else decided_phase ops x c o) ≡ Answered → Answers ops x o
@@ -116,7 +126,8 @@ phase-answers ops x c o e = go x.lost refl e
     go false l i = decided-answers ops x c o l i
 
 -- the other way round
-pub answers-phase : (ops : List Op) (x : Story) (c : Bool) (o : Option Decision) → Answers ops x o → phase_by ops (Some x) c o ≡ Answered
+pub answers-phase : (ops : List Op) (x : Story) (c : Bool) (o : Option Decision) → Answers ops x o
+    → phase_by ops (Some x) c o ≡ Answered
 answers-phase ops x c o a =
     let l = a.kept in
     let u = a.undecided in
@@ -124,12 +135,15 @@ answers-phase ops x c o a =
     let t = a.told in
     rw (u, l) (rw (g, t) refl)
 
-pub answered-story : (d : DocumentData) (past : List Act) (s : ScriptData) → AllDue d past → phase d past s ≡ Answered → (x : Story) × (story d past s.number ≡ Some x) × Answers s.ops x (decision s.number (journal d past s.home))
+pub answered-story : (d : DocumentData) (past : List Act) (s : ScriptData) → AllDue d past → phase d past s ≡ Answered
+    → (x : Story) × (story d past s.number ≡ Some x) × Answers s.ops x (decision s.number (journal d past s.home))
 answered-story d past s all e = go (story d past s.number) refl (subst P (counts-all d past all s) e)
   where
     P : Option Decision → Type 0
     P = λ w. phase_by s.ops (story d past s.number) (is_closed s.number (journal d past s.home)) w ≡ Answered
 
-    go : (o : Option Story) → story d past s.number ≡ o → phase_by s.ops o (is_closed s.number (journal d past s.home)) (decision s.number (journal d past s.home)) ≡ Answered → (x : Story) × (story d past s.number ≡ Some x) × Answers s.ops x (decision s.number (journal d past s.home))
+    go : (o : Option Story) → story d past s.number ≡ o
+        → phase_by s.ops o (is_closed s.number (journal d past s.home)) (decision s.number (journal d past s.home)) ≡ Answered
+        → (x : Story) × (story d past s.number ≡ Some x) × Answers s.ops x (decision s.number (journal d past s.home))
     go None is e = cc
     go (Some x) is e = (x, is, phase-answers s.ops x (is_closed s.number (journal d past s.home)) (decision s.number (journal d past s.home)) e)

@@ -35,7 +35,9 @@ use Rattle.session_laws.proofs.PhasesSay.{committed-decided}
 -- ---- the transaction that began first
 
 -- it is open no more where another of its session begins
-earlier-over : (d : DocumentData) (front : List Act) (t u : ScriptData) (k : ℕ) (home : NodeId) (ident : Ident) → script_of t.number d.scripts ≡ Some t → script_of u.number d.scripts ≡ Some u → is_of k t ≡ true → is_of k u ≡ true → BeganDue d front u.number home ident → is_open (phase d front t) ≡ false
+earlier-over : (d : DocumentData) (front : List Act) (t u : ScriptData) (k : ℕ) (home : NodeId) (ident : Ident)
+    → script_of t.number d.scripts ≡ Some t → script_of u.number d.scripts ≡ Some u → is_of k t ≡ true
+    → is_of k u ≡ true → BeganDue d front u.number home ident → is_open (phase d front t) ≡ false
 earlier-over d front t u k home ident is at of also due =
     let P : ℕ → Type 0 = λ j. is_of j t ≡ true in
     let mine : is_of u.session t ≡ true = subst P (sym (session-is k u also)) of in
@@ -52,7 +54,8 @@ earlier-over d front t u k home ident is at of also due =
     other false c i e = cc
 
 -- what began and is open no more is settled
-over-settled : (d : DocumentData) (front : List Act) (t : ScriptData) (x : Story) → story d front t.number ≡ Some x → is_open (phase d front t) ≡ false → is_settled d front t ≡ true
+over-settled : (d : DocumentData) (front : List Act) (t : ScriptData) (x : Story) → story d front t.number ≡ Some x
+    → is_open (phase d front t) ≡ false → is_settled d front t ≡ true
 over-settled d front t x told over = go (is_settled d front t) refl
   where
     both : (b : Bool) → b ≡ false → b ≡ true → ⊥
@@ -63,7 +66,9 @@ over-settled d front t x told over = go (is_settled d front t) refl
     go false e = absurd (both (is_open (phase d front t)) over (unsettled-open d front t x told e))
 
 -- what it leaves is at most the identifier at which another of its session begins
-left-below : (d : DocumentData) (front : List Act) (t u : ScriptData) (k : ℕ) (home : NodeId) (ident : Ident) → script_of t.number d.scripts ≡ Some t → script_of u.number d.scripts ≡ Some u → is_of k t ≡ true → is_of k u ≡ true → BeganDue d front u.number home ident → left_on (state_of d front) t ≤ ident
+left-below : (d : DocumentData) (front : List Act) (t u : ScriptData) (k : ℕ) (home : NodeId) (ident : Ident)
+    → script_of t.number d.scripts ≡ Some t → script_of u.number d.scripts ≡ Some u → is_of k t ≡ true
+    → is_of k u ≡ true → BeganDue d front u.number home ident → left_on (state_of d front) t ≤ ident
 left-below d front t u k home ident is at of also due =
     let P : ℕ → Type 0 = λ j. is_of j t ≡ true in
     let mine : is_of u.session t ≡ true = subst P (sym (session-is k u also)) of in
@@ -81,11 +86,13 @@ left-below d front t u k home ident is at of also due =
 -- ---- the transaction that begins behind it
 
 -- an answered one has a snapshot of at least the identifier at which it began
-answered-above : (d : DocumentData) (past : List Act) (u : ScriptData) (ident i : Ident) → AllDue d past → BeginsAt ident (story d past u.number) → AnsweredAt d past u i → ident ≤ i
+answered-above : (d : DocumentData) (past : List Act) (u : ScriptData) (ident i : Ident) → AllDue d past
+    → BeginsAt ident (story d past u.number) → AnsweredAt d past u i → ident ≤ i
 answered-above d past u ident i all began a = let P : Ident → Type 0 = λ j. ident ≤ j in subst P a.at (snapshot-above d past all u.number ident began)
 
 -- a committed one has a final identifier above it
-committed-above : (d : DocumentData) (past : List Act) (u : ScriptData) (ident g : Ident) → AllDue d past → BeginsAt ident (story d past u.number) → IsDecided d past u.number g → ident < g
+committed-above : (d : DocumentData) (past : List Act) (u : ScriptData) (ident g : Ident) → AllDue d past
+    → BeginsAt ident (story d past u.number) → IsDecided d past u.number g → ident < g
 committed-above d past u ident g all began w =
     let above : ident ≤ snapshot d past u.number = snapshot-above d past all u.number ident began in
     let fresh : snapshot d past u.number < g = (decisions-rest d past all false w.0 u.number g w.2).1.fresh in
@@ -94,7 +101,10 @@ committed-above d past u ident g all began w =
 -- ---- two of one session
 
 -- the first leaves at most the identifier at which the second began
-in-order : (d : DocumentData) (front past : List Act) (t u : ScriptData) (x : Story) (ident : Ident) → Follows d front past → script_of t.number d.scripts ≡ Some t → script_of u.number d.scripts ≡ Some u → story d front t.number ≡ Some x → is_open (phase d front t) ≡ false → left_on (state_of d front) t ≤ ident → BeginsAt ident (story d past u.number) → InOrder d past t u front
+in-order : (d : DocumentData) (front past : List Act) (t u : ScriptData) (x : Story) (ident : Ident)
+    → Follows d front past → script_of t.number d.scripts ≡ Some t → script_of u.number d.scripts ≡ Some u
+    → story d front t.number ≡ Some x → is_open (phase d front t) ≡ false → left_on (state_of d front) t ≤ ident
+    → BeginsAt ident (story d past u.number) → InOrder d past t u front
 in-order d front past t u x ident b is at told over below began =
     record {
       over = over;
