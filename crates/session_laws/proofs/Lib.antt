@@ -4,3 +4,4 @@ pub mod FinishedTold
 pub mod FloorsCover
 pub mod LeftBefore
 pub mod SessionOrders
+pub mod SessionRuns
