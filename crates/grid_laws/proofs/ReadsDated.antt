@@ -55,9 +55,8 @@ request-due d past n y q all due c = elim (story-step d past q.t due.script due.
   | inl none ↦
       let reads : waiting due.script.ops [] ≡ Some q.op = ap (waiting due.script.ops) (sym none.1) ∙ due.reads in
       let sid0 : Ident = due.story.progress.sid0 in
-      let date : dated q.date c ≡ max sid0 c =
-      ap (λ z. dated z c) due.date ∙ ap (λ o. dated (date_by sid0 o) c) none.0 in
-      let above : sid0 ≤ dated q.date c = rw date (le-max_left sid0 c) in
+      let is : dated q.date c ≡ max sid0 c = ap (λ z. dated z c) due.date ∙ ap (λ o. dated (date_by sid0 o) c) none.0 in
+      let above : sid0 ≤ dated q.date c = rw is (le-max_left sid0 c) in
       let below = below-now d past q.t due.story (dated q.date c) due.at.story above in
       record { script = due.script; is = due.at.script; dated = inl (reads, below) }
   | inr some ↦
