@@ -4,6 +4,7 @@ use Rattle.std.specs.Prelude.{IfOk}
 use Rattle.std.proofs.lemmas.Bool.{cases_lt}
 use Rattle.std.proofs.lemmas.Grind.{common_steps}
 use Rattle.score_base.specs.Faults.{Rose}
+use Rattle.score_disk.specs.Files.{File}
 use Rattle.score_disk.specs.declared.disk.Disk.{Ghosts}
 use Rattle.node_journal.specs.declared.ends.PairEnd.{PairEnd}
 use Rattle.node_journal.specs.declared.ends.PairEnd.TheVariants.{Failed, NotJournal, Memory}
@@ -11,6 +12,7 @@ use Rattle.node_journal.specs.Calls.{lowered}
 use Rattle.node_journal.specs.Ends.{MatchPairEnd}
 use Rattle.node_journal.specs.Log.{generation}
 use Rattle.node_journal.specs.Pairs.{age, second_lives, in_order}
+use Rattle.node_journal.specs.Torn.{LeavesAsBefore}
 use Rattle.node_journal.specs.Spending.{Halted, Untouched}
 use Rattle.node_journal.proofs.Versions.{generation_short}
 
@@ -29,6 +31,17 @@ younger_long first second e = elim (cases_lt 9 (length second)) [
       let none : age (generation second) ≡ 0 = ap age (generation_short second (omega (arith, short))) in
       let less : age (generation first) < age (generation second) = grind (arith, common_steps, e) in
       absurd (omega (arith, none, less))
+]
+
+-- and so is as before, whatever its opening leaves
+pub kept_long : (first : List ℕ) (second mid now : File) → second_lives first second.seen ≡ true → mid ≡ second →
+    LeavesAsBefore mid now → now ≡ second
+kept_long first second mid now is same leaves = elim leaves [
+  | inl e ↦ e ∙ same
+  | inr short ↦
+      let long : 2 < length second.seen = younger_long first second.seen is in
+      let less : length second.seen ≤ 2 = subst (λ (f : File). length f.seen ≤ 2) same short.0 in
+      absurd (omega (arith, long, less))
 ]
 
 pub both_ok : {T E : Type 0} (r : Result T E) (P Q : T → Type 0) → IfOk r P → IfOk r Q → IfOk r (λ x. P x × Q x)
@@ -72,23 +85,31 @@ module _ {D : Type 0} (d : Ghosts D) where
   both_kept false live other f g s t e o first last kept = cc
 
   -- what an opening of the live disk says at its end is said of the two
-  module _ (f g s t : D) (first : Untouched d f g) (last : Untouched d s t) (Bad : ℕ → Type 0) where
-    pub second_ends : (e : PairEnd D) (K : D → D → Type 0) (L : ℕ → Type 0) → ((at : ℕ) → L at → Bad at) →
-        MatchPairEnd e (λ a b. Halted d 2 t b × (a ≡ g) × K a b) (λ a b at. Untouched d t b × (a ≡ g) × L at)
-        (λ a b. Untouched d t b × (a ≡ g)) →
-        MatchPairEnd e (λ a b. (Halted d 2 f a × Untouched d s b) ⊎ (Untouched d f a × Halted d 2 s b))
-        (λ a b at. Untouched d f a × Untouched d s b × Bad at) (λ a b. Untouched d f a × Untouched d s b)
-    second_ends (Failed a b) K L bad h = inr (subst (Untouched d f) (sym h.1) first, halted_on 2 s t b last h.0)
-    second_ends (NotJournal a b at) K L bad h =
-        (subst (Untouched d f) (sym h.1) first, untouched_on s t b last h.0, bad at h.2)
-    second_ends (Memory a b) K L bad h = (subst (Untouched d f) (sym h.1) first, untouched_on s t b last h.0)
+  module _ (f g s t : D) (first : Untouched d f g) (last : Untouched d s t) (Files : D → D → Type 0)
+      (Bad : ℕ → Type 0) where
+    abbrev pub Ends : PairEnd D → Type 0
+    Ends e =
+        MatchPairEnd e
+        (λ a b. ((Halted d 2 f a × Untouched d s b) ⊎ (Untouched d f a × Halted d 2 s b)) × Files a b)
+        (λ a b at. Untouched d f a × Untouched d s b × Bad at)
+        (λ a b. Untouched d f a × Untouched d s b)
 
-    pub first_ends : (e : PairEnd D) (K : D → D → Type 0) (L : ℕ → Type 0) → ((at : ℕ) → L at → Bad at) →
+    pub second_ends : (e : PairEnd D) (K : D → D → Type 0) (L : ℕ → Type 0) →
+        ((a b : D) → a ≡ g → K a b → Files a b) → ((at : ℕ) → L at → Bad at) →
+        MatchPairEnd e (λ a b. Halted d 2 t b × (a ≡ g) × K a b) (λ a b at. Untouched d t b × (a ≡ g) × L at)
+        (λ a b. Untouched d t b × (a ≡ g)) → Ends e
+    second_ends (Failed a b) K L files bad h =
+        (inr (subst (Untouched d f) (sym h.1) first, halted_on 2 s t b last h.0), files a b h.1 h.2)
+    second_ends (NotJournal a b at) K L files bad h =
+        (subst (Untouched d f) (sym h.1) first, untouched_on s t b last h.0, bad at h.2)
+    second_ends (Memory a b) K L files bad h = (subst (Untouched d f) (sym h.1) first, untouched_on s t b last h.0)
+
+    pub first_ends : (e : PairEnd D) (K : D → D → Type 0) (L : ℕ → Type 0) →
+        ((a b : D) → b ≡ t → K a b → Files a b) → ((at : ℕ) → L at → Bad at) →
         MatchPairEnd e (λ a b. Halted d 2 g a × (b ≡ t) × K a b) (λ a b at. Untouched d g a × (b ≡ t) × L at)
-        (λ a b. Untouched d g a × (b ≡ t)) →
-        MatchPairEnd e (λ a b. (Halted d 2 f a × Untouched d s b) ⊎ (Untouched d f a × Halted d 2 s b))
-        (λ a b at. Untouched d f a × Untouched d s b × Bad at) (λ a b. Untouched d f a × Untouched d s b)
-    first_ends (Failed a b) K L bad h = inl (halted_on 2 f g a first h.0, subst (Untouched d s) (sym h.1) last)
-    first_ends (NotJournal a b at) K L bad h =
+        (λ a b. Untouched d g a × (b ≡ t)) → Ends e
+    first_ends (Failed a b) K L files bad h =
+        (inl (halted_on 2 f g a first h.0, subst (Untouched d s) (sym h.1) last), files a b h.1 h.2)
+    first_ends (NotJournal a b at) K L files bad h =
         (untouched_on f g a first h.0, subst (Untouched d s) (sym h.1) last, bad at h.2)
-    first_ends (Memory a b) K L bad h = (untouched_on f g a first h.0, subst (Untouched d s) (sym h.1) last)
+    first_ends (Memory a b) K L files bad h = (untouched_on f g a first h.0, subst (Untouched d s) (sym h.1) last)

@@ -6,6 +6,7 @@ ghost use Rattle.journal_records.specs.Records.{CanEncode};
 ghost use Rattle.node_journal.specs.Calls.{HasRoom};
 ghost use Rattle.node_journal.specs.Ends.{MatchPairEnd};
 ghost use Rattle.node_journal.specs.Log.{generation, log};
+ghost use Rattle.node_journal.specs.Torn.{LeavesAsBefore};
 ghost use Rattle.node_journal.specs.Pairs.{in_order, IsListed, IsLive, listed_in, number_of};
 ghost use Rattle.node_journal.specs.Sets.{IsLog-prop};
 
@@ -88,8 +89,7 @@ impl<D: Disk> Pair<D> {
         ensures end { IfErr result (λ e. MatchPairEnd e
             (λ a b. Halted D.Disk 2 live (in_order second (λ live _. live) a b)
             × (in_order second (λ _ other. other) a b ≡ other)
-            × (IsTrue (D.tells live) → 2 < length (D.file live).seen →
-            D.file (in_order second (λ live _. live) a b) ≡ D.file live))
+            × (IsTrue (D.tells live) → LeavesAsBefore (D.file live) (D.file (in_order second (λ live _. live) a b))))
             (λ a b at. Untouched D.Disk live (in_order second (λ live _. live) a b)
             × (in_order second (λ _ other. other) a b ≡ other)
             × (IsTrue (D.tells live) → log (D.file live).seen ≡ Err at))
@@ -156,8 +156,10 @@ impl<D: Disk> Pair<D> {
             second_lives (D.file first).seen (D.file second).seen ≡ false → length (D.file first).seen ≤ 2 →
             D.file (first_of x.0) ≡ synced (written 0 (1 ∷ 0 ∷ []) (D.file first))) }
         ensures end { IfErr result (λ e. MatchPairEnd e
-            (λ a b. (Halted D.Disk 2 first a × Untouched D.Disk second b)
+            (λ a b. ((Halted D.Disk 2 first a × Untouched D.Disk second b)
             ⊎ (Untouched D.Disk first a × Halted D.Disk 2 second b))
+            × (IsTrue (D.tells first) → IsTrue (D.tells second) →
+            LeavesAsBefore (D.file first) (D.file a) × (D.file b ≡ D.file second)))
             (λ a b at. Untouched D.Disk first a × Untouched D.Disk second b
             × (IsTrue (D.tells first) → IsTrue (D.tells second) →
             pair_log (D.file first).seen (D.file second).seen ≡ Err at))
@@ -365,16 +367,19 @@ impl<D: Disk> Pair<D> {
 }
 
 impl<D: CrashDisk> Pair<Fused<D>> {
-    ghost use Rattle.node_journal.specs.PairDisks.{list_of};
-
     /// Arms the fuses of both disks with `k`, at least 1. All else is as before.
     pub fn arm(&mut self, k: u64)
         requires { 1 ≤ k }
         ensures live { self.new.live.disk ≡ record self.old.live.disk { left = Some k } }
         ensures other { self.new.other ≡ record self.old.other { left = Some k } }
+        ensures gate { self.new.live.gate ≡ self.old.live.gate }
+        ensures scratch { self.new.live.scratch ≡ self.old.live.scratch }
+        ensures body { self.new.live.body ≡ self.old.live.body }
+        ensures frame { self.new.live.frame ≡ self.old.live.frame }
+        ensures listed { self.new.listed ≡ self.old.listed }
+        ensures spelled { self.new.spelled ≡ self.old.spelled }
         ensures second { self.new.second ≡ self.old.second }
         ensures number { self.new.number ≡ self.old.number }
-        ensures list { list_of self.new ≡ list_of self.old }
     {
         self.live.arm(k);
         self.other.arm(k);
@@ -384,9 +389,14 @@ impl<D: CrashDisk> Pair<Fused<D>> {
     pub fn disarm(&mut self)
         ensures live { self.new.live.disk ≡ record self.old.live.disk { left = None } }
         ensures other { self.new.other ≡ record self.old.other { left = None } }
+        ensures gate { self.new.live.gate ≡ self.old.live.gate }
+        ensures scratch { self.new.live.scratch ≡ self.old.live.scratch }
+        ensures body { self.new.live.body ≡ self.old.live.body }
+        ensures frame { self.new.live.frame ≡ self.old.live.frame }
+        ensures listed { self.new.listed ≡ self.old.listed }
+        ensures spelled { self.new.spelled ≡ self.old.spelled }
         ensures second { self.new.second ≡ self.old.second }
         ensures number { self.new.number ≡ self.old.number }
-        ensures list { list_of self.new ≡ list_of self.old }
     {
         self.live.disarm();
         self.other.disarm();

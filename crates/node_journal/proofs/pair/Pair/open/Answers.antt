@@ -1,10 +1,11 @@
-use Rattle.std.proofs.Common.{◌≡◌, true, false, ◌<◌, length, Err, IsTrue, sym, ap, subst, ◌∙◌}
+use Rattle.std.proofs.Common.{◌≡◌, true, false, ◌<◌, length, Err, IsTrue, sym, ap, subst, ◌∙◌, inl}
 use Rattle.std.proofs.lemmas.Result.{IfOk-weaker, IfErr-weaker}
 use Rattle.score_disk.specs.Files.{File}
 use Rattle.node_journal.specs.Log.{log}
 use Rattle.node_journal.specs.Pairs.{second_lives, pair_log}
 use Rattle.node_journal.proofs.Pairs.{pair_is}
-use Rattle.node_journal.proofs.PairOpenings.{chosen, younger_long, both_ok, both_kept, second_ends, first_ends}
+use Rattle.node_journal.specs.Torn.{LeavesAsBefore}
+use Rattle.node_journal.proofs.PairOpenings.{chosen, kept_long, younger_long, both_ok, both_kept, second_ends, first_ends}
 use Rattle.node_journal.proofs.pair.Pair.open.Goals as goal
 
 pub returns-then-is_younger-clause-log : goal.returns-then-is_younger-clause-log
@@ -57,15 +58,23 @@ returns-then-is_younger-clause-end g c =
     let s : File = d.file c.args.second in
     let first = (let l = c.in-Ok.ensures.looked in l.ok) in
     let last = (let l = c.in-Ok-generation_of.ensures.looked in l.ok) in
+    let is = λ (t : IsTrue (d.tells c.args.first)) (u : IsTrue (d.tells c.args.second)).
+    chosen f.seen s.seen _ _ _ _ (c.in-Ok.ensures.generation t) (c.in-Ok-generation_of.ensures.generation u)
+    c.is_younger.ensures c.if-is_younger.true in
     IfErr-weaker c.open_live.result _ _ (λ e h.
     second_ends d c.args.first c.generation_of.new.disk c.args.second c.generation_of-2.new.disk first last
+    (λ a b. IsTrue (d.tells c.args.first) → IsTrue (d.tells c.args.second) →
+    LeavesAsBefore f (d.file a) × (d.file b ≡ s))
     (λ at. IsTrue (d.tells c.args.first) → IsTrue (d.tells c.args.second) → pair_log f.seen s.seen ≡ Err at)
-    e _ _ (λ at bad t u.
-    let one = c.in-Ok.ensures.generation t in
-    let two = c.in-Ok-generation_of.ensures.generation u in
-    let is : second_lives f.seen s.seen ≡ true =
-    chosen f.seen s.seen _ _ _ _ one two c.is_younger.ensures c.if-is_younger.true in
-    pair_is true s.seen f.seen is ∙ ap (λ (k : File). log k.seen) (sym last.file)
+    e (λ a b. IsTrue (d.tells c.generation_of-2.new.disk) →
+    LeavesAsBefore (d.file c.generation_of-2.new.disk) (d.file b)) _
+    (λ a b same k t u. (
+      inl (ap d.file same ∙ first.file),
+      kept_long f.seen s (d.file c.generation_of-2.new.disk) (d.file b)
+          (is t u) last.file
+          (k (subst IsTrue (sym last.tells) u)),
+    ))
+    (λ at bad t u. pair_is true s.seen f.seen (is t u) ∙ ap (λ (k : File). log k.seen) (sym last.file)
     ∙ bad (subst IsTrue (sym last.tells) u)) h) c.open_live.ensures.end
 
 pub returns-else-is_younger-clause-end : goal.returns-else-is_younger-clause-end
@@ -75,13 +84,20 @@ returns-else-is_younger-clause-end g c =
     let s : File = d.file c.args.second in
     let first = (let l = c.in-Ok.ensures.looked in l.ok) in
     let last = (let l = c.in-Ok-generation_of.ensures.looked in l.ok) in
+    let is = λ (t : IsTrue (d.tells c.args.first)) (u : IsTrue (d.tells c.args.second)).
+    chosen f.seen s.seen _ _ _ _ (c.in-Ok.ensures.generation t) (c.in-Ok-generation_of.ensures.generation u)
+    c.is_younger.ensures c.if-is_younger.false in
     IfErr-weaker c.open_live-else-is_younger.result _ _ (λ e h.
     first_ends d c.args.first c.generation_of.new.disk c.args.second c.generation_of-2.new.disk first last
+    (λ a b. IsTrue (d.tells c.args.first) → IsTrue (d.tells c.args.second) →
+    LeavesAsBefore f (d.file a) × (d.file b ≡ s))
     (λ at. IsTrue (d.tells c.args.first) → IsTrue (d.tells c.args.second) → pair_log f.seen s.seen ≡ Err at)
-    e _ _ (λ at bad t u.
-    let one = c.in-Ok.ensures.generation t in
-    let two = c.in-Ok-generation_of.ensures.generation u in
-    let is : second_lives f.seen s.seen ≡ false =
-    chosen f.seen s.seen _ _ _ _ one two c.is_younger.ensures c.if-is_younger.false in
-    pair_is false f.seen s.seen is ∙ ap (λ (k : File). log k.seen) (sym first.file)
+    e (λ a b. IsTrue (d.tells c.generation_of.new.disk) →
+    LeavesAsBefore (d.file c.generation_of.new.disk) (d.file a)) _
+    (λ a b same k t u. (
+      subst (λ n. LeavesAsBefore n (d.file a)) first.file
+          (k (subst IsTrue (sym first.tells) t)),
+      ap d.file same ∙ last.file,
+    ))
+    (λ at bad t u. pair_is false f.seen s.seen (is t u) ∙ ap (λ (k : File). log k.seen) (sym first.file)
     ∙ bad (subst IsTrue (sym first.tells) t)) h) c.open_live-else-is_younger.ensures.end
