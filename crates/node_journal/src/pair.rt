@@ -182,9 +182,11 @@ impl<D: Disk> Pair<D> {
         }
     }
 
-    /// The generation of the live file.
+    /// The generation of the live file; 0 where it is of version 1.
     pub fn generation(&self) -> u64
-        ensures { result ≡ self.now.number }
+        ensures value { result ≡ self.now.number }
+        ensures live { IsTrue (D.tells self.now.live.disk) →
+            result ≡ number_of (generation (D.file self.now.live.disk).seen) }
     {
         self.number
     }
@@ -222,6 +224,7 @@ impl<D: Disk> Pair<D> {
     pub fn stop(self) -> (D, D)
         ensures settled_first { Settled (D.tells result.0) (D.file result.0) }
         ensures settled_last { Settled (D.tells result.1) (D.file result.1) }
+        ensures log { TellsBoth self → pair_log (D.file result.0).seen (D.file result.1).seen ≡ Ok (list_of self) }
         ensures first { result.0 ≡ in_order self.second (λ first _. first) self.live.disk self.other }
         ensures last { result.1 ≡ in_order self.second (λ _ last. last) self.live.disk self.other }
     {
