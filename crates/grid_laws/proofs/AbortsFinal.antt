@@ -34,7 +34,7 @@ use Rattle.grid_laws.proofs.ClosedSay.{over-more, closed-say, closed-stands}
 
 -- ---- what a story's flags mean
 
-abbrev Meant : List Act → TxId → Option Story → Type 0
+abbrev pub Meant : List Act → TxId → Option Story → Type 0
 Meant past t None = Unit {0}
 Meant past t (Some x) = (x.lost ≡ true → is_given_up t past ≡ true) × (x.aborted ≡ true → is_given_up t past ≡ true)
 
@@ -66,7 +66,7 @@ meant-told d past now (act.Lost u) t at k =
 meant-told d past now (act.Down n h) t at k = if-claim (Meant now t) (is_home d t n) _ (story d past t) (λ e x i. i) k
 meant-told d past now a t at k = k
 
-flags-meant : (d : DocumentData) (past : List Act) (t : TxId) → Meant past t (story d past t)
+pub flags-meant : (d : DocumentData) (past : List Act) (t : TxId) → Meant past t (story d past t)
 flags-meant d [] t = tt
 flags-meant d (a ∷ past) t =
     meant-told d past (a ∷ past) a t refl (meant-more a past t (story d past t) (flags-meant d past t))

@@ -31,7 +31,7 @@ closed-stage = refl
 
 -- ---- it begins again
 
-pub again-outs : outs_of 1 (view read_then_write closed 1) (event.Begin copy_script) ≡ out.Act (act.Began 1 1 1) ∷ out.Send 2 (request 1 1 a (date.First 1)) ∷ []
+pub again-outs : outs_of 1 (view read_then_write closed 1) (event.Begin copy_script 0) ≡ out.Act (act.Began 1 1 1) ∷ out.Send 2 (request 1 1 a (date.First 1)) ∷ []
 again-outs = refl
 
 abbrev pub reading : List Act

@@ -4,6 +4,7 @@ use Rattle.std.specs.List.{list_all, flat_map, range_with_len}
 use Rattle.std.proofs.lemmas.Bool.Decides.{nat_tests}
 use Rattle.score_base.specs.declared.ids.TxId.{TxId}
 use Rattle.score_base.specs.declared.ids.NodeId.{NodeId}
+use Rattle.score_base.specs.declared.ids.Ident.{Ident}
 use Rattle.score_base.specs.declared.records.Record.{Record}
 use Rattle.score_base.specs.declared.records.Record.TheVariants as record'
 use Rattle.script_lang.specs.Scripts.{ScriptData}
@@ -25,7 +26,8 @@ use Rattle.grid_model.specs.Nodes.{Node, node, journal, script_of, is_home}
 use Rattle.grid_model.specs.Stories.{story, phase, phase_by, is_open, skipped_in, over_at}
 use Rattle.grid_model.specs.Views.{View, Open, open_at, view, stage, participant}
 use Rattle.grid_model.specs.Advances.{advance}
-use Rattle.grid_model.specs.Rows.{answer, begin_outs, begun_at}
+use Rattle.grid_model.specs.Rows.{first_ident, answer, begin_outs, begun_at}
+use Rattle.grid_model.specs.Sessions.{floor_at}
 use Rattle.grid_model.specs.Schedules.{Choice, numbered, kept, broken, next_number, acts_of, flag_of, lost_at, opened_row, row, start_act, start_row, events_in}
 use Rattle.grid_model.specs.Runs.{Rows, IsRun}
 use Rattle.grid_model.specs.NextViews.{OwnDecisions, is_running}
@@ -130,16 +132,16 @@ begun-owed d past s kept_now script new =
     unknown true false true is = grind arith
     unknown false false true is = grind arith
 
-begin-calm : (d : DocumentData) (past : List Act) (s : ScriptData) (k : ℕ) (keeps : Bool) → OweAll d (act.Began s.number s.home (commit_id (journal d past s.home)) ∷ past) (numbered k s.home (kept keeps s.home (advance d.cluster (begun_at s (commit_id (journal d past s.home))) 0)))
-begin-calm d past s k keeps =
-    let os : List Out = advance d.cluster (begun_at s (commit_id (journal d past s.home))) 0 in
-    let plain : IsTrue (are_plain d s.home false os) = advance-plain d s.home false d.cluster (begun_at s (commit_id (journal d past s.home))) 0 in
-    calm-all d (act.Began s.number s.home (commit_id (journal d past s.home)) ∷ past) (numbered k s.home (kept keeps s.home os)) (plain-calm d s.home false keeps k os plain)
+begin-calm : (d : DocumentData) (past : List Act) (s : ScriptData) (sid0 : Ident) (k : ℕ) (keeps : Bool) → OweAll d (act.Began s.number s.home sid0 ∷ past) (numbered k s.home (kept keeps s.home (advance d.cluster (begun_at s sid0) 0)))
+begin-calm d past s sid0 k keeps =
+    let os : List Out = advance d.cluster (begun_at s sid0) 0 in
+    let plain : IsTrue (are_plain d s.home false os) = advance-plain d s.home false d.cluster (begun_at s sid0) 0 in
+    calm-all d (act.Began s.number s.home sid0 ∷ past) (numbered k s.home (kept keeps s.home os)) (plain-calm d s.home false keeps k os plain)
 
-begin-owes : (d : DocumentData) (past : List Act) (s : ScriptData) → Keeps d past → script_of s.number d.scripts ≡ Some s → story d past s.number ≡ None → (k : ℕ) (keeps : Bool)
-    → OweAll d past (numbered k s.home (kept keeps s.home (begin_outs s.home (participant (view d past s.home)) s)))
-begin-owes d past s kept_now script new k true = (begun-owed d past s kept_now script new, begin-calm d past s k true)
-begin-owes d past s kept_now script new k false = (begun-owed d past s kept_now script new, begin-calm d past s k false)
+begin-owes : (d : DocumentData) (past : List Act) (s : ScriptData) (floor : Ident) → Keeps d past → script_of s.number d.scripts ≡ Some s → story d past s.number ≡ None → (k : ℕ) (keeps : Bool)
+    → OweAll d past (numbered k s.home (kept keeps s.home (begin_outs s.home (participant (view d past s.home)) s floor)))
+begin-owes d past s floor kept_now script new k true = (begun-owed d past s kept_now script new, begin-calm d past s (first_ident (participant (view d past s.home)) floor) k true)
+begin-owes d past s floor kept_now script new k false = (begun-owed d past s kept_now script new, begin-calm d past s (first_ident (participant (view d past s.home)) floor) k false)
 
 again-plain : (d : DocumentData) (past : List Act) (n : NodeId) (os : List Out) → IsAgain d past n os → IsTrue (are_plain d n false os)
 again-plain d past n os (retries t is) = rw is (retry-plain d n d.cluster t (stage (view d past n) t))
@@ -213,7 +215,7 @@ shape-owes d past kept_now i c (idle acts is) = calm-all d past acts (idle-pass 
 shape-owes d past kept_now i c (arms n k how is) = (tt, tt)
 shape-owes d past kept_now i c (crashes n up) = (tt, tt)
 shape-owes d past kept_now i c (restarts n up) = restart-owes d past kept_now n (flag_of (node d past n).doubt c.finds) c.opens
-shape-owes d past kept_now i c (begins s is new up) = begin-owes d past s kept_now is new (next_number past) c.keeps
+shape-owes d past kept_now i c (begins s is new up quiet) = begin-owes d past s (floor_at d past s) kept_now is new (next_number past) c.keeps
 shape-owes d past kept_now i c (delivers m e is up) = (tt, given-owes d past e.to m (next_number past) c.keeps (answer e.to (view d past e.to) e.from e.message) (answer-given d past e.to e.from e.message (kept-own d past e.to kept_now)))
 shape-owes d past kept_now i c (again n os up is) = calm-all d past (acts_of past c n os) (plain-calm d n false c.keeps (next_number past) os (again-plain d past n os is))
 

@@ -73,7 +73,7 @@ OwnDecisions d past n = (t : TxId) → IsTrue (is_own_decision d past n t)
 -- an event may come to n: a script is one of the document; a message is the one that was sent as m, and
 -- the decisions of n are its own
 abbrev pub Comes : DocumentData → List Act → NodeId → ℕ → Event → Type 0
-Comes d past n m (event.Begin s) = script_of s.number d.scripts ≡ Some s
+Comes d past n m (event.Begin s floor) = script_of s.number d.scripts ≡ Some s
 Comes d past n m (event.Deliver x said) = (sent_at m (sent past) ≡ Some (record { from = x; to = n; message = said })) × OwnDecisions d past n
 Comes d past n m e = Unit {0}
 
@@ -91,7 +91,7 @@ envelope_of n e = None
 
 -- the script that an event begins
 abbrev pub script_begun : Event → Option ScriptData
-script_begun (event.Begin s) = Some s
+script_begun (event.Begin s floor) = Some s
 script_begun e = None
 
 -- the Decided of an open transaction, where there is one

@@ -24,6 +24,7 @@ use Rattle.grid_model.specs.declared.stories.HeldRead.{HeldRead}
 use Rattle.grid_model.specs.Documents.{DocumentData}
 use Rattle.grid_model.specs.Histories.{sent, sent_at}
 use Rattle.journal_words.specs.Journals.{floor}
+pub use Rattle.journal_words.specs.Journals.{learnt}
 
 -- ---- the document's words on a transaction
 
@@ -166,12 +167,6 @@ blank = record { journal = []; doubt = None; next = 0; held = []; up = false }
 abbrev pub written : Option Record → List Record → List Record
 written None r = r
 written (Some x) r = x ∷ r
-
--- the clock behind a record: at least its proposal, or its final identifier
-abbrev pub learnt : Option Record → Ident → Ident
-learnt (Some (record'.Prepared t home parts sid p reads writes)) next = max p next
-learnt (Some (record'.Ended t (outcome.Commit f))) next = max f next
-learnt o next = next
 
 -- the held reads with one more, where there is one
 abbrev pub with_held : Option HeldRead → List HeldRead → List HeldRead

@@ -93,3 +93,6 @@ newest-fits c n x r h = (and_parts (fits c n r x) (all_fit c n r) h).0
 
 pub rest-fits : (c : ClusterData) (n : NodeId) (x : Record) (r : List Record) → all_fit c n (x ∷ r) ≡ true → all_fit c n r ≡ true
 rest-fits c n x r h = (and_parts (fits c n r x) (all_fit c n r) h).1
+
+pub more-fits : (c : ClusterData) (n : NodeId) (x : Record) (r : List Record) → fits c n r x ≡ true → all_fit c n r ≡ true → all_fit c n (x ∷ r) ≡ true
+more-fits c n x r f h = and_from (fits c n r x) (all_fit c n r) f h

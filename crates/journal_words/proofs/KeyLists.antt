@@ -77,3 +77,9 @@ conflict-turned reads reads' writes writes' =
 pub conflict-read : (k : Key) (reads reads' : List Key) (writes writes' : List (Key × Value)) → is_key_among k (keys_of_writes writes) ≡ true → is_key_among k reads' ≡ true → conflict reads writes reads' writes' ≡ true
 conflict-read k reads reads' writes writes' w r =
     or_left (shares (keys_of_writes writes) reads') (shares (keys_of_writes writes) (keys_of_writes writes') || shares reads (keys_of_writes writes')) (shares-both k (keys_of_writes writes) reads' (record { first = w; second = r }))
+
+-- a key that both write
+pub conflict-write : (k : Key) (reads reads' : List Key) (writes writes' : List (Key × Value)) → is_key_among k (keys_of_writes writes) ≡ true → is_key_among k (keys_of_writes writes') ≡ true → conflict reads writes reads' writes' ≡ true
+conflict-write k reads reads' writes writes' w w' =
+    let h : shares (keys_of_writes writes) (keys_of_writes writes') ≡ true = shares-both k (keys_of_writes writes) (keys_of_writes writes') (record { first = w; second = w' }) in
+    or_right (shares (keys_of_writes writes) reads') (shares (keys_of_writes writes) (keys_of_writes writes') || shares reads (keys_of_writes writes')) (or_left (shares (keys_of_writes writes) (keys_of_writes writes')) (shares reads (keys_of_writes writes')) h)

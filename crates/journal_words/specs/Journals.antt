@@ -131,6 +131,12 @@ floor (record'.Ended u (outcome.Commit f) ∷ r) = max f (floor r)
 floor (record'.Ceiling c ∷ r) = max c (floor r)
 floor (x ∷ r) = floor r
 
+-- the clock's next number behind a record: at least its proposal, or its final identifier
+abbrev pub learnt : Option Record → Ident → Ident
+learnt (Some (record'.Prepared t home parts sid p reads writes)) next = max p next
+learnt (Some (record'.Ended t (outcome.Commit f))) next = max f next
+learnt o next = next
+
 -- ---- versions
 
 -- the value of the first write of k

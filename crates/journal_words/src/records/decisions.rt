@@ -57,16 +57,6 @@ pub fn decision<'a>(records: &'a [Record], t: TxId) -> Option<Decided<'a>>
     found
 }
 
-/// The final identifier of the last Decided record of t.
-pub fn decided_final(records: &[Record], t: TxId) -> Option<Ident>
-    ensures { result ≡ option_map (λ d. d.final) (decision t (reverse records.now)) }
-{
-    match decision(records, t) {
-        Some(decided) => Some(decided.final_ident),
-        None => None,
-    }
-}
-
 /// How many Decided records of t there are.
 #[tactic(auto, using(crate::proofs::Newest::newest_more))]
 fn times_decided(records: &[Record], t: TxId) -> usize
@@ -89,6 +79,16 @@ pub fn later_decision<'a>(times: usize, records: &'a [Record], t: TxId) -> Optio
         return decision(records, t);
     }
     None
+}
+
+/// The final identifier of the last Decided record of t, where there are more than this many of them.
+pub fn later_final(times: usize, records: &[Record], t: TxId) -> Option<Ident>
+    ensures { result ≡ option_map (λ d. d.final) (later_decision times t (reverse records.now)) }
+{
+    match later_decision(times, records, t) {
+        Some(decided) => Some(decided.final_ident),
+        None => None,
+    }
 }
 
 /// How many Decided records of t are over: all of them, but none where the last is not closed.
