@@ -17,13 +17,14 @@ use Rattle.grid_model.specs.Stories.{is_open, phase, story}
 use Rattle.grid_model.specs.Facts.{IsDecided, is_given_up}
 use Rattle.journal_words.proofs.Decisions.{closed-decided, decision-has, has_decided-says}
 use Rattle.grid_model.proofs.Undecided.{script-number}
+use Rattle.grid_laws.proofs.MessagesBacked.{commit-decided, is_decided-more}
 use Rattle.grid_laws.proofs.MessageCauses.{AbortDue, SendDue, apart, given_up}
 use Rattle.grid_laws.proofs.Causes.{AllDue}
 use Rattle.grid_laws.proofs.NodesFitActs.{decision-home, nodes-fit}
 use Rattle.grid_laws.proofs.DecisionsCount.{open-decided-never}
 use Rattle.grid_laws.proofs.Holds.{sent-hold}
 use Rattle.grid_laws.proofs.AbortsFinal.{apart-gone, given-more}
-use Rattle.grid_laws.proofs.EndsMeant.{abort-given-up, commit-decided, is_decided-more}
+use Rattle.grid_laws.proofs.EndsMeant.{abort-given-up}
 use Rattle.grid_laws.proofs.OpenNotGivenUp.{open-not-given-up}
 use Rattle.grid_laws.proofs.DecidedNotGivenUp.{home-at}
 

@@ -32,7 +32,7 @@ use Rattle.grid_laws.proofs.MessagesBacked.{says-more, says-due, prepared-more, 
 
 -- each message that was sent, with its sender
 pub says-sent : (d : DocumentData) (past : List Act) → AllDue d past → (m : ℕ) (e : Envelope) → sent_at m (sent past) ≡ Some e → Says d past e.from e.message
-says-sent d past due = sent-hold (λ now n y said. Says d now n said) d past (λ now a n y said all h. says-more d now a n said h) (λ now n y said all h. says-due d now n y said (nodes-fit d now all n) h) due
+says-sent d past due = sent-hold (λ now n y said. Says d now n said) d past (λ now a n y said all h. says-more d now a n said h) (λ now n y said all h. says-due d now n y said all h) due
 
 -- ---- what a story has
 

@@ -90,6 +90,7 @@ is_fit_content n p s x (message.Vote t b) = is_fit_ballot b && is_part_at p.clus
 is_fit_content n p s x (message.Tell t o) = is_fit_outcome (pending t p.journal) o
 is_fit_content n p s x (message.Ack t) = is_part_at p.cluster s x
 is_fit_content n p s x (message.Ask t) = true
+is_fit_content n p s x (message.AskPeer t) = true
 
 -- the transaction of a message
 abbrev pub tx_in : Message → TxId
@@ -100,6 +101,7 @@ tx_in (message.Vote t b) = t
 tx_in (message.Tell t o) = t
 tx_in (message.Ack t) = t
 tx_in (message.Ask t) = t
+tx_in (message.AskPeer t) = t
 
 -- the message is fit where its transaction stands so
 abbrev pub is_fit_at : NodeId → Participant → Stage → NodeId → Message → Bool

@@ -9,9 +9,9 @@ use Rattle.grid_model.specs.declared.acts.Act.{Act}
 use Rattle.grid_model.specs.Documents.{DocumentData}
 use Rattle.grid_model.specs.Facts.{IsDecided}
 use Rattle.grid_model.specs.Stories.{story}
+use Rattle.grid_laws.proofs.MessagesBacked.{is_decided-more}
 use Rattle.grid_laws.proofs.Begins.{BeginsAt, begin-more}
 use Rattle.grid_laws.proofs.Causes.{AllDue}
-use Rattle.grid_laws.proofs.EndsMeant.{is_decided-more}
 use Rattle.grid_laws.proofs.FullStories.{Full, full-more}
 use Rattle.grid_laws.proofs.OpenNotGivenUp.{IsFlagged, flagged-more}
 use Rattle.grid_laws.proofs.Promises.{due-behind}
