@@ -22,7 +22,6 @@ use Rattle.grid_laws.proofs.EachActs.{each-act-more}
 use Rattle.grid_laws.proofs.Causes.{AllDue, TakenDue}
 use Rattle.grid_laws.proofs.Holds.{got-hold}
 use Rattle.grid_laws.proofs.MessagesBacked.{says-more, says-due}
-use Rattle.grid_laws.proofs.NodesFitActs.{nodes-fit}
 use Rattle.grid_laws.proofs.Snapshots.{OfStory, of-more}
 use Rattle.copy_laws.proofs.Footing.{IsServed}
 use Rattle.copy_laws.proofs.ServedOwn.{IsOwn, served-own}

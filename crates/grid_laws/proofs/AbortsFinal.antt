@@ -21,7 +21,7 @@ use Rattle.grid_model.specs.Documents.{DocumentData}
 use Rattle.grid_model.specs.Histories.{sent, sent_at}
 use Rattle.journal_words.specs.Journals.{Decision, Prepared, decision, ended, home_in, is_closed, prepared_of, undone}
 use Rattle.grid_model.specs.Nodes.{Node, got, journal, node, script_of, is_home}
-use Rattle.grid_model.specs.Stories.{story, phase_at, is_open, begun_in, asked, heard, heard_at, if_told, with_vote, with_ack, Phase, progressed}
+use Rattle.grid_model.specs.Stories.{story, phase_at, is_open, begun_in}
 use Rattle.script_runs.specs.Waits.{waiting}
 use Rattle.grid_model.specs.Views.{Open, Apart, acks_at, open_at, open_of, open_stage, stage, stage_by, view}
 use Rattle.grid_model.specs.Facts.{is_given_up, is_over, MeansNever}

@@ -24,7 +24,7 @@ use Rattle.grid_model.specs.declared.stories.HeldRead.{HeldRead}
 use Rattle.grid_model.specs.declared.stories.Story.{Story}
 use Rattle.grid_model.specs.Documents.{DocumentData}
 use Rattle.grid_model.specs.Histories.{sent, sent_at}
-use Rattle.journal_words.specs.Journals.{decision, Decision, commit_id, ended, floor, holder, is_clear, newer, pending, undone, fits_outcome}
+use Rattle.journal_words.specs.Journals.{decision, Decision, ended, floor, holder, is_clear, newer, pending, undone, fits_outcome}
 use Rattle.grid_model.specs.Nodes.{node, journal, script_of, parts_of}
 use Rattle.grid_model.specs.Sessions.{first_at, is_busy_at}
 use Rattle.grid_model.specs.Stories.{phase, is_open, story}

@@ -20,7 +20,7 @@ use Rattle.grid_model.specs.declared.messages.Message.TheVariants as message
 use Rattle.grid_model.specs.declared.stories.Story.{Story}
 use Rattle.grid_model.specs.Sessions.{floor_at, first_at, is_busy_at}
 use Rattle.grid_model.specs.Documents.{DocumentData}
-use Rattle.journal_words.specs.Journals.{Decision, commit_id, decision, undone}
+use Rattle.journal_words.specs.Journals.{Decision, decision, undone}
 use Rattle.grid_model.specs.Nodes.{node, journal, script_of, parts_of}
 use Rattle.grid_model.specs.Stories.{phase_at, is_open, story, begun_in, over_at}
 use Rattle.script_runs.specs.Waits.{waiting}

@@ -7,7 +7,6 @@ use Rattle.std.specs.List.{list_all}
 use Rattle.score_base.specs.declared.ids.TxId.{TxId}
 use Rattle.score_base.specs.declared.ids.NodeId.{NodeId}
 use Rattle.score_base.specs.declared.ids.Ident.{Ident}
-use Rattle.score_base.specs.declared.causes.Outcome.{Outcome}
 use Rattle.score_base.specs.declared.causes.Outcome.TheVariants as outcome
 use Rattle.score_base.specs.declared.records.Record.{Record}
 use Rattle.score_base.specs.declared.records.Record.TheVariants as record'
@@ -19,7 +18,7 @@ use Rattle.grid_model.specs.declared.messages.Envelope.{Envelope}
 use Rattle.grid_model.specs.declared.messages.Message.TheVariants as message
 use Rattle.grid_model.specs.Documents.{DocumentData}
 use Rattle.journal_words.specs.Journals.{ended, fits_outcome, pending, has_commit}
-use Rattle.grid_model.specs.Nodes.{got, node, journal, record_of, script_of}
+use Rattle.grid_model.specs.Nodes.{got, journal, record_of, script_of}
 use Rattle.grid_model.specs.Facts.{AbortsFinal, Says, MeansNever, is_given_up, is_over, parts_at}
 use Rattle.journal_words.proofs.Once.{pending-prepared, ended-over}
 use Rattle.journal_words.proofs.Stands.{has_commit-says}
@@ -29,7 +28,7 @@ use Rattle.grid_laws.proofs.MessagesBacked.{each-sent, says-more, says-due}
 use Rattle.grid_laws.proofs.Holds.{BothHold, both-hold, ended-holds, got-hold}
 use Rattle.grid_laws.proofs.AbortsFinal.{given-more, means-more, means-due}
 use Rattle.grid_laws.proofs.AnswersFit.{prepared-part}
-use Rattle.grid_laws.proofs.NodesFit.{AllHold, HoldsIn}
+use Rattle.grid_laws.proofs.NodesFit.{HoldsIn}
 
 -- ---- the message that was got last
 

@@ -21,7 +21,7 @@ use Rattle.script_lang.specs.Reads.{is_update}
 use Rattle.placement.specs.Places.{is_among, others}
 use Rattle.placement.specs.Clusters.{ClusterData}
 use Rattle.journal_words.specs.declared.versions.Version.{Version}
-use Rattle.journal_words.specs.Journals.{names_part, commit_id, ended, floor, home_of, is_clear, is_commit, pending}
+use Rattle.journal_words.specs.Journals.{names_part, ended, floor, home_of, is_clear, is_commit, pending}
 use Rattle.script_runs.specs.Walks.{op_at, own_reads, unread}
 use Rattle.script_runs.specs.Waits.{waiting}
 use Rattle.grid_model.specs.declared.acts.Act.{Act}
@@ -43,7 +43,7 @@ use Rattle.grid_model.specs.Stories.{has_voted, is_open, phase, with_value}
 use Rattle.grid_model.specs.Views.{Apart, Collects, Commits, Open, Participant, Reads, Stage, View, participant, stage, view}
 use Rattle.grid_model.specs.Advances.{advance, advance_end, owns, parts_now, prepares, request_of, to_node}
 use Rattle.grid_model.specs.Fitness.{is_fit_at, tx_in}
-use Rattle.grid_model.specs.Rows.{ask_peer_outs, peer_outs, first_ident, abort_outs, ack_outs, answer, answered, are_all_among, asked_outs, ballot_outs, begin_outs, begun_at, ceiling_of, ceilings, closed_outs, commit_outs, decides, freed_by, greatest_vote, have_voted, if_pending, judged, not_among, not_voted, prepared_outs, raises, read_outs, release, reply_outs, retry_outs, message_outs, served, tell_outs, tells, version_for, vote_outs}
+use Rattle.grid_model.specs.Rows.{peer_outs, first_ident, abort_outs, ack_outs, answer, answered, are_all_among, asked_outs, ballot_outs, begin_outs, begun_at, ceiling_of, ceilings, closed_outs, commit_outs, decides, freed_by, greatest_vote, have_voted, if_pending, judged, not_among, not_voted, prepared_outs, raises, read_outs, release, reply_outs, retry_outs, message_outs, served, tell_outs, tells, version_for, vote_outs}
 use Rattle.grid_model.specs.Schedules.{broken, head_at, head_of, kept, lost_at, numbered, start_act, stopped}
 use Rattle.grid_model.proofs.EventShapes.{IsAgain, asks, asks_peer, retries}
 use Rattle.grid_laws.proofs.Frames.{same-number}

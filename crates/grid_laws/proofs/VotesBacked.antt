@@ -27,7 +27,6 @@ use Rattle.grid_model.specs.Rows.{greatest_vote, have_voted, are_all_among}
 use Rattle.grid_model.proofs.Undecided.{script-number}
 use Rattle.grid_laws.proofs.Causes.{AllDue}
 use Rattle.grid_laws.proofs.Holds.{sent-hold}
-use Rattle.grid_laws.proofs.NodesFitActs.{nodes-fit}
 use Rattle.grid_laws.proofs.MessagesBacked.{says-more, says-due, prepared-more, commit-more}
 
 -- each message that was sent, with its sender

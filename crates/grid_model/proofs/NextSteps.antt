@@ -1,5 +1,5 @@
 -- The view of a node behind an event is the next view: the outs of each row are those that it takes.
-use Rattle.std.proofs.Common.{ℕ, ◌+◌, max, Bool, true, false, ◌&&◌, ◌||◌, ◌==◌, nat_lt, IsTrue, filter, slice_get, List, [], ◌∷◌, ◌++◌, Option, None, Some, is_some, is_none, ◌≡◌, refl, ap, subst, sym, ◌∙◌, arith, ◌⊎◌, inl, inr, if◌then◌else◌, ◌-◌}
+use Rattle.std.proofs.Common.{ℕ, ◌+◌, max, Bool, true, false, ◌&&◌, ◌||◌, ◌==◌, nat_lt, IsTrue, filter, slice_get, List, [], ◌∷◌, ◌++◌, Option, None, Some, is_some, is_none, ◌≡◌, refl, ap, subst, sym, ◌∙◌, arith, ◌⊎◌, inl, inr, if◌then◌else◌}
 use Rattle.std.proofs.lemmas.Bool.Decides.{nat_tests}
 use Rattle.score_base.specs.declared.ids.TxId.{TxId}
 use Rattle.score_base.specs.declared.ids.NodeId.{NodeId}
@@ -36,7 +36,7 @@ use Rattle.script_runs.specs.Waits.{waiting}
 use Rattle.grid_model.specs.Views.{View, Open, Stage, Apart, Reads, Collects, Commits, view, stage, stage_by, open_stage, participant}
 use Rattle.grid_model.specs.Advances.{advance, advance_end, request_of, to_node, prepares, prepare_for, date_by, owns, parts_now}
 use Rattle.script_runs.specs.Walks.{op_at, own_reads, unread}
-use Rattle.grid_model.specs.Fitness.{is_fit, is_fit_at, tx_in, counts_vote}
+use Rattle.grid_model.specs.Fitness.{is_fit_at, tx_in, counts_vote}
 use Rattle.grid_model.specs.Rows.{peer_outs, ask_peer_outs, first_ident, release, served, ceiling_of, ceilings, raises, answered, read_outs, version_for, dated, reply_outs, prepared_outs, tells, have_voted, decides, greatest_vote, ballot_outs, vote_outs, are_all_among, ack_outs, asked_outs, commit_outs, abort_outs, tell_outs, freed_by, message_outs, answer, begin_outs, begun_at, retry_outs, not_voted, not_among, ask_outs, if_pending, outs_of}
 use Rattle.grid_model.specs.Schedules.{numbered}
 use Rattle.grid_model.specs.NextViews.{is_running, OwnDecisions, Comes, brought, behind, behind_all, heard_view, next_view, changed_open, desk_heard}

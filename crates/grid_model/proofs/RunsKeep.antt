@@ -20,11 +20,11 @@ use Rattle.grid_model.specs.declared.items.Item.{Item}
 use Rattle.grid_model.specs.declared.stories.Story.{Story}
 use Rattle.grid_model.specs.Documents.{DocumentData, number_order, script_numbers}
 use Rattle.grid_model.specs.Histories.{after}
-use Rattle.journal_words.specs.Journals.{Decision, commit_id, decision, is_closed, later_decision}
+use Rattle.journal_words.specs.Journals.{Decision, decision, is_closed, later_decision}
 use Rattle.journal_words.proofs.Later.{later-all, fresh-times}
-use Rattle.grid_model.specs.Nodes.{Node, node, journal, script_of, is_home}
+use Rattle.grid_model.specs.Nodes.{Node, node, script_of, is_home}
 use Rattle.grid_model.specs.Stories.{story, phase, phase_by, is_open, skipped_in, over_at}
-use Rattle.grid_model.specs.Views.{View, Open, open_at, view, stage, participant}
+use Rattle.grid_model.specs.Views.{Open, open_at, view, stage, participant}
 use Rattle.grid_model.specs.Advances.{advance}
 use Rattle.grid_model.specs.Rows.{first_ident, answer, begin_outs, begun_at}
 use Rattle.grid_model.specs.Sessions.{floor_at}

@@ -1,5 +1,5 @@
 -- Runs in which a part in doubt asks another part, since its home is down.
-use Rattle.std.proofs.Common.{List, [], ◌∷◌, ◌++◌, Some, None, ◌≡◌, refl}
+use Rattle.std.proofs.Common.{List, [], ◌∷◌, ◌++◌, None, ◌≡◌, refl}
 use Rattle.score_base.specs.declared.causes.Date.TheVariants as date
 use Rattle.score_base.specs.declared.causes.Ballot.TheVariants as ballot
 use Rattle.score_base.specs.declared.causes.Outcome.TheVariants as outcome

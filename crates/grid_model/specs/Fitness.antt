@@ -17,7 +17,7 @@ use Rattle.grid_model.specs.declared.messages.ReadReq.{ReadReq}
 use Rattle.grid_model.specs.declared.messages.ReadRep.{ReadRep}
 use Rattle.journal_words.specs.Journals.{are_own_keys, keys_of_writes, pending}
 use Rattle.grid_model.specs.Stories.{is_small, is_small_node, is_fit_ballot, is_part, is_counted_vote, is_counted_ack}
-use Rattle.grid_model.specs.Views.{Participant, View, participant, Stage, Reads, Collects, Commits, stage, phase_in}
+use Rattle.grid_model.specs.Views.{Participant, View, participant, Stage, Reads, Collects, stage, phase_in}
 use Rattle.grid_model.specs.Advances.{parts_now}
 
 -- the number of a date

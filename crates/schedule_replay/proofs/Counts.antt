@@ -26,7 +26,7 @@ use Rattle.grid_model.specs.declared.messages.ReadRep.{ReadRep}
 use Rattle.grid_model.specs.declared.stories.HeldRead.{HeldRead}
 use Rattle.grid_model.specs.declared.stories.Voted.{Voted}
 use Rattle.journal_words.specs.declared.versions.Version.{Version}
-use Rattle.journal_words.specs.Journals.{names_part, commit_id, floor, is_clear, ended, is_commit, pending, home_of}
+use Rattle.journal_words.specs.Journals.{names_part, floor, is_clear, ended, is_commit, pending, home_of}
 use Rattle.grid_model.specs.Stories.{has_voted, with_value}
 use Rattle.script_runs.specs.Waits.{waiting}
 use Rattle.grid_model.specs.Views.{Participant, Open, Stage, Apart, Reads, Collects, Commits}
