@@ -15,14 +15,13 @@ use Rattle.journal_words.specs.Orders.{decisions}
 use Rattle.grid_model.specs.Facts.{IsDecided}
 use Rattle.journal_words.specs.Journals.{has_decided}
 use Rattle.journal_words.proofs.Orders.{has_member}
-use Rattle.grid_model.proofs.DecisionsKept.{is_decided_in}
 use Rattle.grid_laws.proofs.Frames.{same-number}
 use Rattle.grid_laws.proofs.Causes.{AllDue}
 use Rattle.grid_laws.proofs.MessageCauses.{IsUp}
 use Rattle.grid_laws.proofs.DueAnswers.{home-is}
 use Rattle.grid_laws.proofs.NodesFit.{home-one}
 use Rattle.grid_laws.proofs.NodesFitActs.{nodes-fit}
-use Rattle.grid_laws.proofs.KnownDecisions.{Decides, adds, adds-due, decided-has, has_tx, known, known-written}
+use Rattle.grid_laws.proofs.KnownDecisions.{is_decided_in, Decides, adds, adds-due, decided-has, has_tx, known, known-written}
 use Rattle.grid_laws.proofs.DecidedNotGivenUp.{IsRunning, running-unknown}
 
 -- no transaction stands twice

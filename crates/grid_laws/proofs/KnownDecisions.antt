@@ -18,7 +18,6 @@ use Rattle.grid_model.specs.Documents.{DocumentData}
 use Rattle.journal_words.specs.Journals.{decision, has_decided}
 use Rattle.grid_model.specs.Nodes.{Node, Change, Nothing, Writes, Raises, Holds, Frees, Stops, Starts, Stays, change, changed, doubt_of, freed, got, is_home, is_request, parts_in, prepared_by, said_by, script_of, where_at, written}
 use Rattle.journal_words.specs.Orders.{decisions}
-use Rattle.grid_model.proofs.DecisionsKept.{is_decided_in}
 use Rattle.grid_laws.proofs.Causes.{IsDue, RecordDue, StopDue}
 use Rattle.grid_laws.proofs.DueAnswers.{home-is}
 use Rattle.grid_laws.proofs.NodesFit.{home-one}
@@ -40,6 +39,11 @@ decided-has t f (record'.Decided u g parts ∷ r) e = grind (arith, e, decided-h
 decided-has t f (y ∷ r) e = decided-has t f r e
 
 -- ---- what a node knows
+
+-- the record is a Decided of t
+abbrev pub is_decided_in : TxId → Option Record → Bool
+is_decided_in t (Some (record'.Decided u f parts)) = u == t
+is_decided_in t o = false
 
 -- the decisions that stand, and the one in doubt
 abbrev pub known : Node → List (Ident × TxId)

@@ -47,6 +47,7 @@ pub mod EndsMeant
 pub mod OpenNotGivenUp
 pub mod KnownDecisions
 pub mod DecidedNotGivenUp
+pub mod OwnDecisions
 pub mod DecisionsOnce
 pub mod OpenNotEnded
 pub mod FinishedSay

@@ -4,7 +4,7 @@
 //! it speaks of every document and of every history of the rows and the free choices of the disks,
 //! stops and restarts included, with no fuse and no count of faults. The facts themselves are defined
 //! in `grid_model/specs/Facts.antt`; [`law_facts`] binds seven of them together, and [`law_fit`],
-//! [`law_begun_fit`] and [`law_identifiers`] stand beside it. [`law_records_fit`] is what the others rest on: whatever a disk
+//! [`law_begun_fit`], [`law_own_decisions`] and [`law_identifiers`] stand beside it. [`law_records_fit`] is what the others rest on: whatever a disk
 //! leaves at a stop, each journal is a list in which every record fits those before it. What the laws
 //! say of records they say of the journal, and of the journal with the record in doubt behind it.
 //! [`law_calm_run`] and [`law_one_history`] speak of the run in which no disk fails, `calm_run` of
@@ -16,5 +16,5 @@ mod runs;
 pub use runs::{
     law_aborts_final, law_begun_fit, law_calm_run, law_decisions_rest, law_facts, law_fit,
     law_identifiers, law_locks_exclude, law_messages_backed, law_never_held, law_one_history,
-    law_prepares_agree, law_records_fit, law_served_promised,
+    law_own_decisions, law_prepares_agree, law_records_fit, law_served_promised,
 };

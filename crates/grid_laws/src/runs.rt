@@ -1,6 +1,7 @@
 //! Laws of every run: of all rows and all free choices of the disks, stops and restarts included.
-ghost use Rattle.std.specs.Prelude.{◌≡◌, List, [], sum_by};
+ghost use Rattle.std.specs.Prelude.{◌≡◌, ℕ, List, [], sum_by};
 ghost use Rattle.grid_model.specs.declared.acts.Act.{Act};
+ghost use Rattle.grid_model.specs.declared.items.Item.{Item};
 ghost use Rattle.grid_model.specs.Documents.{DocumentData, IsOne, events_of};
 ghost use Rattle.grid_model.specs.Histories.{after};
 ghost use Rattle.grid_model.specs.Runs.{IsRun, Lawful};
@@ -19,6 +20,7 @@ ghost use Rattle.grid_model.specs.Facts.{
   ServedPromised,
   UpSettled,
 };
+ghost use Rattle.grid_model.specs.NextViews.{OwnDecisions};
 ghost use Rattle.grid_laws.specs.CalmRuns.{AreUnfused, calm_run};
 
 /// Each record of each journal, and the record in doubt behind them, fits those before it; and a node that
@@ -79,6 +81,13 @@ pub fn law_fit()
 /// below 2^22, and its number is not at the desk there.
 pub fn law_begun_fit()
     ensures { (d : DocumentData) (h : List Act) → IsOne d → IsRun d d.items h → BeginsFit d (after [] h) }
+{}
+
+/// Behind each run, whatever its items, the standing decisions in the journal of a node are of
+/// transactions of that node that began and were not lost. So each message that is delivered behind a run
+/// may come to its node as `law_next_view` of `grid_model` asks it.
+pub fn law_own_decisions()
+    ensures { (d : DocumentData) (items : List Item) (h : List Act) → IsRun d items h → (n : ℕ) → OwnDecisions d (after [] h) n }
 {}
 
 /// The facts on which one copy rests hold of every run, stops and restarts included.

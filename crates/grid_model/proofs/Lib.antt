@@ -19,7 +19,5 @@ pub mod ViewSteps
 pub mod HeardViews
 pub mod PlainOuts
 pub mod NextSteps
-pub mod DecisionsKept
-pub mod RunsKeep
 pub mod Written
 pub mod SerialCopies

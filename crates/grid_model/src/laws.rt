@@ -9,20 +9,13 @@ ghost use Rattle.grid_model.specs.Views.{view};
 ghost use Rattle.grid_model.specs.Rows.{outs_of};
 ghost use Rattle.grid_model.specs.Schedules.{Choice, numbered, row, row_on};
 ghost use Rattle.grid_model.specs.States.{state_of, state_behind, state_after};
-ghost use Rattle.grid_model.specs.NextViews.{OwnDecisions, Comes, brought, next_view};
-ghost use Rattle.grid_model.specs.Runs.{IsRun};
+ghost use Rattle.grid_model.specs.NextViews.{Comes, brought, next_view};
 
 /// The view of a node behind an event is its next view: it follows from the view before, the event and
 /// the outs. The message is one that was sent to the node, or the script is one of the document; each
 /// record is kept.
 pub fn law_next_view()
     ensures { (d : DocumentData) (past : List Act) (n m k : ℕ) (e : Event) → Comes d past n m e → view d (after (brought m e past) (numbered k n (outs_of n (view d past n) e))) n ≡ next_view n (view d past n) e (outs_of n (view d past n) e) }
-{}
-
-/// Behind each run, whatever its items, the standing decisions in the journal of a node are of
-/// transactions of that node that began and were not lost.
-pub fn law_own_decisions()
-    ensures { (d : DocumentData) (items : List Item) (h : List Act) → IsRun d items h → (n : ℕ) → OwnDecisions d (after [] h) n }
 {}
 
 /// The state behind one act more is what the act leaves of the state; the state behind a run with more
