@@ -1,0 +1,6 @@
+pub mod QueueSteps
+pub mod ClockSteps
+pub mod ClearSteps
+pub mod LockReads
+pub mod LockSteps
+pub mod PlaceSteps
