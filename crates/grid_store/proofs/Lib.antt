@@ -4,3 +4,4 @@ pub mod ClearSteps
 pub mod LockReads
 pub mod LockSteps
 pub mod PlaceSteps
+pub mod StableSteps

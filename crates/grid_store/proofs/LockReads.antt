@@ -13,7 +13,8 @@ use Rattle.lock_table.specs.Keys.{Held, holds_lock, writes_key, is_read, is_writ
 use Rattle.journal_words.specs.Journals.{Prepared, prepared_of, prepared_all, is_locking, keys_of_writes, shares, conflict, conflicts_with, holds_out, lesser, holder_among, holder}
 use Rattle.script_lang.proofs.KeyLists.{same_key-turned}
 use Rattle.journal_words.proofs.KeyLists.{shares-key, conflict-turned, conflict-read, conflict-write}
-use Rattle.grid_store.specs.Keeping.{is_listed, names, writes_to, KeepsLocks}
+use Rattle.journal_words.proofs.Locks.{is_listed, prepared-listed}
+use Rattle.grid_store.specs.Keeping.{names, writes_to, KeepsLocks}
 
 -- ---- the words of the table and of the model for a key of a list
 
@@ -102,11 +103,6 @@ hold-conflicts held r t u reads writes keeps h =
         record { key = k.0; held_by = keys ∙ k.1.named; named = k.1.asked; written = ap (λ b. b || is_written writes k.0) wrote ∙ k.1.written }
 
 -- ---- the least of them
-
-pub prepared-listed : (u : TxId) (r : List Record) → is_some (prepared_of u r) ≡ true → is_listed u (prepared_all r) ≡ true
-prepared-listed u [] h = absurd (grind (arith, h))
-prepared-listed u (record'.Prepared v home parts sid p reads writes ∷ r) h = grind (arith, nat_tests, prepared-listed u r)
-prepared-listed u (y ∷ r) h = prepared-listed u r h
 
 nobody : (us : List TxId) (r : List Record) (t : TxId) (reads : List Key) (writes : List (Key × Value)) → ((u : TxId) → holds_out u r t reads writes ≡ false) → holder_among us r t reads writes ≡ None
 nobody [] r t reads writes h = refl

@@ -14,14 +14,14 @@ use Rattle.score_base.specs.declared.records.Record.{Record}
 use Rattle.score_base.specs.declared.records.Record.TheVariants as record'
 use Rattle.placement.specs.Clusters.{ClusterData}
 use Rattle.lock_table.specs.Keys.{Held, holds_lock, writes_key, is_read, is_written, Conflicts}
-use Rattle.journal_words.specs.Journals.{Prepared, prepared_of, ended, is_clear, is_unapplied, is_locking, conflicts_with, prepared_all, fits, all_fit}
+use Rattle.journal_words.specs.Journals.{Prepared, prepared_of, ended, is_clear, is_unapplied, is_locking, conflicts_with, fits, all_fit}
 use Rattle.journal_words.proofs.Fits.{FitsPrepared, prepared-fits}
 use Rattle.journal_words.proofs.Once.{prepared-other, prepared-first}
 use Rattle.journal_words.proofs.Floors.{above-final}
-use Rattle.journal_words.proofs.Locks.{holder-free, locking-before}
+use Rattle.journal_words.proofs.Locks.{holder-free}
 use Rattle.grid_store.specs.Given.{keys_for}
-use Rattle.grid_store.specs.Keeping.{is_listed, names, writes_to, stays, KeepsLocks, CoversLocks, CanTake}
-use Rattle.grid_store.proofs.LockReads.{conflicts-hold, prepared-listed}
+use Rattle.grid_store.specs.Keeping.{names, writes_to, KeepsLocks, CanTake}
+use Rattle.grid_store.proofs.LockReads.{conflicts-hold}
 
 -- ---- a Prepared that fits may take its locks
 
@@ -122,53 +122,6 @@ locks-closed held r t k = record {
   written = λ u x. k.written u x ∙ sym (rw (unapplied-alike (ended u r) (record'.Closed t) r (λ f. refl)) refl);
 }
 
--- ---- those who lock no more are freed
-
-some-name : (u : TxId) (k : Key) (r : List Record) (x : Option Prepared) → prepared_of u r ≡ x → is_listed u (prepared_all r) ≡ false → names x k ≡ false
-some-name u k r None e h = refl
-some-name u k r (Some x) e h = absurd (let l = prepared-listed u r (rw e refl) in grind (arith, l, h))
-
-some-write : (u : TxId) (k : Key) (r : List Record) (x : Option Prepared) → prepared_of u r ≡ x → is_listed u (prepared_all r) ≡ false → writes_to x k ≡ false
-some-write u k r None e h = refl
-some-write u k r (Some x) e h = absurd (let l = prepared-listed u r (rw e refl) in grind (arith, l, h))
-
-settled-at : (locks listed now named : Bool) → (locks ≡ true → now ≡ named) → (listed ≡ false → now ≡ false) → (now && (not listed || locks)) ≡ (locks && named)
-settled-at true listed now named h g = (let e = h refl in grind (arith, e))
-settled-at false true now named h g = grind arith
-settled-at false false now named h g = (let e = g refl in grind (arith, e))
-
--- where the locks cover those that lock, and all others that have a Prepared are freed, they are the locks
-pub locks-settled : (old new : Held) (r : List Record) → CoversLocks old r → ((u : TxId) (k : Key) → holds_lock new u k ≡ (holds_lock old u k && stays r (prepared_all r) u)) → ((u : TxId) (k : Key) → writes_key new u k ≡ (writes_key old u k && stays r (prepared_all r) u)) → KeepsLocks new r
-locks-settled old new r covers keys written = record {
-  keys = λ u k. keys u k ∙ settled-at (is_locking u r) (is_listed u (prepared_all r)) (holds_lock old u k) (names (prepared_of u r) k) (covers.keys u k) (λ e. covers.no_more u k (some-name u k r (prepared_of u r) refl e));
-  written = λ u k. written u k ∙ settled-at (is_locking u r) (is_listed u (prepared_all r)) (writes_key old u k) (writes_to (prepared_of u r) k) (covers.written u k) (λ e. covers.no_more_written u k (some-write u k r (prepared_of u r) refl e));
-}
-
-and-left : (a b : Bool) → a ≡ true → (a && b) ≡ b
-and-left a b e = rw e refl
-
-and-right : (a b : Bool) → b ≡ false → (a && b) ≡ false
-and-right true b e = e
-and-right false b e = refl
-
--- the locks cover those that lock
-pub keeps-covers : (held : Held) (r : List Record) → KeepsLocks held r → CoversLocks held r
-keeps-covers held r k = record {
-  keys = λ u x l. k.keys u x ∙ and-left (is_locking u r) (names (prepared_of u r) x) l;
-  written = λ u x l. k.written u x ∙ and-left (is_locking u r) (writes_to (prepared_of u r) x) l;
-  no_more = λ u x e. k.keys u x ∙ and-right (is_locking u r) (names (prepared_of u r) x) e;
-  no_more_written = λ u x e. k.written u x ∙ and-right (is_locking u r) (writes_to (prepared_of u r) x) e;
-}
-
--- also behind an Ended
-pub ended-covers : (c : ClusterData) (n : NodeId) (held : Held) (r : List Record) (t : TxId) (o : Outcome) → all_fit c n (record'.Ended t o ∷ r) ≡ true → KeepsLocks held r → CoversLocks held (record'.Ended t o ∷ r)
-ended-covers c n held r t o fit k = record {
-  keys = λ u x l. k.keys u x ∙ and-left (is_locking u r) (names (prepared_of u r) x) (locking-before c n u (record'.Ended t o) r fit refl l);
-  written = λ u x l. k.written u x ∙ and-left (is_locking u r) (writes_to (prepared_of u r) x) (locking-before c n u (record'.Ended t o) r fit refl l);
-  no_more = λ u x e. k.keys u x ∙ and-right (is_locking u r) (names (prepared_of u r) x) e;
-  no_more_written = λ u x e. k.written u x ∙ and-right (is_locking u r) (writes_to (prepared_of u r) x) e;
-}
-
 -- a record that fits can take its locks, where there is room
 pub can-take : (c : ClusterData) (n : NodeId) (held : Held) (r : List Record) (x : Record) → KeepsLocks held r → fits c n r x ≡ true → keys_for x ≤ held.spare → CanTake held x
 can-take c n held r (record'.Prepared t home parts sid p reads writes) k fit room = (
@@ -180,36 +133,3 @@ can-take c n held r (record'.Ended t o) k fit room = tt
 can-take c n held r (record'.Ceiling d) k fit room = tt
 can-take c n held r (record'.Decided t f parts) k fit room = tt
 can-take c n held r (record'.Closed t) k fit room = tt
-
--- ---- one after the other
-
--- who stays at one record more
-pub stays-more : (R : List Record) (x : Record) (r : List Record) (u : TxId) → stays R (prepared_all (x ∷ r)) u ≡ (stays R (prepared_all r) u && stays R (prepared_all (x ∷ [])) u)
-stays-more R (record'.Prepared t home parts sid p reads writes) r u = more (t == u) (is_listed u (prepared_all r)) (is_locking u R)
-  where
-    more : (a b l : Bool) → (not (a || b) || l) ≡ ((not b || l) && (not (a || false) || l))
-    more a b l = grind arith
-stays-more R (record'.Ended t o) r u = same (stays R (prepared_all r) u)
-  where
-    same : (b : Bool) → b ≡ (b && true)
-    same true = refl
-    same false = refl
-stays-more R (record'.Ceiling d) r u = same (stays R (prepared_all r) u)
-  where
-    same : (b : Bool) → b ≡ (b && true)
-    same true = refl
-    same false = refl
-stays-more R (record'.Decided t f parts) r u = same (stays R (prepared_all r) u)
-  where
-    same : (b : Bool) → b ≡ (b && true)
-    same true = refl
-    same false = refl
-stays-more R (record'.Closed t) r u = same (stays R (prepared_all r) u)
-  where
-    same : (b : Bool) → b ≡ (b && true)
-    same true = refl
-    same false = refl
-
--- more room changes no lock
-pub locks-same : (old new : Held) (r : List Record) → KeepsLocks old r → new.keys ≡ old.keys → new.written ≡ old.written → KeepsLocks new r
-locks-same old new r k e e' = record { keys = λ u x. rw e (k.keys u x); written = λ u x. rw e' (k.written u x) }

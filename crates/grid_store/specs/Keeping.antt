@@ -2,9 +2,12 @@
 use Rattle.std.specs.Prelude.{◌≡◌, ◌≢◌, ℕ, ◌+◌, ◌≤◌, ◌<◌, ◌==◌, Bool, true, false, not, ◌&&◌, ◌||◌, IsTrue, List, [], ◌∷◌, length, reverse, slice_index_or, Option, Some, None, is_some}
 use Rattle.std.specs.Ordering.{nat_cmp}
 use Rattle.std.specs.FinMap as map
+use Rattle.std.specs.FinSet as set
 use Rattle.score_base.specs.declared.ids.TxId.{TxId}
 use Rattle.score_base.specs.declared.ids.NodeId.{NodeId}
+use Rattle.score_base.specs.declared.ids.Ident.{Ident}
 use Rattle.score_base.specs.declared.causes.Outcome.{Outcome}
+use Rattle.score_base.specs.declared.causes.Outcome.TheVariants as outcome
 use Rattle.score_base.specs.declared.records.Record.{Record}
 use Rattle.score_base.specs.declared.records.Record.TheVariants as record'
 use Rattle.score_base.specs.declared.keys.Key.{Key}
@@ -12,8 +15,10 @@ use Rattle.score_base.specs.Tables.{Table}
 use Rattle.placement.specs.Clusters.{ClusterData}
 use Rattle.node_clock.specs.Clock.{Clock}
 use Rattle.pending_queue.specs.Proposals.{Proposals, Queue}
+use Rattle.stable_queue.specs.Commits.{Commits}
+use Rattle.stable_queue.specs.Commits as stable_queue
 use Rattle.lock_table.specs.Keys.{Held, holds_lock, writes_key, is_read, is_written, Conflicts}
-use Rattle.journal_words.specs.Journals.{Prepared, prepared_of, pending, ended, floor, is_above, is_locking, all_fit}
+use Rattle.journal_words.specs.Journals.{Prepared, prepared_of, pending, ended, floor, is_above, is_clear, is_locking, all_fit}
 
 -- the queue has the proposal of each pending transaction
 abbrev pub KeepsPending : Proposals → List Record → Type 0
@@ -28,11 +33,6 @@ CanPend queue x = Unit {0}
 pub record KeepsClock (clock : Clock) (r : List Record) : Type 0 where
   pub floor : clock.floor ≡ floor r
   pub above : is_above (1 + clock.next) r ≡ true
-
--- t is one of these
-abbrev pub is_listed : TxId → List TxId → Bool
-is_listed t [] = false
-is_listed t (u ∷ us) = (u == t) || is_listed t us
 
 -- a Prepared, where there is one, names a key
 abbrev pub names : Option Prepared → Key → Bool
@@ -49,16 +49,40 @@ pub record KeepsLocks (held : Held) (r : List Record) : Type 0 where
   pub keys : (u : TxId) (k : Key) → holds_lock held u k ≡ (is_locking u r && names (prepared_of u r) k)
   pub written : (u : TxId) (k : Key) → writes_key held u k ≡ (is_locking u r && writes_to (prepared_of u r) k)
 
--- Each transaction that locks holds the keys of its Prepared, and each key that is held is of a Prepared of its holder.
-pub record CoversLocks (held : Held) (r : List Record) : Type 0 where
-  pub keys : (u : TxId) (k : Key) → is_locking u r ≡ true → holds_lock held u k ≡ names (prepared_of u r) k
-  pub written : (u : TxId) (k : Key) → is_locking u r ≡ true → writes_key held u k ≡ writes_to (prepared_of u r) k
-  pub no_more : (u : TxId) (k : Key) → names (prepared_of u r) k ≡ false → holds_lock held u k ≡ false
-  pub no_more_written : (u : TxId) (k : Key) → writes_to (prepared_of u r) k ≡ false → writes_key held u k ≡ false
+-- ---- commits that wait
 
--- u keeps its locks where it is none of these transactions, or locks behind these records
-abbrev pub stays : List Record → List TxId → TxId → Bool
-stays r us u = not (is_listed u us) || is_locking u r
+-- f is the final identifier of a commit
+abbrev pub is_final : Ident → Option Outcome → Bool
+is_final f None = false
+is_final f (Some outcome.Abort) = false
+is_final f (Some (outcome.Commit g)) = g == f
+
+-- each commit that is not applied waits, and nothing else does
+abbrev pub KeepsStable : Commits → List Record → Type 0
+KeepsStable commits r = (f : Ident) (t : TxId) → set.contains commits (f, t) ≡ (is_final f (ended t r) && not (is_clear f r))
+
+-- a commit of a record does not wait yet, and there is room for it
+abbrev pub CanWait : stable_queue.Queue → Record → Type 0
+CanWait stable (record'.Ended t (outcome.Commit f)) = (¬ IsTrue (set.contains stable.commits (f, t))) × (1 ≤ stable.spare)
+CanWait stable x = Unit {0}
+
+-- the outcome is a commit that waits
+abbrev pub is_waiting : Commits → TxId → Option Outcome → Bool
+is_waiting commits u None = false
+is_waiting commits u (Some outcome.Abort) = false
+is_waiting commits u (Some (outcome.Commit f)) = set.contains commits (f, u)
+
+-- u is pending, or its commit waits
+abbrev pub is_holding : Commits → TxId → List Record → Bool
+is_holding commits u r = is_some (pending u r) || is_waiting commits u (ended u r)
+
+-- what stands while applied commits are taken out one by one: what waits is a commit, each commit that
+-- is not applied waits, and who is pending or waits holds the keys of its Prepared
+pub record Settles (commits : Commits) (held : Held) (r : List Record) : Type 0 where
+  pub known : (f : Ident) (t : TxId) → set.contains commits (f, t) ≡ true → ended t r ≡ Some (outcome.Commit f)
+  pub waits : (f : Ident) (t : TxId) → ended t r ≡ Some (outcome.Commit f) → is_clear f r ≡ false → set.contains commits (f, t) ≡ true
+  pub keys : (u : TxId) (k : Key) → holds_lock held u k ≡ (is_holding commits u r && names (prepared_of u r) k)
+  pub written : (u : TxId) (k : Key) → writes_key held u k ≡ (is_holding commits u r && writes_to (prepared_of u r) k)
 
 -- a Prepared can take its locks: nobody else conflicts with it, it holds nothing, and there is room
 abbrev pub CanTake : Held → Record → Type 0
@@ -100,10 +124,11 @@ CanEnd outcomes x = Unit {0}
 -- ---- all of them
 
 -- each record fits those before it, and each keeper answers for them; here the oldest record is the first
-pub record Keeps (c : ClusterData) (n : NodeId) (rs : List Record) (places : List (TxId × ℕ)) (outcomes : List (TxId × Outcome)) (proposals : Proposals) (clock : Clock) (held : Held) : Type 0 where
+pub record Keeps (c : ClusterData) (n : NodeId) (rs : List Record) (places : List (TxId × ℕ)) (outcomes : List (TxId × Outcome)) (proposals : Proposals) (clock : Clock) (commits : Commits) (held : Held) : Type 0 where
   pub fit : all_fit c n (reverse rs) ≡ true
   pub placed : KeepsPlaces places rs
   pub over : KeepsOutcomes outcomes (reverse rs)
   pub queue : KeepsPending proposals (reverse rs)
   pub numbers : KeepsClock clock (reverse rs)
+  pub stable : KeepsStable commits (reverse rs)
   pub locks : KeepsLocks held (reverse rs)

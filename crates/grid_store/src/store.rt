@@ -21,6 +21,7 @@ use node_clock::NodeClock;
 use pending_queue::Pending;
 use placement::Cluster;
 use score_base::{Ident, Key, Memory, NodeId, Ordered, Outcome, Record, TxId, Value};
+use stable_queue::Stable;
 use std::alloc::Global;
 use std::marker::Model;
 
@@ -34,6 +35,7 @@ pub struct Store {
     outcomes: Ordered<TxId, Outcome>,
     pending: Pending,
     clock: NodeClock<64>,
+    stable: Stable,
     locks: Locks,
 }
 
@@ -50,12 +52,12 @@ impl Model for Store {
         journal = reverse s.records.items;
         next = s.clock.next;
         room = record {
-            records = min (vec_capacity s.records - vec_len s.records) (min s.places.spare (min s.outcomes.spare s.pending.spare));
+            records = min (vec_capacity s.records - vec_len s.records) (min s.places.spare (min s.outcomes.spare (min s.pending.spare s.stable.spare)));
             keys = s.locks.spare;
         };
     } };
 
-    ghost invariant = { λ s. Keeps s.cluster s.node s.records.items s.places.pairs s.outcomes.pairs s.pending.proposals s.clock s.locks };
+    ghost invariant = { λ s. Keeps s.cluster s.node s.records.items s.places.pairs s.outcomes.pairs s.pending.proposals s.clock s.stable.commits s.locks };
 }
 
 impl Store {
@@ -74,6 +76,7 @@ impl Store {
             outcomes: Ordered::new(alloc),
             pending: Pending::new(alloc),
             clock: NodeClock::new(),
+            stable: Stable::new(alloc),
             locks: Locks::new(alloc),
         }
     }
@@ -196,6 +199,7 @@ impl Store {
         self.places.reserve(1)?;
         self.outcomes.reserve(1)?;
         self.pending.reserve(1)?;
+        self.stable.reserve(1)?;
         make_room(&mut self.locks, rec)
     }
 
@@ -212,9 +216,9 @@ impl Store {
         end(&mut self.outcomes, &rec);
         pend(&mut self.pending, &rec);
         learn(&mut self.clock, &rec);
-        take(&mut self.locks, &rec);
+        take(&mut self.stable, &mut self.locks, &rec);
+        settle(&mut self.stable, &mut self.locks, &self.pending);
         self.records.push_reserved(rec);
-        settle(&mut self.locks, &self.pending, self.records.as_slice());
     }
 
     /// Raises `next` to `sid`, where it is below; tells whether it rose. All else is as before.

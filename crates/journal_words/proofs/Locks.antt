@@ -26,7 +26,7 @@ abbrev pub is_listed : TxId → List TxId → Bool
 is_listed t [] = false
 is_listed t (u ∷ us) = (u == t) || is_listed t us
 
-prepared-listed : (u : TxId) (r : List Record) → is_some (prepared_of u r) ≡ true → is_listed u (prepared_all r) ≡ true
+pub prepared-listed : (u : TxId) (r : List Record) → is_some (prepared_of u r) ≡ true → is_listed u (prepared_all r) ≡ true
 prepared-listed u [] h = absurd (grind (arith, h))
 prepared-listed u (record'.Prepared v home parts sid p reads writes ∷ r) h = grind (arith, nat_tests, prepared-listed u r)
 prepared-listed u (y ∷ r) h = prepared-listed u r h

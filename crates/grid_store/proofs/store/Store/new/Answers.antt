@@ -1,6 +1,7 @@
 use Rattle.std.proofs.Common.{refl}
 use Rattle.std.specs.FinMap as map
 use Rattle.std.specs.FinSet as set
+use Rattle.stable_queue.specs.Commits.{by_final}
 use Rattle.lock_table.specs.Keys.{by_transaction}
 use Rattle.std.specs.Ordering.{nat_cmp}
 use Rattle.grid_store.proofs.store.Store.new.Goals as goal
@@ -12,5 +13,6 @@ invariant_of-result c = rw c.new.ensures.items (record {
   over = rw c.new-3.ensures.pairs (λ t. refl);
   queue = λ t. rw c.new-4.ensures (map.get-empty nat_cmp t);
   numbers = record { floor = c.new-5.ensures.floor; above = refl };
-  locks = record { keys = λ u k. rw c.new-6.ensures.keys (set.contains-empty by_transaction (u, k)); written = λ u k. rw c.new-6.ensures.written (set.contains-empty by_transaction (u, k)) };
+  stable = λ f t. rw c.new-6.ensures (set.contains-empty by_final (f, t));
+  locks = record { keys = λ u k. rw c.new-7.ensures.keys (set.contains-empty by_transaction (u, k)); written = λ u k. rw c.new-7.ensures.written (set.contains-empty by_transaction (u, k)) };
 })

@@ -15,5 +15,6 @@ invariant_of-self c =
         floor = rw c.raise.ensures.floor i.numbers.floor;
         above = above-higher (1 + s.clock.next) (1 + c.raise.new.self.next) (reverse s.records.items) (omega (arith, c.raise.ensures.next)) i.numbers.above;
       };
+      stable = i.stable;
       locks = i.locks;
     }
