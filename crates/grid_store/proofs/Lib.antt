@@ -5,3 +5,4 @@ pub mod LockReads
 pub mod LockSteps
 pub mod PlaceSteps
 pub mod StableSteps
+pub mod Fronts

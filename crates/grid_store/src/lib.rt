@@ -10,7 +10,9 @@ mod locks;
 mod outcomes;
 mod pends;
 mod places;
+mod replays;
 mod store;
 mod tables;
 
+pub use replays::ReplayEnd;
 pub use store::Store;

@@ -1,6 +1,6 @@
 //! A store: its fields, what it answers, and how it takes in a record.
 
-ghost use Rattle.std.specs.Prelude.{◌≡◌, ◌+◌, ◌≤◌, ◌<◌, ◌↔◌, ◌∷◌, ◌^◌, [], true, max, Some, IsTrue, IsNone, IfSome, IfOk, OnOk};
+ghost use Rattle.std.specs.Prelude.{◌≡◌, ◌+◌, ◌≤◌, ◌<◌, ◌↔◌, ◌∷◌, ◌^◌, [], true, max, length, Some, IsTrue, IsNone, IfSome, IfOk, OnOk};
 ghost use Rattle.score_base.specs.declared.ids.Ident.{Ident};
 ghost use Rattle.score_base.specs.declared.ids.TxId.{TxId};
 ghost use Rattle.node_clock.specs.Clock.{IsCeiling};
@@ -93,6 +93,13 @@ impl Store {
         ensures { result.now ≡ self.now.cluster }
     {
         &self.cluster
+    }
+
+    /// How many records it was given.
+    pub fn len(&self) -> usize
+        ensures { result ≡ length self.now.journal }
+    {
+        self.records.len()
     }
 
     /// The proposal of t where it is pending.
