@@ -71,10 +71,13 @@ keeps-settles s held r k l = record {
 
 -- where no commit that waits is applied, the queue has what is not applied, and the locks are those of who locks
 pub settled : (s : Commits) (held : Held) (r : List Record) → Settles s held r → ((f : Ident) (t : TxId) → set.contains s (f, t) ≡ true → is_clear f r ≡ false) → KeepsStable s r × KeepsLocks held r
-settled s held r st none = (keeps, record {
-  keys = λ u x. st.keys u x ∙ ap (λ b. b && names (prepared_of u r) x) (holding-is s r u keeps);
-  written = λ u x. st.written u x ∙ ap (λ b. b && writes_to (prepared_of u r) x) (holding-is s r u keeps);
-})
+settled s held r st none = (
+  keeps,
+  record {
+    keys = λ u x. st.keys u x ∙ ap (λ b. b && names (prepared_of u r) x) (holding-is s r u keeps);
+    written = λ u x. st.written u x ∙ ap (λ b. b && writes_to (prepared_of u r) x) (holding-is s r u keeps);
+  },
+)
   where
     both : (f : Ident) (t : TxId) (a b c : Bool) → set.contains s (f, t) ≡ a → is_final f (ended t r) ≡ b → is_clear f r ≡ c → a ≡ (b && not c)
     both f t true b c ea eb ec =

@@ -47,14 +47,14 @@ impl Model for Store {
     ghost Value = { Given };
 
     ghost view = { λ s. record {
-        node = s.node;
-        cluster = s.cluster;
-        journal = reverse s.records.items;
-        next = s.clock.next;
-        room = record {
-            records = min (vec_capacity s.records - vec_len s.records) (min s.places.spare (min s.outcomes.spare (min s.pending.spare s.stable.spare)));
-            keys = s.locks.spare;
-        };
+      node = s.node;
+      cluster = s.cluster;
+      journal = reverse s.records.items;
+      next = s.clock.next;
+      room = record {
+        records = min (vec_capacity s.records - vec_len s.records) (min s.places.spare (min s.outcomes.spare (min s.pending.spare s.stable.spare)));
+        keys = s.locks.spare;
+      };
     } };
 
     ghost invariant = { λ s. Keeps s.cluster s.node s.records.items s.places.pairs s.outcomes.pairs s.pending.proposals s.clock s.stable.commits s.locks };
@@ -194,7 +194,13 @@ impl Store {
     pub fn fits(&self, alloc: Global, rec: &Record) -> Result<bool, Memory>
         ensures { IfOk result (λ fit. fit ≡ fits self.now.cluster self.now.node self.now.journal rec.now) }
     {
-        records::fits(alloc, &self.cluster, self.node, self.records.as_slice(), rec)
+        records::fits(
+            alloc,
+            &self.cluster,
+            self.node,
+            self.records.as_slice(),
+            rec,
+        )
     }
 
     /// Makes room for a record. All else is as before, also after [`Memory`].
