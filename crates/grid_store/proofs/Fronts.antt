@@ -1,5 +1,5 @@
 -- What does a store show that was given the first of a list of records?
-use Rattle.std.proofs.Common.{ℕ, ◌≡◌, ◌≤◌, ◌<◌, ◌+◌, ◌∷◌, [], max, true, false, Bool, List, Some, length, take, reverse, refl, sym, ap, subst, ◌∙◌, length-take-le, arith}
+use Rattle.std.proofs.Common.{ℕ, ◌≡◌, ◌≤◌, ◌<◌, ◌+◌, ◌∷◌, max, true, false, List, Some, length, take, reverse, refl, sym, ap, subst, ◌∙◌, length-take-le, arith}
 use Rattle.std.proofs.lemmas.List.{length-reverse, get_or_default}
 use Rattle.std.specs.Prelude.{slice_index_or}
 use Rattle.score_base.specs.declared.ids.NodeId.{NodeId}

@@ -1,5 +1,5 @@
 -- The lock table behind one more record.
-use Rattle.std.proofs.Common.{◌≡◌, ◌≢◌, ◌≤◌, inl, inr, Bool, true, false, ◌&&◌, ◌||◌, not, List, [], ◌∷◌, Option, Some, None, refl, sym, ap, subst, ◌∙◌, arith}
+use Rattle.std.proofs.Common.{◌≡◌, ◌≢◌, ◌≤◌, inl, inr, Bool, true, false, ◌&&◌, ◌||◌, not, List, ◌∷◌, Option, Some, None, refl, sym, ap, subst, ◌∙◌, arith}
 use Rattle.std.proofs.lemmas.Bool.{cases_eq, and_parts}
 use Rattle.std.proofs.lemmas.Bool.Decides.{nat_tests}
 use Rattle.std.specs.Prelude.{◌==◌, nat_lt}
@@ -14,7 +14,7 @@ use Rattle.score_base.specs.declared.records.Record.{Record}
 use Rattle.score_base.specs.declared.records.Record.TheVariants as record'
 use Rattle.placement.specs.Clusters.{ClusterData}
 use Rattle.lock_table.specs.Keys.{Held, holds_lock, writes_key, is_read, is_written, Conflicts}
-use Rattle.journal_words.specs.Journals.{Prepared, prepared_of, ended, is_clear, is_unapplied, is_locking, conflicts_with, fits, all_fit}
+use Rattle.journal_words.specs.Journals.{Prepared, prepared_of, ended, is_clear, is_unapplied, is_locking, conflicts_with, fits}
 use Rattle.journal_words.proofs.Fits.{FitsPrepared, prepared-fits}
 use Rattle.journal_words.proofs.Once.{prepared-other, prepared-first}
 use Rattle.journal_words.proofs.Floors.{above-final}

@@ -1,6 +1,5 @@
 -- The places of the Prepared, and the outcomes, behind one more record.
-use Rattle.std.proofs.Common.{ℕ, ◌≡◌, ◌<◌, ◌≤◌, ◌+◌, ◌++◌, ◌∷◌, [], true, false, Bool, List, Option, Some, None, is_some, length, reverse, refl, sym, ap, ◌∙◌, arith, if◌then◌else◌, inl, inr, subst}
-use Rattle.std.proofs.lemmas.Bool.{cases_eq}
+use Rattle.std.proofs.Common.{ℕ, ◌≡◌, ◌<◌, ◌≤◌, ◌+◌, ◌++◌, ◌∷◌, [], true, false, Bool, List, Option, Some, None, is_some, length, reverse, refl, sym, ap, ◌∙◌, arith, if◌then◌else◌, subst}
 use Rattle.std.proofs.lemmas.Bool.Decides.{nat_tests}
 use Rattle.std.proofs.lemmas.List.{reverse-append, length-append, get_or_append_left}
 use Rattle.std.proofs.Math.Seq.{get_or-append_seam}
@@ -17,8 +16,8 @@ use Rattle.score_base.specs.declared.records.Record.{Record}
 use Rattle.score_base.specs.declared.records.Record.TheVariants as record'
 use Rattle.score_base.specs.Tables.{Table}
 use Rattle.placement.specs.Clusters.{ClusterData}
-use Rattle.journal_words.specs.Journals.{Prepared, older, prepared_of, ended, fits, all_fit}
-use Rattle.journal_words.proofs.Fits.{prepared-fits, more-fits}
+use Rattle.journal_words.specs.Journals.{Prepared, older, prepared_of, fits, all_fit}
+use Rattle.journal_words.proofs.Fits.{prepared-fits}
 use Rattle.journal_words.proofs.Once.{ended-first}
 use Rattle.grid_store.specs.Keeping.{said_by, said_at, KeepsPlaces, CanPlace, KeepsOutcomes, CanEnd}
 

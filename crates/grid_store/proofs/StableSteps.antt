@@ -1,9 +1,9 @@
 -- Which commits wait behind one more record, and what is left when those that are applied were taken out?
 use Prim.Native.Nat.{zero, suc}
-use Rattle.std.proofs.Common.{ℕ, ◌≡◌, ◌≢◌, ◌≤◌, ◌<◌, ◌-◌, ◌∷◌, inl, inr, nat_eq, Bool, true, false, not, ◌&&◌, ◌||◌, List, [], Option, Some, None, is_some, IsTrue, refl, sym, ap, subst, ◌∙◌, arith, if◌then◌else◌}
-use Rattle.std.proofs.lemmas.Bool.{cases_eq, and_parts, and_from}
+use Rattle.std.proofs.Common.{ℕ, ◌≡◌, ◌≤◌, ◌<◌, ◌-◌, ◌∷◌, inl, inr, ◌⊎◌, max, nat_eq, Bool, true, false, not, ◌&&◌, ◌||◌, List, [], Option, Some, None, is_some, refl, sym, ap, subst, ◌∙◌, arith, if◌then◌else◌}
+use Rattle.std.proofs.lemmas.Bool.{cases_eq, cases_Bool, and_parts, or_cases}
 use Rattle.std.proofs.lemmas.Bool.Decides.{nat_tests}
-use Rattle.std.specs.Prelude.{◌==◌, nat_lt, IsNone, ◌↔◌}
+use Rattle.std.specs.Prelude.{◌==◌, nat_lt}
 use Rattle.std.specs.Ordering.{nat_cmp, eq_by_cmp}
 use Rattle.std.specs.Cmp.{unsigned_tied, both_tied}
 use Rattle.std.specs.FinSet as set
@@ -18,14 +18,16 @@ use Rattle.score_base.specs.declared.records.Record.{Record}
 use Rattle.score_base.specs.declared.records.Record.TheVariants as record'
 use Rattle.placement.specs.Clusters.{ClusterData}
 use Rattle.lock_table.specs.Keys.{Held, holds_lock, writes_key}
-use Rattle.stable_queue.specs.Commits.{Commits, Queue, by_final, is_below}
+use Rattle.stable_queue.specs.Commits.{Commits, Queue, by_final}
 use Rattle.stable_queue.proofs.Members.{by_final_total}
-use Rattle.journal_words.specs.Journals.{Prepared, prepared_of, pending, ended, is_clear, is_unapplied, is_locking, fits, all_fit}
-use Rattle.journal_words.proofs.Fits.{prepared-fits, outcome-fits, newest-fits, rest-fits}
+use Rattle.journal_words.specs.Journals.{prepared_of, pending, ended, is_clear, applied, greatest, commit_id, is_unapplied, is_locking, fits, all_fit}
+use Rattle.journal_words.proofs.Fits.{prepared-fits, outcome-fits, newest-fits}
 use Rattle.journal_words.proofs.Floors.{above-final}
 use Rattle.journal_words.proofs.Once.{ended-first, ended-over}
 use Rattle.journal_words.proofs.Pendings.{clear-more}
-use Rattle.grid_store.specs.Keeping.{names, writes_to, is_final, is_waiting, is_holding, KeepsStable, KeepsLocks, CanWait, Settles}
+use Rattle.journal_words.proofs.Pairs.{has_pair}
+use Rattle.journal_words.proofs.Applied.{applied-says, says-applied, greatest-one}
+use Rattle.grid_store.specs.Keeping.{names, writes_to, is_final, is_waiting, is_holding, KeepsStable, KeepsLocks, KeepsApplied, CanWait, Settles}
 
 -- ---- the set of commits
 
@@ -61,18 +63,68 @@ waiting-is s r u k = go (ended u r) refl
 holding-is : (s : Commits) (r : List Record) (u : TxId) → KeepsStable s r → is_holding s u r ≡ is_locking u r
 holding-is s r u k = ap (λ b. is_some (pending u r) || b) (waiting-is s r u k)
 
-pub keeps-settles : (s : Commits) (held : Held) (r : List Record) → KeepsStable s r → KeepsLocks held r → Settles s held r
-keeps-settles s held r k l = record {
+pub keeps-settles : (s : Commits) (held : Held) (top : Ident) (r : List Record) → KeepsApplied s top r → KeepsStable s r → KeepsLocks held r → Settles s held top r
+keeps-settles s held top r a k l = record {
+  applied = a;
   known = λ f t h. final-is f (ended t r) (and_parts (is_final f (ended t r)) (not (is_clear f r)) (sym (k f t) ∙ h)).0;
   waits = λ f t e clear. k f t ∙ rw (e, is-final f, clear) refl;
   keys = λ u x. l.keys u x ∙ ap (λ b. b && names (prepared_of u r) x) (sym (holding-is s r u k));
   written = λ u x. l.written u x ∙ ap (λ b. b && writes_to (prepared_of u r) x) (sym (holding-is s r u k));
 }
 
+-- ---- the commit identifier
+
+greatest-most : (t : TxId) (f : Ident) (xs : List (TxId × Ident)) → has_pair t f xs ≡ true → f ≤ greatest xs
+greatest-most t f [] h = absurd (grind (arith, h))
+greatest-most t f (x ∷ xs) h = elim (or_cases (x.0 == t && x.1 == f) (has_pair t f xs) h) [
+  | inl here ↦ (let e = (and_parts (x.0 == t) (x.1 == f) here).1 in grind (arith, nat_tests, e))
+  | inr later ↦ (let le = greatest-most t f xs later in omega (arith, le))
+]
+
+-- who ended with commit and does not wait is applied
+not-waiting : (s : Commits) (r : List Record) (t : TxId) (f : Ident) → KeepsStable s r → ended t r ≡ Some (outcome.Commit f) → set.contains s (f, t) ≡ false → is_clear f r ≡ true
+not-waiting s r t f k e h = go (is_clear f r) refl
+  where
+    go : (b : Bool) → is_clear f r ≡ b → b ≡ true
+    go true x = refl
+    go false x = absurd (let w : set.contains s (f, t) ≡ true = k f t ∙ rw (e, is-final f, x) refl in grind (arith, w, h))
+
+-- and who is applied does not wait
+applied-not : (s : Commits) (r : List Record) (t : TxId) (f : Ident) → KeepsStable s r → ended t r ≡ Some (outcome.Commit f) → is_clear f r ≡ true → set.contains s (f, t) ≡ false
+applied-not s r t f k e clear = k f t ∙ rw (e, is-final f, clear) refl
+
+pub top-applied : (c : ClusterData) (n : NodeId) (s : Commits) (top : Ident) (r : List Record) → all_fit c n r ≡ true → KeepsStable s r → top ≡ commit_id r → KeepsApplied s top r
+top-applied c n s top r fit k is = record {
+  most = λ f t e h. subst (λ x. f ≤ x) (sym is) (greatest-most t f (applied r) (says-applied t f r e (not-waiting s r t f k e h)));
+  one = subst One (sym is) (elim (greatest-one (applied r)) [
+    | inl none ↦ inl none
+    | inr some ↦ (let a = applied-says c n some.0 (commit_id r) r fit some.1 in inr (some.0, a.committed, applied-not s r some.0 (commit_id r) k a.committed a.clear))
+  ]);
+}
+  where
+    One : Ident → Type 0
+    One x = (x ≡ 0) ⊎ ((t : TxId) × (ended t r ≡ Some (outcome.Commit x)) × (set.contains s (x, t) ≡ false))
+
+applied-top : (c : ClusterData) (n : NodeId) (s : Commits) (top : Ident) (r : List Record) → all_fit c n r ≡ true → KeepsStable s r → KeepsApplied s top r → top ≡ commit_id r
+applied-top c n s top r fit k a = omega (arith, low, high)
+  where
+    low : top ≤ commit_id r
+    low = elim a.one [
+      | inl none ↦ omega (arith, none)
+      | inr some ↦ greatest-most some.0 top (applied r) (says-applied some.0 top r some.1 (not-waiting s r some.0 top k some.1 some.2))
+    ]
+
+    high : commit_id r ≤ top
+    high = elim (greatest-one (applied r)) [
+      | inl none ↦ (let e : commit_id r ≡ 0 = none in omega (arith, e))
+      | inr some ↦ (let x = applied-says c n some.0 (commit_id r) r fit some.1 in a.most (commit_id r) some.0 x.committed (applied-not s r some.0 (commit_id r) k x.committed x.clear))
+    ]
+
 -- where no commit that waits is applied, the queue has what is not applied, and the locks are those of who locks
-pub settled : (s : Commits) (held : Held) (r : List Record) → Settles s held r → ((f : Ident) (t : TxId) → set.contains s (f, t) ≡ true → is_clear f r ≡ false) → KeepsStable s r × KeepsLocks held r
-settled s held r st none = (
+pub settled : (c : ClusterData) (n : NodeId) (s : Commits) (held : Held) (top : Ident) (r : List Record) → all_fit c n r ≡ true → Settles s held top r → ((f : Ident) (t : TxId) → set.contains s (f, t) ≡ true → is_clear f r ≡ false) → KeepsStable s r × (top ≡ commit_id r) × KeepsLocks held r
+settled c n s held top r fit st none = (
   keeps,
+  applied-top c n s top r fit keeps st.applied,
   record {
     keys = λ u x. st.keys u x ∙ ap (λ b. b && names (prepared_of u r) x) (holding-is s r u keeps);
     written = λ u x. st.written u x ∙ ap (λ b. b && writes_to (prepared_of u r) x) (holding-is s r u keeps);
@@ -126,8 +178,9 @@ pub record Ends (t : TxId) (o : Outcome) (r : List Record) (s s' : Commits) (hel
   pub keys : (u : TxId) (k : Key) → holds_lock held' u k ≡ ((not (t == u) || is_waiting s' t (Some o)) && holds_lock held u k)
   pub written : (u : TxId) (k : Key) → writes_key held' u k ≡ ((not (t == u) || is_waiting s' t (Some o)) && writes_key held u k)
 
-pub ends-settles : (c : ClusterData) (n : NodeId) (r : List Record) (t : TxId) (o : Outcome) (s s' : Commits) (held held' : Held) → all_fit c n (record'.Ended t o ∷ r) ≡ true → KeepsStable s r → KeepsLocks held r → Ends t o r s s' held held' → Settles s' held' (record'.Ended t o ∷ r)
-ends-settles c n r t o s s' held held' fit k l e = record {
+pub ends-settles : (c : ClusterData) (n : NodeId) (r : List Record) (t : TxId) (o : Outcome) (s s' : Commits) (held held' : Held) (top : Ident) → all_fit c n (record'.Ended t o ∷ r) ≡ true → KeepsApplied s top r → KeepsStable s r → KeepsLocks held r → Ends t o r s s' held held' → Settles s' held' top (record'.Ended t o ∷ r)
+ends-settles c n r t o s s' held held' top fit a k l e = record {
+  applied = record { most = λ f u is out. most f u (t == u) refl is out; one = one a.one };
   known = λ f u h. known f u (t == u) refl h;
   waits = λ f u is clear. waits f u (t == u) refl is clear;
   keys = λ u x. keys u x (t == u) refl;
@@ -136,6 +189,18 @@ ends-settles c n r t o s s' held held' fit k l e = record {
   where
     r' : List Record
     r' = record'.Ended t o ∷ r
+
+    most : (f : Ident) (u : TxId) (b : Bool) → t == u ≡ b → (if b then Some o else ended u r) ≡ Some (outcome.Commit f) → set.contains s' (f, u) ≡ false → f ≤ top
+    most f u true eq is out = absurd (
+        let same : t ≡ u = grind (arith, nat_tests, eq) in
+        let mine : set.contains s' (f, t) ≡ true = e.own f ∙ ap (is_final f) is ∙ is-final f in
+        let there : set.contains s' (f, u) ≡ true = subst (λ (v : TxId). set.contains s' (f, v) ≡ true) same mine in
+        grind (arith, there, out))
+    most f u false eq is out = a.most f u is (sym (e.others f u eq) ∙ out)
+
+    one : (top ≡ 0) ⊎ ((u : TxId) × (ended u r ≡ Some (outcome.Commit top)) × (set.contains s (top, u) ≡ false)) → (top ≡ 0) ⊎ ((u : TxId) × (ended u r' ≡ Some (outcome.Commit top)) × (set.contains s' (top, u) ≡ false))
+    one (inl none) = inl none
+    one (inr some) = (let ne = other-ended c n r t some.0 o (outcome.Commit top) fit some.1 in inr (some.0, rw ne some.1, e.others top some.0 ne ∙ some.2))
 
     known : (f : Ident) (u : TxId) (b : Bool) → t == u ≡ b → set.contains s' (f, u) ≡ true → (if b then Some o else ended u r) ≡ Some (outcome.Commit f)
     known f u true eq h =
@@ -251,8 +316,9 @@ can-wait c n r q (record'.Closed t) k fit room = tt
 
 -- ---- one commit is taken out
 
-pub taken-out : (c : ClusterData) (n : NodeId) (r : List Record) (f : Ident) (t : TxId) (s s' : Commits) (held held' : Held) → all_fit c n r ≡ true → Settles s held r → set.contains s (f, t) ≡ true → is_clear f r ≡ true → s' ≡ set.remove s (f, t) → ((u : TxId) (k : Key) → holds_lock held' u k ≡ (not (u == t) && holds_lock held u k)) → ((u : TxId) (k : Key) → writes_key held' u k ≡ (not (u == t) && writes_key held u k)) → Settles s' held' r
-taken-out c n r f t s s' held held' fit st member clear is keys written = record {
+pub taken-out : (c : ClusterData) (n : NodeId) (r : List Record) (f : Ident) (t : TxId) (s s' : Commits) (held held' : Held) (top : Ident) → all_fit c n r ≡ true → Settles s held top r → set.contains s (f, t) ≡ true → is_clear f r ≡ true → s' ≡ set.remove s (f, t) → ((u : TxId) (k : Key) → holds_lock held' u k ≡ (not (u == t) && holds_lock held u k)) → ((u : TxId) (k : Key) → writes_key held' u k ≡ (not (u == t) && writes_key held u k)) → Settles s' held' (max top f) r
+taken-out c n r f t s s' held held' top fit st member clear is keys written = record {
+  applied = record { most = most; one = one };
   known = λ g u h. st.known g u (and_parts (not (nat_eq g f && nat_eq u t)) (set.contains s (g, u)) (sym (has-left s f g t u) ∙ sym (at-new g u) ∙ h)).1;
   waits = λ g u e open'. at-new g u ∙ has-left s f g t u ∙ rw (st.waits g u e open') (stays g u open');
   keys = λ u x. keys u x ∙ rest u (holds_lock held u x) (names (prepared_of u r) x) (st.keys u x);
@@ -273,6 +339,31 @@ taken-out c n r f t s s' held held' fit st member clear is keys written = record
 
     gone : set.contains s' (f, t) ≡ false
     gone = (let a : nat_eq f f ≡ true = grind (arith, nat_tests) in let b : nat_eq t t ≡ true = grind (arith, nat_tests) in at-new f t ∙ has-left s f f t t ∙ rw (a, b) refl)
+
+    most : (g : Ident) (u : TxId) → ended u r ≡ Some (outcome.Commit g) → set.contains s' (g, u) ≡ false → g ≤ max top f
+    most g u e out = elim (cases_Bool (nat_eq g f)) [
+      | inl same ↦ grind (arith, nat_tests, same)
+      | inr ne ↦ (let le = st.applied.most g u e (outside g u ne out) in omega (arith, le))
+    ]
+      where
+        outside : (g : Ident) (u : TxId) → nat_eq g f ≡ false → set.contains s' (g, u) ≡ false → set.contains s (g, u) ≡ false
+        outside g u ne out = rw ne at (sym (has-left s f g t u) ∙ sym (at-new g u) ∙ out)
+
+    one : (max top f ≡ 0) ⊎ ((u : TxId) × (ended u r ≡ Some (outcome.Commit (max top f))) × (set.contains s' (max top f, u) ≡ false))
+    one = elim (cases_Bool (nat_lt f top)) [
+      | inl low ↦ (let is : max top f ≡ top = grind (arith, nat_tests, low) in subst One (sym is) (elim st.applied.one [
+        | inl none ↦ inl none
+        | inr some ↦ inr (some.0, some.1, at-new top some.0 ∙ has-left s f top t some.0 ∙ rw some.2 (never (not (nat_eq top f && nat_eq some.0 t))))
+      ]))
+      | inr high ↦ (let is : max top f ≡ f = grind (arith, nat_tests, high) in subst One (sym is) (inr (t, over, gone)))
+    ]
+      where
+        One : Ident → Type 0
+        One x = (x ≡ 0) ⊎ ((u : TxId) × (ended u r ≡ Some (outcome.Commit x)) × (set.contains s' (x, u) ≡ false))
+
+        never : (b : Bool) → (b && false) ≡ false
+        never true = refl
+        never false = refl
 
     not-held : is_holding s' t r ≡ false
     not-held = rw (ended-over c n t (outcome.Commit f) r fit over, over, gone) refl

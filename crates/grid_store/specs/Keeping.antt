@@ -1,5 +1,5 @@
 -- What ties a store's keepers to the words over the records that it was given, the newest first.
-use Rattle.std.specs.Prelude.{◌≡◌, ◌≢◌, ℕ, ◌+◌, ◌≤◌, ◌<◌, ◌==◌, Bool, true, false, not, ◌&&◌, ◌||◌, IsTrue, List, [], ◌∷◌, length, reverse, slice_index_or, Option, Some, None, is_some}
+use Rattle.std.specs.Prelude.{◌≡◌, ◌≢◌, ◌⊎◌, ℕ, ◌+◌, ◌≤◌, ◌<◌, ◌==◌, Bool, true, false, not, ◌&&◌, ◌||◌, IsTrue, List, length, reverse, slice_index_or, Option, Some, None, is_some}
 use Rattle.std.specs.Ordering.{nat_cmp}
 use Rattle.std.specs.FinMap as map
 use Rattle.std.specs.FinSet as set
@@ -18,7 +18,7 @@ use Rattle.pending_queue.specs.Proposals.{Proposals, Queue}
 use Rattle.stable_queue.specs.Commits.{Commits}
 use Rattle.stable_queue.specs.Commits as stable_queue
 use Rattle.lock_table.specs.Keys.{Held, holds_lock, writes_key, is_read, is_written, Conflicts}
-use Rattle.journal_words.specs.Journals.{Prepared, prepared_of, pending, ended, floor, is_above, is_clear, is_locking, all_fit}
+use Rattle.journal_words.specs.Journals.{Prepared, prepared_of, pending, ended, floor, is_above, is_clear, commit_id, is_locking, all_fit}
 
 -- the queue has the proposal of each pending transaction
 abbrev pub KeepsPending : Proposals → List Record → Type 0
@@ -76,9 +76,15 @@ is_waiting commits u (Some (outcome.Commit f)) = set.contains commits (f, u)
 abbrev pub is_holding : Commits → TxId → List Record → Bool
 is_holding commits u r = is_some (pending u r) || is_waiting commits u (ended u r)
 
+-- top is the greatest final identifier of the commits that do not wait, or 0
+pub record KeepsApplied (commits : Commits) (top : Ident) (r : List Record) : Type 0 where
+  pub most : (f : Ident) (t : TxId) → ended t r ≡ Some (outcome.Commit f) → set.contains commits (f, t) ≡ false → f ≤ top
+  pub one : (top ≡ 0) ⊎ ((t : TxId) × (ended t r ≡ Some (outcome.Commit top)) × (set.contains commits (top, t) ≡ false))
+
 -- what stands while applied commits are taken out one by one: what waits is a commit, each commit that
 -- is not applied waits, and who is pending or waits holds the keys of its Prepared
-pub record Settles (commits : Commits) (held : Held) (r : List Record) : Type 0 where
+pub record Settles (commits : Commits) (held : Held) (top : Ident) (r : List Record) : Type 0 where
+  pub applied : KeepsApplied commits top r
   pub known : (f : Ident) (t : TxId) → set.contains commits (f, t) ≡ true → ended t r ≡ Some (outcome.Commit f)
   pub waits : (f : Ident) (t : TxId) → ended t r ≡ Some (outcome.Commit f) → is_clear f r ≡ false → set.contains commits (f, t) ≡ true
   pub keys : (u : TxId) (k : Key) → holds_lock held u k ≡ (is_holding commits u r && names (prepared_of u r) k)
@@ -124,11 +130,12 @@ CanEnd outcomes x = Unit {0}
 -- ---- all of them
 
 -- each record fits those before it, and each keeper answers for them; here the oldest record is the first
-pub record Keeps (c : ClusterData) (n : NodeId) (rs : List Record) (places : List (TxId × ℕ)) (outcomes : List (TxId × Outcome)) (proposals : Proposals) (clock : Clock) (commits : Commits) (held : Held) : Type 0 where
+pub record Keeps (c : ClusterData) (n : NodeId) (rs : List Record) (places : List (TxId × ℕ)) (outcomes : List (TxId × Outcome)) (proposals : Proposals) (clock : Clock) (commits : Commits) (top : Ident) (held : Held) : Type 0 where
   pub fit : all_fit c n (reverse rs) ≡ true
   pub placed : KeepsPlaces places rs
   pub over : KeepsOutcomes outcomes (reverse rs)
   pub queue : KeepsPending proposals (reverse rs)
   pub numbers : KeepsClock clock (reverse rs)
   pub stable : KeepsStable commits (reverse rs)
+  pub applied : top ≡ commit_id (reverse rs)
   pub locks : KeepsLocks held (reverse rs)

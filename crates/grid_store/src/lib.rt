@@ -12,7 +12,7 @@
 //! at the record that ends the last transaction pending at or below it, and its keys are free then.
 //!
 //! `reserve` makes the room for a record, and then `admit` takes it in without memory. Of the readers
-//! only `newer` and `fits` take memory: they walk the records, as the plain words do.
+//! only `at`, `newer` and `fits` take memory: they walk the records, as the plain words do.
 #![tactic(auto)]
 
 mod clocks;

@@ -3,22 +3,23 @@
 ghost use Rattle.std.specs.Prelude.{◌≡◌, ◌∷◌, ◌&&◌, ◌≤◌, true, IfSome, OnOk, List};
 ghost use Rattle.score_base.specs.declared.ids.NodeId.{NodeId};
 ghost use Rattle.score_base.specs.declared.ids.TxId.{TxId};
+ghost use Rattle.score_base.specs.declared.ids.Ident.{Ident};
 ghost use Rattle.score_base.specs.declared.records.Record.{Record};
 ghost use Rattle.score_base.specs.declared.records.Record.TheVariants as record';
 ghost use Rattle.placement.specs.Clusters.{ClusterData};
-ghost use Rattle.journal_words.specs.Journals.{all_fit};
+ghost use Rattle.journal_words.specs.Journals.{commit_id, all_fit};
 ghost use Rattle.grid_store.specs.Given.{keys_for};
-ghost use Rattle.grid_store.specs.Keeping.{KeepsPending, KeepsLocks, KeepsStable, Settles, CanTake, CanWait};
+ghost use Rattle.grid_store.specs.Keeping.{KeepsPending, KeepsLocks, KeepsStable, KeepsApplied, Settles, CanTake, CanWait};
 
 use lock_table::Locks;
 use pending_queue::Pending;
-use score_base::{Memory, Outcome, Record, TxId};
+use score_base::{Ident, Memory, Outcome, Record, TxId};
 use stable_queue::Stable;
 
 /// A commit waits, and an abort frees its keys.
 fn end(stable: &mut Stable, locks: &mut Locks, t: TxId, outcome: &Outcome)
     requires { CanWait stable.old (record'.Ended t outcome.now) }
-    ensures { (c : ClusterData) (n : NodeId) (r : List Record) → all_fit c n (record'.Ended t outcome.now ∷ r) ≡ true → KeepsStable stable.old.commits r → KeepsLocks locks.old r → Settles stable.new.commits locks.new (record'.Ended t outcome.now ∷ r) }
+    ensures { (c : ClusterData) (n : NodeId) (r : List Record) (top : Ident) → all_fit c n (record'.Ended t outcome.now ∷ r) ≡ true → KeepsApplied stable.old.commits top r → KeepsStable stable.old.commits r → KeepsLocks locks.old r → Settles stable.new.commits locks.new top (record'.Ended t outcome.now ∷ r) }
 {
     match outcome {
         Outcome::Commit(f) => stable.add(*f, t),
@@ -30,7 +31,7 @@ fn end(stable: &mut Stable, locks: &mut Locks, t: TxId, outcome: &Outcome)
 pub(crate) fn take(stable: &mut Stable, locks: &mut Locks, rec: &Record)
     requires free { CanTake locks.old rec.now }
     requires new { CanWait stable.old rec.now }
-    ensures { (c : ClusterData) (n : NodeId) (r : List Record) → all_fit c n (rec.now ∷ r) ≡ true → KeepsStable stable.old.commits r → KeepsLocks locks.old r → Settles stable.new.commits locks.new (rec.now ∷ r) }
+    ensures { (c : ClusterData) (n : NodeId) (r : List Record) (top : Ident) → all_fit c n (rec.now ∷ r) ≡ true → KeepsApplied stable.old.commits top r → KeepsStable stable.old.commits r → KeepsLocks locks.old r → Settles stable.new.commits locks.new top (rec.now ∷ r) }
 {
     match rec {
         Record::Prepared {
@@ -68,11 +69,13 @@ pub(crate) fn make_room(locks: &mut Locks, rec: &Record) -> Result<(), Memory>
     }
 }
 
-/// Applies each commit below every pending proposal, in order: its keys are free.
-pub(crate) fn settle(stable: &mut Stable, locks: &mut Locks, pending: &Pending)
-    ensures { (c : ClusterData) (n : NodeId) (r : List Record) → all_fit c n r ≡ true → KeepsPending pending.now.proposals r → Settles stable.old.commits locks.old r → KeepsStable stable.new.commits r × KeepsLocks locks.new r }
+/// Applies each commit below every pending proposal, in order: its keys are free, and the greatest
+/// final identifier that is applied is at least its own.
+pub(crate) fn settle(stable: &mut Stable, locks: &mut Locks, applied: &mut Ident, pending: &Pending)
+    ensures { (c : ClusterData) (n : NodeId) (r : List Record) → all_fit c n r ≡ true → KeepsPending pending.now.proposals r → Settles stable.old.commits locks.old applied.old r → KeepsStable stable.new.commits r × (applied.new ≡ commit_id r) × KeepsLocks locks.new r }
 {
     while let Some(first) = stable.pop_below(pending.least()) {
         locks.free(first.1);
+        *applied = (*applied).max(first.0);
     }
 }

@@ -3,9 +3,10 @@
 ghost use Rattle.std.specs.Prelude.{◌≡◌, ◌+◌, ◌≤◌, ◌<◌, ◌↔◌, ◌∷◌, ◌^◌, [], true, max, length, Some, IsTrue, IsNone, IfSome, IfOk, OnOk};
 ghost use Rattle.score_base.specs.declared.ids.Ident.{Ident};
 ghost use Rattle.score_base.specs.declared.ids.TxId.{TxId};
+ghost use Rattle.placement.specs.Clusters.{init};
 ghost use Rattle.node_clock.specs.Clock.{IsCeiling};
 ghost use Rattle.stable_queue.specs.Commits.{is_below};
-ghost use Rattle.journal_words.specs.Journals.{home_in, home_of, pending, is_clear, ended, holder, newer, floor, learnt, is_above, fits, all_fit};
+ghost use Rattle.journal_words.specs.Journals.{home_in, home_of, pending, is_clear, ended, commit_id, version_at, holder, newer, floor, learnt, is_above, fits, all_fit};
 ghost use Rattle.grid_store.specs.Given.{HasRoom, IsSame, IsLeastPending};
 ghost use Rattle.grid_store.specs.Keeping.{said_by};
 
@@ -36,6 +37,7 @@ pub struct Store {
     pending: Pending,
     clock: NodeClock<64>,
     stable: Stable,
+    applied: Ident,
     locks: Locks,
 }
 
@@ -57,7 +59,7 @@ impl Model for Store {
       };
     } };
 
-    ghost invariant = { λ s. Keeps s.cluster s.node s.records.items s.places.pairs s.outcomes.pairs s.pending.proposals s.clock s.stable.commits s.locks };
+    ghost invariant = { λ s. Keeps s.cluster s.node s.records.items s.places.pairs s.outcomes.pairs s.pending.proposals s.clock s.stable.commits s.applied s.locks };
 }
 
 impl Store {
@@ -77,6 +79,7 @@ impl Store {
             pending: Pending::new(alloc),
             clock: NodeClock::new(),
             stable: Stable::new(alloc),
+            applied: Ident(0),
             locks: Locks::new(alloc),
         }
     }
@@ -135,6 +138,13 @@ impl Store {
         self.pending.least()
     }
 
+    /// The commit identifier: the greatest final identifier that is applied; 0 where there is none.
+    pub fn commit_id(&self) -> Ident
+        ensures { result ≡ commit_id self.now.journal }
+    {
+        self.applied
+    }
+
     /// The floor: the greatest proposal, final identifier and ceiling.
     pub fn floor(&self) -> Ident
         ensures { result ≡ floor self.now.journal }
@@ -176,6 +186,17 @@ impl Store {
         ensures { result ≡ holder self.now.journal t reads.now writes.now }
     {
         self.locks.holder(reads, writes, t)
+    }
+
+    /// The applied version of the key with the greatest identifier at most `sid`, or the initial one:
+    /// its identifier and its value.
+    pub fn at(&self, alloc: Global, key: &Key, sid: Ident) -> Result<(Ident, Value), Memory>
+        ensures { let seen = version_at self.now.journal key.now (init self.now.cluster key.now) sid in
+            IfOk result (λ v. v ≡ (seen.ident, seen.value)) }
+    {
+        let start = self.cluster.init(key);
+        let found = records::version_at(alloc, self.records.as_slice(), key, start, sid)?;
+        Ok((found.ident, found.value))
     }
 
     /// The first of these keys that has an applied version above `sid`, and its identifier.
@@ -230,7 +251,12 @@ impl Store {
         pend(&mut self.pending, &rec);
         learn(&mut self.clock, &rec);
         take(&mut self.stable, &mut self.locks, &rec);
-        settle(&mut self.stable, &mut self.locks, &self.pending);
+        settle(
+            &mut self.stable,
+            &mut self.locks,
+            &mut self.applied,
+            &self.pending,
+        );
         self.records.push_reserved(rec);
     }
 

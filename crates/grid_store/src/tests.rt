@@ -191,6 +191,7 @@ fn is_waiting(store: &Store) -> bool {
     is_commit_at(&store.ended(tx(2)), Ident(5))
         && store.pending(tx(2)) == None
         && store.floor() == Ident(5)
+        && store.commit_id() == Ident(0)
         && holder_of_a(store, tx(1)) == Some(tx(2))
 }
 
@@ -199,6 +200,7 @@ fn is_over(store: &Store) -> bool {
     is_commit_at(&store.ended(tx(1)), Ident(6))
         && store.least() == None
         && store.next() == Ident(6)
+        && store.commit_id() == Ident(6)
         && holder_of_a(store, tx(3)) == None
         && store.holder(&[key(b"c")], &[], tx(3)) == None
 }

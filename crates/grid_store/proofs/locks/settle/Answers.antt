@@ -1,6 +1,6 @@
-use Rattle.std.proofs.Common.{◌≡◌, true, false, Bool, refl, sym, ap, subst, ◌∙◌, IsTrue, arith}
-use Rattle.std.specs.FinSet as set
-use Rattle.stable_queue.specs.Commits.{is_below}
+use Rattle.std.proofs.Common.{◌≡◌, max, true, false, Bool, refl, sym, ◌∙◌, arith}
+use Rattle.std.proofs.lemmas.Grind.{common_steps}
+use Rattle.std.proofs.lemmas.Bool.Decides.{nat_tests}
 use Rattle.journal_words.specs.Journals.{is_clear}
 use Rattle.grid_store.proofs.ClearSteps.{least-clear}
 use Rattle.grid_store.proofs.StableSteps.{settled, taken-out, fewer}
@@ -19,12 +19,13 @@ loop-first-preserved c = λ d n r fit queue st.
     let e = c.in-Some.ensures in
     let f = c.in-Some.first.0 in
     let clear : is_clear f r ≡ true = sym (least-clear d n f c.least.result c.args.pending.now.proposals r fit queue c.least.ensures.none c.least.ensures.least) ∙ e.least.below in
-    taken-out d n r f c.in-Some.first.1 c.loop-first.stable.commits c.pop_below.new.self.commits c.loop-first.locks c.free.new.self fit (c.loop-first.invariant d n r fit queue st) e.least.member clear e.rest c.free.ensures.keys c.free.ensures.written
+    let most : c.max.result ≡ max c.loop-first.applied f = grind (arith, common_steps, nat_tests, c.max.ensures) in
+    rw most (taken-out d n r f c.in-Some.first.1 c.loop-first.stable.commits c.pop_below.new.self.commits c.loop-first.locks c.free.new.self c.loop-first.applied fit (c.loop-first.invariant d n r fit queue st) e.least.member clear e.rest c.free.ensures.keys c.free.ensures.written)
 
 pub returns : goal.returns
 returns c d n r fit queue st =
     let e = c.in_default.ensures in
-    rw e.rest (settled c.loop-first.stable.commits c.loop-first.locks r (c.loop-first.invariant d n r fit queue st) (λ f t member.
+    rw e.rest (settled d n c.loop-first.stable.commits c.loop-first.locks c.loop-first.applied r fit (c.loop-first.invariant d n r fit queue st) (λ f t member.
     not-true (is_clear f r) (λ clear.
     e.none.0 refl (f, t) member (least-clear d n f c.least.result c.args.pending.now.proposals r fit queue c.least.ensures.none c.least.ensures.least ∙ clear))))
   where

@@ -1,4 +1,4 @@
-use Rattle.std.proofs.Common.{◌≡◌, true, List, ℕ}
+use Rattle.std.proofs.Common.{◌≡◌, true, List}
 use Rattle.std.specs.FinSet as set
 use Rattle.score_base.specs.declared.ids.NodeId.{NodeId}
 use Rattle.score_base.specs.declared.records.Record.{Record}
@@ -9,7 +9,7 @@ use Rattle.grid_store.proofs.locks.settle.Given as goal
 
 abbrev pub invariant-loop-first : goal.invariant-loop-first
 invariant-loop-first l =
-    (c : ClusterData) (n : NodeId) (r : List Record) → all_fit c n r ≡ true → KeepsPending l.fn.pending.proposals r → Settles l.fn.stable.commits l.fn.locks r → Settles l.stable.commits l.locks r
+    (c : ClusterData) (n : NodeId) (r : List Record) → all_fit c n r ≡ true → KeepsPending l.fn.pending.proposals r → Settles l.fn.stable.commits l.fn.locks l.fn.applied r → Settles l.stable.commits l.locks l.applied r
 
 abbrev pub decreases-loop-first : goal.decreases-loop-first
 decreases-loop-first l = set.len l.stable.commits

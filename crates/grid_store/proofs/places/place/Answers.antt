@@ -1,4 +1,4 @@
-use Rattle.grid_store.proofs.PlaceSteps.{places-prepared, places-other}
+use Rattle.grid_store.proofs.PlaceSteps.{places-prepared}
 use Rattle.grid_store.proofs.places.place.Goals as goal
 
 pub returns-in-Prepared : goal.returns-in-Prepared

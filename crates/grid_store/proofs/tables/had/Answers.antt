@@ -1,4 +1,4 @@
-use Rattle.std.proofs.Common.{ℕ, Some, sym, ap, ◌∙◌}
+use Rattle.std.proofs.Common.{Some, sym, ap, ◌∙◌}
 use Rattle.std.specs.Cmp.{nat_cmp_total}
 use Rattle.score_base.proofs.TableMaps.{find_at, find_absent, gap_absent}
 use Rattle.grid_store.proofs.tables.had.Goals as goal

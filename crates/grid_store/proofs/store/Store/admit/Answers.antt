@@ -1,4 +1,4 @@
-use Rattle.std.proofs.Common.{◌≡◌, ◌≤◌, true, [], ◌∷◌, reverse, arith}
+use Rattle.std.proofs.Common.{◌≡◌, true, [], ◌∷◌, reverse, arith}
 use Rattle.std.proofs.lemmas.List.{reverse-append}
 use Rattle.std.proofs.lemmas.Grind.{common_steps}
 use Rattle.journal_words.specs.Journals.{all_fit}
@@ -6,7 +6,7 @@ use Rattle.journal_words.proofs.Fits.{more-fits}
 use Rattle.grid_store.proofs.PlaceSteps.{can-place, can-end}
 use Rattle.grid_store.proofs.QueueSteps.{can-pend}
 use Rattle.grid_store.proofs.LockSteps.{can-take}
-use Rattle.grid_store.proofs.StableSteps.{can-wait}
+use Rattle.grid_store.proofs.StableSteps.{can-wait, top-applied}
 use Rattle.grid_store.proofs.store.Store.admit.Goals as goal
 
 pub place-requires : goal.place-requires
@@ -56,7 +56,7 @@ invariant_of-self c =
     let more : all_fit s.cluster s.node (c.args.rec ∷ r) ≡ true = more-fits s.cluster s.node c.args.rec r fit c.self.invariant.fit in
     let longer = reverse-append s.records.items (c.args.rec ∷ []) in
     let queue = c.pend.ensures r c.self.invariant.queue in
-    let settled = c.settle.ensures s.cluster s.node (c.args.rec ∷ r) more queue (c.take.ensures s.cluster s.node r more c.self.invariant.stable c.self.invariant.locks) in
+    let settled = c.settle.ensures s.cluster s.node (c.args.rec ∷ r) more queue (c.take.ensures s.cluster s.node r s.applied more (top-applied s.cluster s.node s.stable.commits s.applied r c.self.invariant.fit c.self.invariant.stable c.self.invariant.applied) c.self.invariant.stable c.self.invariant.locks) in
     rw c.push_reserved.ensures.items (record {
       fit = rw longer more;
       placed = c.place.ensures s.records.items (grind (arith, common_steps, c.len.ensures)) c.self.invariant.placed;
@@ -64,5 +64,6 @@ invariant_of-self c =
       queue = rw longer queue;
       numbers = rw longer (c.learn.ensures.keeps r c.self.invariant.numbers);
       stable = rw longer settled.0;
-      locks = rw longer settled.1;
+      applied = rw longer settled.1;
+      locks = rw longer settled.2;
     })

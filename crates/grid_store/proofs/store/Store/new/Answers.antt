@@ -14,5 +14,6 @@ invariant_of-result c = rw c.new.ensures.items (record {
   queue = λ t. rw c.new-4.ensures (map.get-empty nat_cmp t);
   numbers = record { floor = c.new-5.ensures.floor; above = refl };
   stable = λ f t. rw c.new-6.ensures (set.contains-empty by_final (f, t));
+  applied = refl;
   locks = record { keys = λ u k. rw c.new-7.ensures.keys (set.contains-empty by_transaction (u, k)); written = λ u k. rw c.new-7.ensures.written (set.contains-empty by_transaction (u, k)) };
 })

@@ -16,5 +16,6 @@ invariant_of-self c =
         above = above-higher (1 + s.clock.next) (1 + c.raise.new.self.next) (reverse s.records.items) (omega (arith, c.raise.ensures.next)) i.numbers.above;
       };
       stable = i.stable;
+      applied = i.applied;
       locks = i.locks;
     }

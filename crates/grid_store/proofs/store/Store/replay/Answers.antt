@@ -1,4 +1,4 @@
-use Rattle.std.proofs.Common.{◌≡◌, ◌<◌, ◌≤◌, max, refl, sym, ap, subst, ◌∙◌, length, take, arith}
+use Rattle.std.proofs.Common.{◌≡◌, ◌<◌, max, refl, sym, ap, subst, ◌∙◌, length, take, arith}
 use Rattle.std.proofs.lemmas.Grind.{common_steps}
 use Rattle.grid_store.proofs.Fronts.{front-more, front-strange, front-length, front-whole}
 use Rattle.grid_store.specs.Replay.{IsStrange}
