@@ -7,9 +7,9 @@ use Rattle.grid_model.specs.declared.acts.Act.{Act}
 use Rattle.grid_model.specs.declared.stories.Story.{Story}
 use Rattle.grid_model.specs.Documents.{DocumentData}
 use Rattle.grid_model.specs.Histories.{after}
-use Rattle.journal_words.specs.Journals.{Decision, decision, is_closed}
+use Rattle.journal_words.specs.Journals.{Decision, later_decision, is_closed}
 use Rattle.grid_model.specs.Nodes.{node}
-use Rattle.grid_model.specs.Stories.{Phase, Unbegun, Lost, Closed, Decided, Aborted, Answered, Reading, Collecting, decided_phase, is_open, open_phase, phase, phase_by, story}
+use Rattle.grid_model.specs.Stories.{skipped_in, Phase, Unbegun, Lost, Closed, Decided, Aborted, Answered, Reading, Collecting, decided_phase, is_open, open_phase, phase, phase_by, story}
 use Rattle.script_runs.specs.Waits.{waiting}
 use Rattle.grid_model.specs.Excuses.{Accounted, Excused, is_settled}
 
@@ -48,7 +48,7 @@ begun ops (Some x) closed y h e = go x.lost e
 
 -- in each history, a run or not
 pub accounts : (d : DocumentData) (h : List Act) → Excused d h → Accounted d h
-accounts d h excused s t is told = elim (either (phase d (after [] h) s) (begun s.ops (story d (after [] h) s.number) (is_closed s.number (node d (after [] h) s.home).journal) (decision s.number (node d (after [] h) s.home).journal) told)) [
+accounts d h excused s t is told = elim (either (phase d (after [] h) s) (begun s.ops (story d (after [] h) s.number) (is_closed s.number (node d (after [] h) s.home).journal) (later_decision (skipped_in (story d (after [] h) s.number)) s.number (node d (after [] h) s.home).journal) told)) [
   | inl settled ↦ inl settled
   | inr open' ↦ inr (excused s t is open')
 ]

@@ -10,15 +10,16 @@ use Rattle.grid_laws.proofs.DueAnswers.{stage-quiet, story-taken, with_reply}
 use Rattle.grid_laws.proofs.DueHomes.{story-began}
 use Rattle.grid_laws.proofs.Stages.{Opens, opens-reads}
 use Rattle.grid_model.proofs.Undecided.{script-number}
+use Rattle.grid_model.specs.Sessions.{floor_at, first_at}
 use Rattle.grid_model.specs.Advances.{advance}
 use Rattle.grid_model.specs.Documents.{DocumentData, IsOne}
 use Rattle.grid_model.specs.Histories.{after, sent, sent_at}
 use Rattle.journal_words.specs.Journals.{commit_id}
-use Rattle.grid_model.specs.Nodes.{journal, script_of}
+use Rattle.grid_model.specs.Nodes.{journal, script_of, node}
 use Rattle.grid_model.specs.Rows.{answer, begin_outs}
 use Rattle.grid_model.specs.Runs.{IsRun}
 use Rattle.grid_model.specs.Schedules.{kept, next_number, numbered, start_row}
-use Rattle.grid_model.specs.Stories.{begun, if_told, story, with_value, progressed}
+use Rattle.grid_model.specs.Stories.{begun_in, if_told, story, with_value, progressed}
 use Rattle.grid_model.specs.Views.{Open, open_of, stage, view, participant}
 use Rattle.grid_model.specs.declared.acts.Act.TheVariants as act
 use Rattle.grid_model.specs.declared.acts.Act.{Act}
@@ -61,19 +62,19 @@ all-but d past now acts u is others calm mine s script = elim (cases_eq u.number
 
 -- ---- each event
 
-asked-begin : (d : DocumentData) (past acts : List Act) (u : ScriptData) (b : Bool) → IsOne d → script_of u.number d.scripts ≡ Some u → acts ≡ numbered (next_number past) u.home (kept b u.home (begin_outs u.home (participant (view d past u.home)) u)) → AllAsked d past → AllAsked d (after past acts)
+asked-begin : (d : DocumentData) (past acts : List Act) (u : ScriptData) (b : Bool) → IsOne d → script_of u.number d.scripts ≡ Some u → acts ≡ numbered (next_number past) u.home (kept b u.home (begin_outs u.home (participant (view d past u.home)) u (floor_at d past u))) → AllAsked d past → AllAsked d (after past acts)
 asked-begin d past acts u b one is k all =
-    let sid0 : Ident = commit_id (journal d past u.home) in
+    let sid0 : Ident = first_at d past u in
     let now : List Act = act.Began u.number u.home sid0 ∷ past in
-    let rest : List Act = numbered (next_number past) u.home (kept b u.home (advance d.cluster (open_of u (begun sid0)) 0)) in
+    let rest : List Act = numbered (next_number past) u.home (kept b u.home (advance d.cluster (open_of u (begun_in d (node d past) u.number sid0)) 0)) in
     let P : List Act → Type 0 = λ z. AllAsked d (after past z) in
     let e : acts ≡ act.Began u.number u.home sid0 ∷ rest = k ∙ began b in
     subst P (sym e) (all-but d past now rest u is
-    (λ s other script. other-story d now s (Some (begun sid0)) (story d past s.number) (u.number == s.number) (grind (arith, nat_tests, other)) (asked-later d past (act.Began u.number u.home sid0 ∷ []) s (story d past s.number) (all s script)))
-    (advance-untaking d.cluster (open_of u (begun sid0)) 0 b (next_number past) u.home)
-    (self-asked d now (next_number past) u.home b u (begun sid0) 0 one (story-began d past u.number u.home sid0)))
+    (λ s other script. other-story d now s (Some (begun_in d (node d past) s.number sid0)) (story d past s.number) (u.number == s.number) (grind (arith, nat_tests, other)) (asked-later d past (act.Began u.number u.home sid0 ∷ []) s (story d past s.number) (all s script)))
+    (advance-untaking d.cluster (open_of u (begun_in d (node d past) u.number sid0)) 0 b (next_number past) u.home)
+    (self-asked d now (next_number past) u.home b u (begun_in d (node d past) u.number sid0) 0 one (story-began d past u.number u.home sid0)))
   where
-    began : (b : Bool) → numbered (next_number past) u.home (kept b u.home (begin_outs u.home (participant (view d past u.home)) u)) ≡ act.Began u.number u.home (commit_id (journal d past u.home)) ∷ numbered (next_number past) u.home (kept b u.home (advance d.cluster (open_of u (begun (commit_id (journal d past u.home)))) 0))
+    began : (b : Bool) → numbered (next_number past) u.home (kept b u.home (begin_outs u.home (participant (view d past u.home)) u (floor_at d past u))) ≡ act.Began u.number u.home (first_at d past u) ∷ numbered (next_number past) u.home (kept b u.home (advance d.cluster (open_of u (begun_in d (node d past) u.number (first_at d past u))) 0))
     began true = refl
     began false = refl
 

@@ -28,7 +28,7 @@ use Rattle.grid_model.proofs.RunsWithConflicts.{write_conflict, write_conflict_a
 
 -- the second of two that write one key
 abbrev pub second_script : ScriptData
-second_script = record { number = 2; home = 2; ops = (op.Write a (record { first = atom.Number 2; steps = [] }) ∷ []) }
+second_script = record { number = 2; home = 2; session = 0; ops = (op.Write a (record { first = atom.Number 2; steps = [] }) ∷ []) }
 
 -- the acts of the run but for the last, its abort
 abbrev pub unaborted_acts : List Act
@@ -75,7 +75,7 @@ unaborted-unaccounted accounted = elim (accounted second_script 2 refl refl) [
 
 -- the script that reads `a`
 abbrev pub reading_script : ScriptData
-reading_script = record { number = 1; home = 1; ops = (op.Read a ∷ []) }
+reading_script = record { number = 1; home = 1; session = 0; ops = (op.Read a ∷ []) }
 
 -- the acts of the run that reads `a`, up to the Got of the reply
 abbrev pub untaken_acts : List Act

@@ -10,6 +10,7 @@ use Rattle.cause_laws.proofs.UnheldOuts.{is_unheld, unheld-acts, unheld-advance,
 use Rattle.grid_laws.proofs.RowOuts.{is_touching, pass-again, pass-losses}
 use Rattle.cause_laws.proofs.VotesSent.{fit-row}
 use Rattle.grid_laws.proofs.Frames.{held-stays}
+use Rattle.grid_model.specs.Sessions.{floor_at, first_at}
 use Rattle.grid_model.specs.Documents.{DocumentData, number_order, script_numbers}
 use Rattle.grid_model.specs.Facts.{AllFit}
 use Rattle.grid_model.specs.Fitness.{is_fit}
@@ -145,7 +146,7 @@ shape-kept d past h i c (idle acts is) fit = unheld-event d past acts (unheld-id
 shape-kept d past h i c (arms n k how is) fit = unheld-event d past (act.Armed n k how ∷ []) refl h
 shape-kept d past h i c (crashes n up) fit = unheld-event d past (act.Down n None ∷ []) refl h
 shape-kept d past h i c (restarts n up) fit = restart-event d past n (flag_of (node d past n).doubt c.finds) c.opens up h
-shape-kept d past h i c (begins s is new up) fit = unheld-event d past (acts_of past c s.home (begin_outs s.home (participant (view d past s.home)) s)) (unheld-acts (next_number past) s.home c.keeps (begin_outs s.home (participant (view d past s.home)) s) (unheld-advance d.cluster (begun_at s (commit_id (journal d past s.home))) 0)) h
+shape-kept d past h i c (begins s is new up quiet) fit = unheld-event d past (acts_of past c s.home (begin_outs s.home (participant (view d past s.home)) s (floor_at d past s))) (unheld-acts (next_number past) s.home c.keeps (begin_outs s.home (participant (view d past s.home)) s (floor_at d past s)) (unheld-advance d.cluster (begun_at s (first_at d past s)) 0)) h
 shape-kept d past h i c (delivers m e is up) fit = got-event d past m e c.keeps is (fit-first d past m e (acts_of past c e.to (answer e.to (view d past e.to) e.from e.message)) is fit) up h
 shape-kept d past h i c (again n os up is) fit =
     unheld-event d past (acts_of past c n os)

@@ -73,7 +73,7 @@ excused-script d h s one run is going = go (node d past s.home).up refl
     past = after [] h
 
     w : OpenTold d past s
-    w = open-told d past s going
+    w = open-told d past s (due-run d d.items h run) going
 
     by : (o : Option ℕ) → waiting s.ops w.tale.progress.values ≡ o → (node d past s.home).up ≡ true → ExcusedOf d past s
     by (Some j) e up = reads j (unsettled-phase d past s w ∙ ap (λ o. open_phase o) e) (waits-read d h s j one run is w e)

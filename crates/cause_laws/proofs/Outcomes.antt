@@ -8,6 +8,7 @@ use Rattle.cause_laws.proofs.HomesTell.{well-again, well-answer}
 use Rattle.grid_laws.proofs.RowOuts.{pass-losses}
 use Rattle.cause_laws.proofs.OutsToEnds.{AreWell, is_middle, is_well_act, middle-numbered, well-advance, well-after, well-kept, well-numbered}
 use Rattle.grid_laws.proofs.Causes.{AllDue}
+use Rattle.grid_model.specs.Sessions.{floor_at, first_at}
 use Rattle.grid_model.specs.Documents.{DocumentData, IsOne, number_order, script_numbers}
 use Rattle.grid_model.specs.Histories.{after, sent, sent_at}
 use Rattle.journal_words.specs.Journals.{commit_id}
@@ -41,7 +42,7 @@ well-shape d past one all i c (idle acts is) = idle-pass (is_well_act d) (λ cod
 well-shape d past one all i c (arms n k how is) = refl
 well-shape d past one all i c (crashes n up) = refl
 well-shape d past one all i c (restarts n up) = well-restart d past n (flag_of (node d past n).doubt c.finds) c.opens
-well-shape d past one all i c (begins s is new up) = well-outs d (next_number past) s.home c.keeps (begin_outs s.home (participant (view d past s.home)) s) (well-advance d s.home (begun_at s (commit_id (journal d past s.home))) 0)
+well-shape d past one all i c (begins s is new up quiet) = well-outs d (next_number past) s.home c.keeps (begin_outs s.home (participant (view d past s.home)) s (floor_at d past s)) (well-advance d s.home (begun_at s (first_at d past s)) 0)
 well-shape d past one all i c (delivers m e is up) = well-outs d (next_number past) e.to c.keeps (answer e.to (view d past e.to) e.from e.message) (well-answer d past e.to e.from e.message (sent-ends d past one all m e is))
 well-shape d past one all i c (again n os up is) = well-outs d (next_number past) n c.keeps os (well-again d past n os all is)
 
@@ -68,7 +69,7 @@ shape-kind d past one all i c (idle acts is) = plain (idle-pass is_middle (λ co
 shape-kind d past one all i c (arms n k how is) = plain refl
 shape-kind d past one all i c (crashes n up) = plain refl
 shape-kind d past one all i c (restarts n up) = kind-restart d past n (flag_of (node d past n).doubt c.finds) c.opens up
-shape-kind d past one all i c (begins s is new up) = plain (middle-outs d (next_number past) s.home c.keeps (begin_outs s.home (participant (view d past s.home)) s) (well-advance d s.home (begun_at s (commit_id (journal d past s.home))) 0))
+shape-kind d past one all i c (begins s is new up quiet) = plain (middle-outs d (next_number past) s.home c.keeps (begin_outs s.home (participant (view d past s.home)) s (floor_at d past s)) (well-advance d s.home (begun_at s (first_at d past s)) 0))
 shape-kind d past one all i c (delivers m e is up) = got_first m e c.keeps (numbered (next_number past) e.to (kept c.keeps e.to (answer e.to (view d past e.to) e.from e.message))) is up refl refl (middle-outs d (next_number past) e.to c.keeps (answer e.to (view d past e.to) e.from e.message) (well-answer d past e.to e.from e.message (sent-ends d past one all m e is)))
 shape-kind d past one all i c (again n os up is) = plain (middle-outs d (next_number past) n c.keeps os (well-again d past n os all is))
 

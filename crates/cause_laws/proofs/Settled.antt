@@ -3,12 +3,14 @@ use Rattle.grid_laws.proofs.DueActs.{due-before}
 use Rattle.journal_words.proofs.Decisions.{decision-some}
 use Rattle.cause_laws.proofs.StoryTests.{KeepsHeard, began-kept, else-kept, got-kept, if-kept}
 use Rattle.grid_laws.proofs.Causes.{AllDue, IsDue}
-use Rattle.grid_laws.proofs.Frames.{journal-more}
+use Rattle.grid_model.proofs.Growing.{journal-more}
 use Rattle.grid_model.specs.Documents.{DocumentData}
 use Rattle.grid_model.specs.Histories.{after, sent, sent_at}
-use Rattle.journal_words.specs.Journals.{Decision, decision, is_closed}
-use Rattle.grid_model.specs.Nodes.{is_home, journal, script_of}
-use Rattle.grid_model.specs.Stories.{Aborted, Answered, Lost, Phase, asked, begun, decided_phase, is_open, open_phase, phase, phase_by, story, told, undecided_phase}
+use Rattle.journal_words.specs.Journals.{Decision, decision, is_closed, later_decision}
+use Rattle.journal_words.proofs.Later.{later-all, undecided-later}
+use Rattle.grid_laws.proofs.DecisionsCount.{all-count}
+use Rattle.grid_model.specs.Nodes.{is_home, journal, script_of, node}
+use Rattle.grid_model.specs.Stories.{Aborted, Answered, Lost, Phase, asked, begun_in, decided_phase, skipped_in, is_open, open_phase, phase, phase_by, story, told, undecided_phase}
 use Rattle.script_runs.specs.Waits.{waiting}
 use Rattle.grid_model.specs.declared.acts.Act.TheVariants as act
 use Rattle.grid_model.specs.declared.acts.Act.{Act}
@@ -77,7 +79,7 @@ asked-shut s d t (message.ReadReq q) o k = if-kept (is_shut s) (q.t == t) _ o (�
 asked-shut s d t said o k = k
 
 pub shut-more : (s : ScriptData) (d : DocumentData) (past : List Act) (a : Act) (t : TxId) → IsDue d past a → is_shut s (story d past t) ≡ true → is_shut s (story d (a ∷ past) t) ≡ true
-shut-more s d past (act.Began u n sid0) t due k = else-kept (is_shut s) (u == t) (Some (begun sid0)) (story d past t) (λ e. began-kept (is_shut s) d past u t n sid0 refl due k e) k
+shut-more s d past (act.Began u n sid0) t due k = else-kept (is_shut s) (u == t) (Some (begun_in d (node d past) t sid0)) (story d past t) (λ e. began-kept (is_shut s) d past u t n sid0 refl due k e) k
 shut-more s d past (act.Sent m n y said) t due k = asked-shut s d t said (story d past t) k
 shut-more s d past (act.Got m) t due k = got-kept (is_shut s) d past (script_of t d.scripts) (sent_at m (sent past)) (story d past t) (heard-shut s) k
 shut-more s d past (act.Taken u op sid v) t due k = if-kept (is_shut s) (u == t) _ (story d past t) (λ y i. i) k
@@ -109,16 +111,33 @@ settled-later d past [] s due h = h
 settled-later d past (a ∷ acts) s due h = settled-later d (a ∷ past) acts s due (settled-more d past a s (due-before d (a ∷ past) acts due).0 h)
 
 -- what is settled is not open, and what began and is not settled is open
-pub settled-closed : (d : DocumentData) (past : List Act) (s : ScriptData) → is_settled d past s ≡ true → is_open (phase d past s) ≡ false
-settled-closed d past s h = go (story d past s.number) refl h
+pub settled-closed : (d : DocumentData) (past : List Act) (s : ScriptData) → AllDue d past → is_settled d past s ≡ true → is_open (phase d past s) ≡ false
+settled-closed d past s due h = go (story d past s.number) refl h
   where
-    go : (o : Option Story) → story d past s.number ≡ o → (is_shut s o || is_some (decision s.number (journal d past s.home))) ≡ true → is_open (phase_by s.ops o (is_closed s.number (journal d past s.home)) (decision s.number (journal d past s.home))) ≡ false
+    r : List Record
+    r = journal d past s.home
+
+    go : (o : Option Story) → story d past s.number ≡ o → (is_shut s o || is_some (decision s.number r)) ≡ true → is_open (phase_by s.ops o (is_closed s.number r) (later_decision (skipped_in o) s.number r)) ≡ false
     go None e h = refl
-    go (Some x) e h = open-begun s x (is_closed s.number (journal d past s.home)) (decision s.number (journal d past s.home)) ∙ rw h refl
+    go (Some x) e h =
+        let counts : x.skipped ≡ 0 = subst (λ o. skipped_in o ≡ 0) e (all-count d past due s.number) in
+        rw (counts, later-all s.number r) (open-begun s x (is_closed s.number r) (decision s.number r) ∙ rw h refl)
+
+-- what is not settled is neither shut nor decided
+pub unsettled-undecided : (b : Bool) (o : Option Decision) → (b || is_some o) ≡ false → o ≡ None
+unsettled-undecided true o i = cc
+unsettled-undecided false None i = refl
+unsettled-undecided false (Some y) i = cc
+
+pub unsettled-unshut : (b : Bool) (o : Option Decision) → (b || is_some o) ≡ false → (b || false) ≡ false
+unsettled-unshut true o i = cc
+unsettled-unshut false o i = refl
 
 pub unsettled-open : (d : DocumentData) (past : List Act) (s : ScriptData) (x : Story) → story d past s.number ≡ Some x → is_settled d past s ≡ false → is_open (phase d past s) ≡ true
 unsettled-open d past s x told h =
-    let P : Option Story → Type 0 = λ o. is_open (phase_by s.ops o (is_closed s.number (journal d past s.home)) (decision s.number (journal d past s.home))) ≡ true in
-    let Q : Option Story → Type 0 = λ o. (is_shut s o || is_some (decision s.number (journal d past s.home))) ≡ false in
-    let none : (is_shut s (Some x) || is_some (decision s.number (journal d past s.home))) ≡ false = subst Q told h in
-    subst P (sym told) (open-begun s x (is_closed s.number (journal d past s.home)) (decision s.number (journal d past s.home)) ∙ rw none refl)
+    let r : List Record = journal d past s.home in
+    let P : Option Story → Type 0 = λ o. is_open (phase_by s.ops o (is_closed s.number r) (later_decision (skipped_in o) s.number r)) ≡ true in
+    let Q : Option Story → Type 0 = λ o. (is_shut s o || is_some (decision s.number r)) ≡ false in
+    let none : (is_shut s (Some x) || is_some (decision s.number r)) ≡ false = subst Q told h in
+    let later : later_decision x.skipped s.number r ≡ None = undecided-later x.skipped s.number r (unsettled-undecided (is_shut s (Some x)) (decision s.number r) none) in
+    subst P (sym told) (rw later (open-begun s x (is_closed s.number r) None ∙ rw (unsettled-unshut (is_shut s (Some x)) (decision s.number r) none) refl))

@@ -1,8 +1,9 @@
 -- A test of a story that votes and acknowledgements keep is kept by each message that its home gets; and no story begins twice.
 use Rattle.grid_laws.proofs.StoryClaims.{Hears, else-claim, got-claim, if-claim}
 use Rattle.grid_laws.proofs.Causes.{BeganDue}
+use Rattle.grid_model.specs.Nodes.{node}
 use Rattle.grid_model.specs.Documents.{DocumentData}
-use Rattle.grid_model.specs.Stories.{begun, heard_at, if_told, story}
+use Rattle.grid_model.specs.Stories.{begun_in, heard_at, if_told, story}
 use Rattle.grid_model.specs.declared.acts.Act.{Act}
 use Rattle.grid_model.specs.declared.messages.Envelope.{Envelope}
 use Rattle.grid_model.specs.declared.stories.Story.{Story}
@@ -31,7 +32,7 @@ pub got-kept : (p : Option Story → Bool) (d : DocumentData) (past : List Act) 
 got-kept p d past w e o keeps k = got-claim (λ z. p z ≡ true) keeps d past w e o k
 
 -- a story that passes did not begin now
-pub began-kept : (p : Option Story → Bool) (d : DocumentData) (past : List Act) (u t : TxId) (n : NodeId) (sid0 : Ident) → p None ≡ false → BeganDue d past u n sid0 → p (story d past t) ≡ true → (u == t) ≡ true → p (Some (begun sid0)) ≡ true
+pub began-kept : (p : Option Story → Bool) (d : DocumentData) (past : List Act) (u t : TxId) (n : NodeId) (sid0 : Ident) → p None ≡ false → BeganDue d past u n sid0 → p (story d past t) ≡ true → (u == t) ≡ true → p (Some (begun_in d (node d past) t sid0)) ≡ true
 began-kept p d past u t n sid0 none due k e =
     let same : u ≡ t = grind (arith, nat_tests, e) in
     let P : TxId → Type 0 = λ w. story d past w ≡ None in

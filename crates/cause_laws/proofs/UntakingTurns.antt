@@ -7,6 +7,7 @@ use Rattle.grid_model.specs.declared.acts.Flag.{Flag}
 use Rattle.grid_laws.proofs.RowOuts.{is_reply, pass-advance, pass-again}
 use Rattle.grid_laws.proofs.UntakingActs.{untaking-acts, untaking-answer, untaking-idle, untaking-losses}
 use Rattle.grid_laws.proofs.Snapshots.{OfStory, of-stays}
+use Rattle.grid_model.specs.Sessions.{floor_at}
 use Rattle.grid_model.specs.Advances.{advance}
 use Rattle.grid_model.specs.Documents.{DocumentData, number_order, script_numbers}
 use Rattle.grid_model.specs.Histories.{after, sent, sent_at}
@@ -52,7 +53,7 @@ advance-untaking c x i b m n =
 -- an event begins a transaction, delivers a reply, or does neither
 pub data IsTurn (d : DocumentData) (past acts : List Act) : Type 0 where
   untaking_turn : list_all is_untaking acts ≡ true → IsTurn d past acts
-  begun_by : (s : ScriptData) (b : Bool) → script_of s.number d.scripts ≡ Some s → (node d past s.home).up ≡ true → acts ≡ numbered (next_number past) s.home (kept b s.home (begin_outs s.home (participant (view d past s.home)) s)) → IsTurn d past acts
+  begun_by : (s : ScriptData) (b : Bool) → script_of s.number d.scripts ≡ Some s → (node d past s.home).up ≡ true → acts ≡ numbered (next_number past) s.home (kept b s.home (begin_outs s.home (participant (view d past s.home)) s (floor_at d past s))) → IsTurn d past acts
   answered_by : (m : ℕ) (n x : NodeId) (q : ReadRep) (b : Bool) → sent_at m (sent past) ≡ Some (record { from = x; to = n; message = message.ReadRep q }) → acts ≡ act.Got m ∷ numbered (next_number past) n (kept b n (answer n (view d past n) x (message.ReadRep q))) → IsTurn d past acts
 
 turn-delivered : (d : DocumentData) (past acts : List Act) (m : ℕ) (n x : NodeId) (said : Message) (b c : Bool)
@@ -74,7 +75,7 @@ shape-turn d past i c (idle acts is) = untaking_turn (untaking-idle acts is)
 shape-turn d past i c (arms n k how is) = untaking_turn refl
 shape-turn d past i c (crashes n up) = untaking_turn refl
 shape-turn d past i c (restarts n up) = turn-restart d past n (flag_of (node d past n).doubt c.finds) c.opens
-shape-turn d past i c (begins s is new up) = begun_by s c.keeps is up refl
+shape-turn d past i c (begins s is new up quiet) = begun_by s c.keeps is up refl
 shape-turn d past i c (delivers m e is up) =
     turn-delivered d past (acts_by d past i c (delivers m e is up)) m e.to e.from e.message c.keeps
     (is_reply e.message) refl is refl

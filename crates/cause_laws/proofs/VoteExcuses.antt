@@ -3,7 +3,7 @@ use Rattle.cause_laws.proofs.AdvanceAsks.{AskedBy, IsAsked}
 use Rattle.cause_laws.proofs.Askings.{all-asked}
 use Rattle.cause_laws.proofs.Events.{run-holds}
 use Rattle.cause_laws.proofs.SentHomes.{prepares-sent, votes-sent}
-use Rattle.cause_laws.proofs.Settled.{is_settled, is_shut, settled-closed}
+use Rattle.cause_laws.proofs.Settled.{is_settled, is_shut, settled-closed, unsettled-undecided, unsettled-unshut}
 use Rattle.cause_laws.proofs.Starts.{start-untold}
 use Rattle.cause_laws.proofs.VoteMissing.{never-full}
 use Rattle.cause_laws.proofs.VoteStories.{Counted, is_counted_in, is_done, is_down, is_none_voted, is_unvoted, is_voted_in}
@@ -16,7 +16,8 @@ use Rattle.grid_laws.proofs.RunsDue.{due-run}
 use Rattle.grid_model.specs.Excuses.{WaitsForVote, began_down, has_got, has_sent, is_prepare_of, is_vote_of}
 use Rattle.grid_model.specs.Documents.{DocumentData, IsOne}
 use Rattle.grid_model.specs.Histories.{after}
-use Rattle.journal_words.specs.Journals.{Decision, decision, ended, is_closed}
+use Rattle.journal_words.proofs.Later.{undecided-later}
+use Rattle.journal_words.specs.Journals.{later_decision, Decision, decision, ended, is_closed}
 use Rattle.grid_model.specs.Nodes.{is_home, journal, node, parts_of, script_of}
 use Rattle.grid_model.specs.Rows.{have_voted}
 use Rattle.grid_model.specs.Runs.{IsRun}
@@ -28,6 +29,7 @@ use Rattle.grid_model.specs.declared.stories.Voted.{Voted}
 use Rattle.placement.specs.Places.{is_among}
 use Rattle.score_base.specs.declared.causes.Outcome.{Outcome}
 use Rattle.score_base.specs.declared.ids.NodeId.{NodeId}
+use Rattle.score_base.specs.declared.records.Record.{Record}
 use Rattle.script_lang.specs.Reads.{is_update}
 use Rattle.script_lang.specs.Scripts.{ScriptData}
 use Rattle.script_lang.specs.declared.scripts.Op.{Op}
@@ -43,11 +45,11 @@ pub record OpenTold (d : DocumentData) (past : List Act) (s : ScriptData) : Type
   pub told : story d past s.number ≡ Some tale
   pub unsettled : is_settled d past s ≡ false
 
-pub open-told : (d : DocumentData) (past : List Act) (s : ScriptData) → is_open (phase d past s) ≡ true → OpenTold d past s
-open-told d past s h = go (is_settled d past s) (story d past s.number) refl refl h
+pub open-told : (d : DocumentData) (past : List Act) (s : ScriptData) → AllDue d past → is_open (phase d past s) ≡ true → OpenTold d past s
+open-told d past s due h = go (is_settled d past s) (story d past s.number) refl refl h
   where
     go : (b : Bool) (o : Option Story) → is_settled d past s ≡ b → story d past s.number ≡ o → is_open (phase d past s) ≡ true → OpenTold d past s
-    go true o e told h = (let f : false ≡ true = sym (settled-closed d past s e) ∙ h in cc)
+    go true o e told h = (let f : false ≡ true = sym (settled-closed d past s due e) ∙ h in cc)
     go false None e told h =
         let P : Option Story → Type 0 = λ o. is_open (phase_at s o (node d past s.home)) ≡ true in
         (let f : false ≡ true = subst P told h in cc)
@@ -63,9 +65,12 @@ phase-told ops x closed (Some y) false false false e g i h = cc
 -- it reads its first remote read without a value, or collects
 pub unsettled-phase : (d : DocumentData) (past : List Act) (s : ScriptData) (w : OpenTold d past s) → phase d past s ≡ open_phase (waiting s.ops w.tale.progress.values)
 unsettled-phase d past s w =
+    let r : List Record = journal d past s.home in
     let P : Option Story → Type 0 = λ o. phase_at s o (node d past s.home) ≡ open_phase (waiting s.ops w.tale.progress.values) in
-    let Q : Option Story → Type 0 = λ o. (is_shut s o || is_some (decision s.number (journal d past s.home))) ≡ false in
-    subst P (sym w.told) (phase-told s.ops w.tale (is_closed s.number (journal d past s.home)) (decision s.number (journal d past s.home)) w.tale.lost w.tale.aborted (w.tale.finished && not (is_update s.ops)) refl refl refl (subst Q w.told w.unsettled))
+    let Q : Option Story → Type 0 = λ o. (is_shut s o || is_some (decision s.number r)) ≡ false in
+    let none : (is_shut s (Some w.tale) || is_some (decision s.number r)) ≡ false = subst Q w.told w.unsettled in
+    let later : later_decision w.tale.skipped s.number r ≡ None = undecided-later w.tale.skipped s.number r (unsettled-undecided (is_shut s (Some w.tale)) (decision s.number r) none) in
+    subst P (sym w.told) (rw later (phase-told s.ops w.tale (is_closed s.number r) None w.tale.lost w.tale.aborted (w.tale.finished && not (is_update s.ops)) refl refl refl (unsettled-unshut (is_shut s (Some w.tale)) (decision s.number r) none)))
 
 -- ---- it is an update
 

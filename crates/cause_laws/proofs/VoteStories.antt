@@ -9,7 +9,7 @@ use Rattle.grid_model.specs.Documents.{DocumentData}
 use Rattle.grid_model.specs.Histories.{after, sent, sent_at}
 use Rattle.grid_model.specs.Nodes.{Node, Starts, Stays, Stops, changed, doubt_of, got, is_home, is_home_in, is_kept, node, parts_of, script_of, where_at}
 use Rattle.grid_model.specs.Rows.{have_voted}
-use Rattle.grid_model.specs.Stories.{asked, begun, has_voted, if_told, story, told, with_request, with_value, without_answers, progressed}
+use Rattle.grid_model.specs.Stories.{over_at, asked, begun, begun_in, has_voted, if_told, story, told, with_request, with_value, without_answers, progressed}
 use Rattle.script_runs.specs.Waits.{waiting}
 use Rattle.grid_model.specs.declared.acts.Act.TheVariants as act
 use Rattle.grid_model.specs.declared.acts.Act.{Act}
@@ -56,7 +56,7 @@ is_stop_of d t (act.Down m h) = is_home d t m
 is_stop_of d t a = false
 
 pub voted-more : (n : NodeId) (d : DocumentData) (past : List Act) (a : Act) (t : TxId) → IsDue d past a → is_stop_of d t a ≡ false → is_voted_in n (story d past t) ≡ true → is_voted_in n (story d (a ∷ past) t) ≡ true
-voted-more n d past (act.Began u m sid0) t due stop k = else-kept (is_voted_in n) (u == t) (Some (begun sid0)) (story d past t) (λ e. began-kept (is_voted_in n) d past u t m sid0 refl due k e) k
+voted-more n d past (act.Began u m sid0) t due stop k = else-kept (is_voted_in n) (u == t) (Some (begun_in d (node d past) t sid0)) (story d past t) (λ e. began-kept (is_voted_in n) d past u t m sid0 refl due k e) k
 voted-more n d past (act.Sent m x y said) t due stop k = asked-voted n d t said (story d past t) k
 voted-more n d past (act.Got m) t due stop k = got-kept (is_voted_in n) d past (script_of t d.scripts) (sent_at m (sent past)) (story d past t) (heard-voted n) k
 voted-more n d past (act.Taken u op sid v) t due stop k = if-kept (is_voted_in n) (u == t) _ (story d past t) (λ y i. i) k
@@ -163,9 +163,9 @@ asked-unvoted : (d : DocumentData) (s : ScriptData) (t : TxId) (said : Message) 
 asked-unvoted d s t (message.ReadReq q) o k = if-unvoted d s (q.t == t) (progressed (with_request (length (holders d.cluster.places q.key)))) o (λ e x i h. h) k
 asked-unvoted d s t said o k = k
 
-began-unvoted : (d : DocumentData) (s : ScriptData) (b : Bool) (sid0 : Ident) (o : Option Story) → have_voted (parts_of d s) [] ≡ false → is_unvoted d s o ≡ true → is_unvoted d s (if b then Some (begun sid0) else o) ≡ true
-began-unvoted d s true sid0 o some h = none-unvoted d s (begun sid0) some refl
-began-unvoted d s false sid0 o some h = h
+began-unvoted : (d : DocumentData) (s : ScriptData) (b : Bool) (k : ℕ) (sid0 : Ident) (o : Option Story) → have_voted (parts_of d s) [] ≡ false → is_unvoted d s o ≡ true → is_unvoted d s (if b then Some (begun k sid0) else o) ≡ true
+began-unvoted d s true k sid0 o some h = none-unvoted d s (begun k sid0) some refl
+began-unvoted d s false k sid0 o some h = h
 
 none-voted : (vs : List Voted) → is_none_voted vs ≡ true → vs ≡ []
 none-voted [] h = refl
@@ -185,7 +185,7 @@ taken-unvoted d past s u op sid v x is some due e told h =
 -- an act that gets no message
 unvoted-more : (d : DocumentData) (past : List Act) (a : Act) (s : ScriptData) → script_of s.number d.scripts ≡ Some s → have_voted (parts_of d s) [] ≡ false → is_ungot a ≡ true → IsDue d past a → is_unvoted d s (story d past s.number) ≡ true → is_unvoted d s (story d (a ∷ past) s.number) ≡ true
 unvoted-more d past (act.Got m) s is some u due k = cc
-unvoted-more d past (act.Began v m sid0) s is some u due k = began-unvoted d s (v == s.number) sid0 (story d past s.number) some k
+unvoted-more d past (act.Began v m sid0) s is some u due k = began-unvoted d s (v == s.number) (over_at (node d past) (script_of s.number d.scripts)) sid0 (story d past s.number) some k
 unvoted-more d past (act.Sent m x y said) s is some u due k = asked-unvoted d s s.number said (story d past s.number) k
 unvoted-more d past (act.Taken v op sid w) s is some u due k = if-unvoted d s (v == s.number) (progressed (with_value op sid w)) (story d past s.number) (λ e x told h. taken-unvoted d past s v op sid w x is some due e told h) k
 unvoted-more d past (act.Finished v) s is some u due k = if-unvoted d s (v == s.number) (λ x. record x { finished = true }) (story d past s.number) (λ e x i h. h) k

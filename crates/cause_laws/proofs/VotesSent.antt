@@ -4,7 +4,8 @@ use Rattle.cause_laws.proofs.Events.{Event, run-holds}
 use Rattle.cause_laws.proofs.GotSplits.{GotBefore, got-in, got-none-by, got-one-by}
 use Rattle.cause_laws.proofs.OpenStages.{IsGetting, event-getting, none_got, one_got}
 use Rattle.cause_laws.proofs.Starts.{start-none}
-use Rattle.grid_laws.proofs.Frames.{journal-more, same-number}
+use Rattle.grid_laws.proofs.Frames.{same-number}
+use Rattle.grid_model.proofs.Growing.{journal-more}
 use Rattle.grid_model.specs.Excuses.{GotAt, began_down, has_got, has_sent, is_prepare_of, is_vote_of}
 use Rattle.grid_model.specs.Documents.{DocumentData, IsOne}
 use Rattle.grid_model.specs.Fitness.{is_fit, is_fit_at, tx_in}

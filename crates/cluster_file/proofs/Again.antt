@@ -19,7 +19,7 @@ use Rattle.script_lang.specs.declared.exprs.Expr.{Expr}
 use Rattle.script_lang.specs.declared.scripts.Op.TheVariants as op
 use Rattle.script_lang.specs.Exprs.{is_expr_among}
 use Rattle.script_lang.specs.Reads.{known_keys}
-use Rattle.script_lang.specs.Spelling.{expr_words, is_plain_expr}
+use Rattle.script_lang.specs.Spelling.{expr_words, session_words, is_plain_expr}
 use Rattle.placement.specs.Places.{are_distinct}
 use Rattle.grid_model.specs.declared.items.Item.TheVariants as item
 use Rattle.cluster_file.specs.declared.drafts.Draft.{Draft}
@@ -36,7 +36,7 @@ use Rattle.script_lang.specs.declared.script_lines.Stage.TheVariants as stage
 use Rattle.script_lang.proofs.WordsAgain.{goes, passes, number_again, within_again, small, node_of_again, key_again, tx_again}
 use Rattle.script_lang.proofs.NamesRead.{name_again}
 use Rattle.script_lang.proofs.BodyAgain.{first_line_again, read_again, write_again, end_again}
-use Rattle.script_lang.specs.declared.limits.TheConstants.{MAX_NODES, MAX_OPS}
+use Rattle.script_lang.specs.declared.limits.TheConstants.{MAX_NODES, MAX_OPS, MAX_SESSION}
 use Rattle.cluster_file.specs.declared.limits.TheConstants.{MAX_COUNT, MAX_EVENTS, MAX_KEYS, MAX_PARTITIONS, MAX_SCRIPTS}
 
 -- The words.
@@ -88,13 +88,19 @@ init_line_again d k v new room is low =
     (goes (name_new_key d.known k) _ (with_key d.known k) _ (passes (has_name d.known k) _ _ _ new (name_again MAX_KEYS d.known k room))
     (goes (number_at (decimal v ∷ [])) _ (v, []) _ (number_again v [] low) refl))
 
-pub tx_line_again : (d : Draft) (t : TxId) (n : NodeId) → length d.scripts < MAX_SCRIPTS → is_taken d.numbers t ≡ false → is_tx t ≡ true → nat_le n d.nodes ≡ true → is_node n ≡ true → tx_line d (decimal t ∷ node_word n ∷ []) ≡ Ok (record d { script = Some (record { number = t; home = n; ops = [] }); numbers = with_number d.numbers t; part = part.Scripts })
+pub tx_line_again : (d : Draft) (s : ScriptData) → length d.scripts < MAX_SCRIPTS → is_taken d.numbers s.number ≡ false
+    → is_tx s.number ≡ true → nat_le s.home d.nodes ≡ true → is_node s.home ≡ true → nat_le s.session MAX_SESSION ≡ true
+    → tx_line d (decimal s.number ∷ node_word s.home ∷ session_words s.session)
+    ≡ Ok (record d { script = Some (record s { ops = [] }); numbers = with_number d.numbers s.number; part = part.Scripts })
 unfolding tx_line
-tx_line_again d t n room new is low node =
+tx_line_again d s room new is low node few =
     let less : nat_le MAX_SCRIPTS (length d.scripts) ≡ false = grind (arith, nat_tests, room) in
-    let both = and_parts (nat_le 1 n) (nat_le n MAX_NODES) node in
+    let both = and_parts (nat_le 1 s.home) (nat_le s.home MAX_NODES) node in
+    let short : s.home < 2 ^ 64 = small s.home MAX_NODES both.1 (omega arith) in
+    let bare : ScriptData = record s { ops = [] } in
     passes (nat_le MAX_SCRIPTS (length d.scripts)) _ _ _ less
-    (goes (first_line d.nodes d.numbers (decimal t ∷ node_word n ∷ [])) _ (record { number = t; home = n; ops = [] }) _ (first_line_again d.nodes d.numbers t n new is both.0 low (small n MAX_NODES both.1 (omega arith))) refl)
+    (goes (first_line d.nodes d.numbers (decimal s.number ∷ node_word s.home ∷ session_words s.session)) _ bare _
+    (first_line_again d.nodes d.numbers s.number s.home s.session new is both.0 low short few) refl)
 
 pub read_line_again : (d : Draft) (s : ScriptData) (k : Key) → length s.ops < MAX_OPS → length (insert_key (slice_cmp nat_cmp) d.known.keys k) ≤ MAX_KEYS → is_key k ≡ true → script_line d s (codes "read") (k ∷ []) ≡ Ok (record d { script = Some (record s { ops = s.ops ++ op.Read k ∷ [] }); known = with_key d.known k })
 unfolding script_line

@@ -10,12 +10,12 @@ use Rattle.score_base.specs.declared.ids.NodeId.{NodeId}
 use Rattle.score_base.specs.declared.ids.Value.{Value}
 use Rattle.score_base.specs.declared.keys.Key.{Key}
 use Rattle.score_base.specs.Keys.{is_key}
-use Rattle.script_lang.specs.Scripts.{ScriptData, are_sound}
+use Rattle.script_lang.specs.Scripts.{ScriptData}
 use Rattle.script_lang.specs.declared.exprs.Atom.{Atom}
 use Rattle.script_lang.specs.declared.exprs.Atom.TheVariants as atom
 use Rattle.script_lang.specs.declared.exprs.Step.{Step}
 use Rattle.script_lang.specs.declared.exprs.Step.TheVariants as step
-use Rattle.script_lang.specs.Spelling.{atom_word, step_words, expr_words, op_words, is_plain_atom, is_plain_step, are_plain_steps, is_plain_expr, is_plain_op, tx_words, script_words}
+use Rattle.script_lang.specs.Spelling.{atom_word, step_words, expr_words, op_words, is_plain_atom, is_plain_step, are_plain_steps, is_plain_expr, is_plain_op, session_words, tx_words, script_words}
 use Rattle.script_lang.specs.declared.scripts.Op.{Op}
 use Rattle.script_lang.specs.declared.scripts.Op.TheVariants as op
 use Rattle.grid_model.specs.Documents.{DocumentData, IsDocument, events_of}
@@ -29,11 +29,12 @@ use Rattle.cluster_file.specs.Doc.{◌>>>◌, at_line, is_whole, close, pieces_f
 use Rattle.cluster_file.specs.Spelling.{IsBuilt, IsInRange, is_node, is_tx, is_init_in_range, is_script_in_range, is_item_in_range, node_word, nodes_words, partition_words, init_words, item_words, partition_lines, document_lines, spelling}
 use Rattle.cluster_file.proofs.Bytes.{is_plain, are_plain, is_line, plain_decimal, plain_key, words_again, printed_words, lines_again}
 use Rattle.script_lang.proofs.WordsAgain.{small}
+use Rattle.cluster_file.proofs.ScriptRanges.{ranges_of}
 use Rattle.cluster_file.proofs.ClusterAgain.{lines_from}
 use Rattle.cluster_file.proofs.LinesAgain.{running, document_again}
 use Rattle.script_lang.specs.declared.whys.Why.{Why}
 use Rattle.script_lang.specs.declared.whys.Why.TheVariants as why
-use Rattle.script_lang.specs.declared.limits.TheConstants.{MAX_NODES, MAX_OPS, MAX_TX}
+use Rattle.script_lang.specs.declared.limits.TheConstants.{MAX_NODES, MAX_SESSION, MAX_TX}
 use Rattle.cluster_file.specs.declared.limits.TheConstants.{MAX_COUNT, MAX_PARTITIONS}
 
 -- The lines of a spelling are lines of words.
@@ -58,6 +59,13 @@ plain_node n h = rw (plain_decimal n (small n 16 (and_parts (nat_le 1 n) (nat_le
 
 plain_tx : (t : ℕ) → is_tx t ≡ true → list_all is_plain (decimal t) ≡ true
 plain_tx t h = plain_decimal t (small t 65535 (and_parts (nat_le 1 t) (nat_le t MAX_TX) h).1 (omega arith))
+
+plain_session : (s : ℕ) → nat_le s MAX_SESSION ≡ true → are_plain (session_words s) ≡ true
+plain_session s h = by (s == 0)
+  where
+    by : (none : Bool) → are_plain (cond none [] (codes "session" ∷ decimal s ∷ [])) ≡ true
+    by true = refl
+    by false = rw (plain_decimal s (small s MAX_SESSION h (omega arith))) refl
 
 nodes_line : (n : ℕ) → n ≤ MAX_NODES → is_line (nodes_words n) ≡ true
 nodes_line n h = rw (plain_decimal n (omega (arith, h))) refl
@@ -108,13 +116,11 @@ op_line (op.Write k e) h =
 
 script_lines_are : (s : ScriptData) → is_script_in_range s ≡ true → list_all is_line (script_words s) ≡ true
 script_lines_are s h =
-    let z = and_parts (is_tx s.number && is_node s.home && nat_le 1 (length s.ops) && nat_le (length s.ops) MAX_OPS && list_all is_plain_op s.ops) (are_sound [] s.ops) h in
-    let a = and_parts (is_tx s.number && is_node s.home && nat_le 1 (length s.ops) && nat_le (length s.ops) MAX_OPS) (list_all is_plain_op s.ops) z.0 in
-    let b = and_parts (is_tx s.number && is_node s.home && nat_le 1 (length s.ops)) (nat_le (length s.ops) MAX_OPS) a.0 in
-    let c = and_parts (is_tx s.number && is_node s.home) (nat_le 1 (length s.ops)) b.0 in
-    let e = and_parts (is_tx s.number) (is_node s.home) c.0 in
-    let first : is_line (tx_words s) ≡ true = rw (plain_tx s.number e.0, plain_node s.home e.1) refl in
-    let rest : list_all is_line (map op_words s.ops ++ (codes "end" ∷ []) ∷ []) ≡ true = all_both is_line (map op_words s.ops) ((codes "end" ∷ []) ∷ []) (all_map is_plain_op is_line op_words op_line s.ops a.1) refl in
+    let r = ranges_of s h in
+    let long : nat_le 1 (length (tx_words s)) ≡ true = grind (arith, nat_tests) in
+    let first : is_line (tx_words s) ≡ true =
+    rw (long, plain_tx s.number r.number, plain_node s.home r.home, plain_session s.session r.session) refl in
+    let rest : list_all is_line (map op_words s.ops ++ (codes "end" ∷ []) ∷ []) ≡ true = all_both is_line (map op_words s.ops) ((codes "end" ∷ []) ∷ []) (all_map is_plain_op is_line op_words op_line s.ops r.plain) refl in
     rw (first, rest) refl
 
 plain_small : (m : ℕ) → nat_le m MAX_COUNT ≡ true → list_all is_plain (decimal m) ≡ true

@@ -12,6 +12,7 @@ pub mod LinesSoFar
 pub mod LinesTold
 pub mod Told
 pub mod OneSpelling
+pub mod ScriptRanges
 pub mod Again
 pub mod ClusterAgain
 pub mod ScriptsAgain

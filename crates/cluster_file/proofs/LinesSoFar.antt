@@ -1,5 +1,5 @@
 -- The lines of what was read so far, and what one more adds to them.
-use Rattle.std.proofs.Common.{◌≡◌, ℕ, ◌+◌, ◌≤◌, true, List, [], ◌∷◌, ◌++◌, length, Option, Some, None, refl, sym, ap, ◌∙◌, map, append_assoc, arith, codes}
+use Rattle.std.proofs.Common.{◌≡◌, ℕ, ◌+◌, ◌≤◌, true, nat_le, List, [], ◌∷◌, ◌++◌, length, Option, Some, None, refl, sym, ap, ◌∙◌, map, append_assoc, arith, codes}
 use Rattle.std.specs.List.{list_all, flat_map}
 use Rattle.std.proofs.lemmas.List.{append-nil}
 use Rattle.score_base.specs.declared.ids.NodeId.{NodeId}
@@ -10,7 +10,7 @@ use Rattle.cluster_file.specs.declared.drafts.Draft.{Draft}
 use Rattle.cluster_file.specs.declared.drafts.Part.{Part}
 use Rattle.cluster_file.specs.declared.drafts.Part.TheVariants as part
 use Rattle.cluster_file.specs.Spelling.{is_node, is_tx, is_init_in_range, is_script_in_range, is_item_in_range, is_built_item, nodes_words, partition_words, init_words, item_words, partition_lines}
-use Rattle.script_lang.specs.declared.limits.TheConstants.{MAX_NODES}
+use Rattle.script_lang.specs.declared.limits.TheConstants.{MAX_NODES, MAX_SESSION}
 
 -- The lines of what was read.
 
@@ -36,6 +36,7 @@ lines_so_far d =
 pub record IsOpened (s : ScriptData) : Type 0 where
   pub number : is_tx s.number ≡ true
   pub home : is_node s.home ≡ true
+  pub session : nat_le s.session MAX_SESSION ≡ true
   pub front : IsFront s.ops
   pub keys : list_all is_plain_op s.ops ≡ true
 

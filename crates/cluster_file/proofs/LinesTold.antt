@@ -107,7 +107,20 @@ tx_lines_told d ws none quiet = either (nat_le MAX_SCRIPTS (length d.scripts)) _
   lines = more_script _ _ (partition_lines 0 d.places) (map init_words d.inits) (flat_map script_words d.scripts) (open_lines d.script) (open_lines (Some s)) (schedule_lines d.part d.items)
       (ap (λ ops. tx_words s ∷ map op_words ops) first.bare ∙ ap (λ l. l ∷ []) (sym first.spelled) ∙ ap (λ l. l ++ (codes "tx" ∷ ws) ∷ []) (sym (ap open_lines none)))
       quiet;
-  ranges = λ few r. record { places = r.places; inits = r.inits; scripts = r.scripts; opened = record { number = first.tx; home = in_cluster d.nodes s.home first.node few; front = rw first.bare (record { most = omega arith; sound = refl }); keys = rw first.bare refl }; items = r.items; built = r.built };
+  ranges = λ few r. record {
+    places = r.places;
+    inits = r.inits;
+    scripts = r.scripts;
+    opened = record {
+      number = first.tx;
+      home = in_cluster d.nodes s.home first.node few;
+      session = first.session;
+      front = rw first.bare (record { most = omega arith; sound = refl });
+      keys = rw first.bare refl;
+    };
+    items = r.items;
+    built = r.built;
+  };
 }))
 
 -- with room for one more operation, they stay a front
@@ -127,13 +140,26 @@ script_ranges : (s : ScriptData) → IsOpened s → nat_le 1 (length s.ops) ≡ 
 script_ranges s h least =
     let most : nat_le (length s.ops) MAX_OPS ≡ true = grind (arith, nat_tests, h.front.most) in
     let sound : are_sound [] s.ops ≡ true = h.front.sound in
-    rw (h.number, h.home, least, most, h.keys, sound) refl
+    rw (h.number, h.home, h.session, least, most, h.keys, sound) refl
 
 -- what a line inside a script makes of it
 follows_told : (d : Draft) (s : ScriptData) (line : List (List ℕ)) (x : Stage) (more : BTreeSet Key) → Follows MAX_KEYS d.known s line x more → Adds (inside d s) line (with_stage (record (outside d) { known = more }) x)
 follows_told d s line (stage.Open t) more f = subst (λ (u : ScriptData). Adds (inside d s) line (inside (record d { known = more }) u)) (sym f.added) (record {
   lines = op_lines d s f.last line f.spelled;
-  ranges = λ few r. record { places = r.places; inits = r.inits; scripts = r.scripts; opened = record { number = r.opened.number; home = r.opened.home; front = front_more s.ops f.last f.room f.among r.opened.front; keys = all_last is_plain_op s.ops f.last r.opened.keys f.plain }; items = r.items; built = r.built };
+  ranges = λ few r. record {
+    places = r.places;
+    inits = r.inits;
+    scripts = r.scripts;
+    opened = record {
+      number = r.opened.number;
+      home = r.opened.home;
+      session = r.opened.session;
+      front = front_more s.ops f.last f.room f.among r.opened.front;
+      keys = all_last is_plain_op s.ops f.last r.opened.keys f.plain;
+    };
+    items = r.items;
+    built = r.built;
+  };
 })
 follows_told d s line (stage.Done t) more f = rw f.same (
     let least : nat_le 1 (length s.ops) ≡ true = grind (arith, nat_tests, f.some) in

@@ -1,11 +1,10 @@
 -- The lines of scripts are read as those scripts.
-use Rattle.std.proofs.Common.{◌≡◌, ℕ, ◌<◌, ◌≤◌, true, false, ◌&&◌, ◌==◌, List, [], ◌∷◌, ◌++◌, length, length-append, nat_le, Some, None, Result, Ok, refl, sym, ap, ◌∙◌, subst, map, append_assoc, arith, codes}
+use Rattle.std.proofs.Common.{◌≡◌, ℕ, ◌<◌, ◌≤◌, true, false, ◌==◌, List, [], ◌∷◌, ◌++◌, length, length-append, nat_le, Some, None, Result, Ok, refl, sym, ap, ◌∙◌, subst, map, append_assoc, arith, codes}
 use Rattle.std.specs.Cmp.Lexicographic.{slice_cmp}
 use Rattle.std.specs.Ordering.{nat_cmp}
 use Rattle.std.specs.BTreeSet.{insert_key}
 use Rattle.std.specs.Fmt.{decimal}
 use Rattle.std.specs.List.{list_any, list_all, flat_map}
-use Rattle.std.proofs.lemmas.Bool.Decides.{nat_tests}
 use Rattle.std.proofs.lemmas.Cmp.{nat_eq_equiv}
 use Rattle.std.proofs.lemmas.List.{append-nil}
 use Rattle.score_base.specs.declared.keys.Key.{Key}
@@ -13,7 +12,7 @@ use Rattle.score_base.specs.declared.ids.NodeId.{NodeId}
 use Rattle.score_base.specs.declared.ids.Value.{Value}
 use Rattle.score_base.specs.Keys.{is_key}
 use Rattle.script_lang.specs.Scripts.{ScriptData, are_sound}
-use Rattle.script_lang.specs.Spelling.{op_words, tx_words, is_plain_expr, is_plain_op, script_words}
+use Rattle.script_lang.specs.Spelling.{op_words, session_words, tx_words, is_plain_expr, is_plain_op, script_words}
 use Rattle.script_lang.specs.Reads.{keys_named, key_of}
 use Rattle.script_lang.specs.declared.scripts.Op.{Op}
 use Rattle.script_lang.specs.declared.scripts.Op.TheVariants as op
@@ -22,8 +21,9 @@ use Rattle.cluster_file.specs.declared.drafts.Draft.{Draft}
 use Rattle.cluster_file.specs.declared.drafts.Part.{Part}
 use Rattle.cluster_file.specs.declared.drafts.Part.TheVariants as part
 use Rattle.cluster_file.specs.Lines.{words_line, tx_line}
-use Rattle.cluster_file.specs.Spelling.{is_node, is_tx, is_script_in_range, node_word}
+use Rattle.cluster_file.specs.Spelling.{is_script_in_range, node_word}
 use Rattle.std.proofs.lemmas.Bool.{and_parts}
+use Rattle.cluster_file.proofs.ScriptRanges.{HasRanges, ranges_of}
 use Rattle.cluster_file.proofs.Members.{among_numbers, distinct_before}
 use Rattle.cluster_file.proofs.Named.{numbers_last, key_order_last, number_order_last, keys_op, keys_begun, keys_more_scripts, keys_more_ops, numbers_more}
 use Rattle.cluster_file.proofs.Known.{read_before}
@@ -38,19 +38,22 @@ abbrev reading : ℕ → List (List NodeId) → List (Key × Value) → List Scr
 reading n ps xs ss s = record { part = part.Scripts; nodes = n; places = ps; inits = xs; scripts = ss; script = Some s; items = []; events = 0; known = record { keys = key_order (keys_of_document xs (ss ++ s ∷ [])) }; numbers = record { keys = number_order (script_numbers (ss ++ s ∷ [])) } }
 
 module _ (n : ℕ) (ps : List (List NodeId)) (xs : List (Key × Value)) where
-  tx_words_again : (p : Part) (ss : List ScriptData) (s : ScriptData) (more : List ScriptData) → IsOpen p → are_numbers_distinct (script_numbers (ss ++ s ∷ more)) ≡ true → length ss < MAX_SCRIPTS → is_tx s.number ≡ true → nat_le s.home n ≡ true → is_node s.home ≡ true → words_line (scripted p n ps xs ss) (tx_words s) ≡ Ok (reading n ps xs ss (record s { ops = [] }))
-  tx_words_again p ss s more may distinct room is low are =
+  tx_words_again : (p : Part) (ss : List ScriptData) (s : ScriptData) (more : List ScriptData) → IsOpen p → are_numbers_distinct (script_numbers (ss ++ s ∷ more)) ≡ true
+      → length ss < MAX_SCRIPTS → nat_le s.home n ≡ true → HasRanges s
+      → words_line (scripted p n ps xs ss) (tx_words s) ≡ Ok (reading n ps xs ss (record s { ops = [] }))
+  tx_words_again p ss s more may distinct room low r =
       let bare : ScriptData = record s { ops = [] } in
       let fresh : list_any (λ u. u == s.number) (script_numbers ss) ≡ false = distinct_before (λ (a b : ℕ). a == b) nat_eq_equiv.symm are_numbers_distinct (λ x l. refl) (script_numbers ss) s.number (script_numbers more) (ap are_numbers_distinct (sym (numbers_more ss (s ∷ more))) ∙ distinct) in
       let new : list_any (λ u. u == s.number) (number_order (script_numbers ss)) ≡ false = among_numbers s.number (script_numbers ss) ∙ fresh in
       let numbers : insert_key nat_cmp (number_order (script_numbers ss)) s.number ≡ number_order (script_numbers (ss ++ bare ∷ [])) = sym (number_order_last (script_numbers ss) s.number) ∙ ap number_order (sym (numbers_last ss bare)) in
       let named : key_order (keys_of_document xs ss) ≡ key_order (keys_of_document xs (ss ++ bare ∷ [])) = ap key_order (sym (keys_begun xs ss bare refl)) in
       by p may
-      ∙ tx_line_again (scripted p n ps xs ss) s.number s.home room new is low are
+      ∙ tx_line_again (scripted p n ps xs ss) s room new r.number low r.home r.session
       ∙ ap (λ ts. Ok (record (reading n ps xs ss bare) { known = record { keys = key_order (keys_of_document xs ss) }; numbers = record { keys = ts } })) numbers
       ∙ ap (λ ks. Ok (record (reading n ps xs ss bare) { known = record { keys = ks } })) named
     where
-      by : (q : Part) → IsOpen q → words_line (scripted q n ps xs ss) (tx_words s) ≡ tx_line (scripted q n ps xs ss) (decimal s.number ∷ node_word s.home ∷ [])
+      by : (q : Part) → IsOpen q → words_line (scripted q n ps xs ss) (tx_words s)
+          ≡ tx_line (scripted q n ps xs ss) (decimal s.number ∷ node_word s.home ∷ session_words s.session)
       by part.Start h = absurd h
       by part.Nodes h = absurd h
       by part.Partitions h = refl
@@ -88,18 +91,12 @@ module _ (n : ℕ) (ps : List (List NodeId)) (xs : List (Key × Value)) where
   script_again : (p : Part) (ss : List ScriptData) (s : ScriptData) (more : List ScriptData) (tail : List (List (List ℕ))) → IsOpen p → are_numbers_distinct (script_numbers (ss ++ s ∷ more)) ≡ true → length (key_order (keys_of_document xs (ss ++ s ∷ []))) ≤ MAX_KEYS → length ss < MAX_SCRIPTS → nat_le s.home n ≡ true → is_script_in_range s ≡ true
       → lines_from (scripted p n ps xs ss) (script_words s ++ tail) ≡ lines_from (scripted part.Scripts n ps xs (ss ++ s ∷ [])) tail
   script_again p ss s more tail may distinct few room low is =
-      let z = and_parts (is_tx s.number && is_node s.home && nat_le 1 (length s.ops) && nat_le (length s.ops) MAX_OPS && list_all is_plain_op s.ops) (are_sound [] s.ops) is in
-      let a = and_parts (is_tx s.number && is_node s.home && nat_le 1 (length s.ops) && nat_le (length s.ops) MAX_OPS) (list_all is_plain_op s.ops) z.0 in
-      let b = and_parts (is_tx s.number && is_node s.home && nat_le 1 (length s.ops)) (nat_le (length s.ops) MAX_OPS) a.0 in
-      let c = and_parts (is_tx s.number && is_node s.home) (nat_le 1 (length s.ops)) b.0 in
-      let e = and_parts (is_tx s.number) (is_node s.home) c.0 in
-      let some : 1 ≤ length s.ops = grind (arith, nat_tests, c.1) in
-      let most : length s.ops ≤ MAX_OPS = grind (arith, nat_tests, b.1) in
+      let r = ranges_of s is in
       then_lines (scripted p n ps xs ss) (reading n ps xs ss (record s { ops = [] })) (tx_words s) ((map op_words s.ops ++ (codes "end" ∷ []) ∷ []) ++ tail) _
-      (tx_words_again p ss s more may distinct room e.0 low e.1)
+      (tx_words_again p ss s more may distinct room low r)
       (ap (lines_from (reading n ps xs ss (record s { ops = [] }))) (append_assoc (map op_words s.ops) ((codes "end" ∷ []) ∷ []) tail)
-      ∙ ops_again ss s [] s.ops ((codes "end" ∷ []) ∷ tail) most few a.1 z.1
-      ∙ then_lines (reading n ps xs ss s) (scripted part.Scripts n ps xs (ss ++ s ∷ [])) (codes "end" ∷ []) tail _ (end_line_again (record (reading n ps xs ss s) { script = None }) s some) refl)
+      ∙ ops_again ss s [] s.ops ((codes "end" ∷ []) ∷ tail) r.most few r.plain r.sound
+      ∙ then_lines (reading n ps xs ss s) (scripted part.Scripts n ps xs (ss ++ s ∷ [])) (codes "end" ∷ []) tail _ (end_line_again (record (reading n ps xs ss s) { script = None }) s r.least) refl)
 
   pub scripts_again : (p : Part) (ss rest : List ScriptData) (tail : List (List (List ℕ))) (r : Result Draft Why) → IsOpen p → are_numbers_distinct (script_numbers (ss ++ rest)) ≡ true → length (key_order (keys_of_document xs (ss ++ rest))) ≤ MAX_KEYS → length (ss ++ rest) ≤ MAX_SCRIPTS → list_all (λ s. nat_le s.home n) rest ≡ true → list_all is_script_in_range rest ≡ true
       → ((q : Part) → IsOpen q → lines_from (scripted q n ps xs (ss ++ rest)) tail ≡ r) → lines_from (scripted p n ps xs ss) (flat_map script_words rest ++ tail) ≡ r

@@ -13,7 +13,7 @@ use Rattle.script_lang.specs.Spelling.{script_words, is_plain_op}
 use Rattle.grid_model.specs.Documents.{DocumentData}
 use Rattle.grid_model.specs.declared.items.Item.{Item}
 use Rattle.grid_model.specs.declared.items.Item.TheVariants as item
-use Rattle.script_lang.specs.declared.limits.TheConstants.{MAX_NODES, MAX_OPS, MAX_TX}
+use Rattle.script_lang.specs.declared.limits.TheConstants.{MAX_NODES, MAX_OPS, MAX_SESSION, MAX_TX}
 use Rattle.cluster_file.specs.declared.limits.TheConstants.{MAX_COUNT}
 
 -- The words of each line.
@@ -92,10 +92,12 @@ is_tx t = nat_le 1 t && nat_le t MAX_TX
 abbrev pub is_init_in_range : Key × Value → Bool
 is_init_in_range x = is_key x.0 && nat_lt x.1 (2 ^ 64)
 
--- a script of 1 to 32 operations, whose expressions have at most 16 steps and name only keys that were
--- read before
+-- a script of a session from 1 to 65,535 or of none, and of 1 to 32 operations, whose expressions have
+-- at most 16 steps and name only keys that were read before
 abbrev pub is_script_in_range : ScriptData → Bool
-is_script_in_range s = is_tx s.number && is_node s.home && nat_le 1 (length s.ops) && nat_le (length s.ops) MAX_OPS && list_all is_plain_op s.ops && are_sound [] s.ops
+is_script_in_range s =
+    is_tx s.number && is_node s.home && nat_le s.session MAX_SESSION
+    && nat_le 1 (length s.ops) && nat_le (length s.ops) MAX_OPS && list_all is_plain_op s.ops && are_sound [] s.ops
 
 abbrev pub is_item_in_range : Item → Bool
 is_item_in_range (item.Begin t) = is_tx t

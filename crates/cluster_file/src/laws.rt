@@ -3,7 +3,7 @@ ghost use Rattle.std.specs.Prelude.{◌≡◌, ℕ, List, Ok};
 ghost use Rattle.grid_model.specs.Documents.{DocumentData, IsDocument, IsOne};
 ghost use Rattle.cluster_file.specs.Doc.{doc};
 ghost use Rattle.cluster_file.specs.Spelling.{spelling, IsBuilt, IsInRange};
-ghost use Rattle.script_lang.specs.declared.limits.TheConstants.{MAX_NODES, MAX_TX, MAX_OPS, MAX_STEPS};
+ghost use Rattle.script_lang.specs.declared.limits.TheConstants.{MAX_NODES, MAX_TX, MAX_SESSION, MAX_OPS, MAX_STEPS};
 ghost use Rattle.cluster_file.specs.declared.limits.TheConstants.{MAX_PARTITIONS, MAX_KEYS, MAX_SCRIPTS, MAX_EVENTS, MAX_COUNT};
 
 /// A document has one spelling. Where `doc` finds a document in some bytes, they are its spelling; the
@@ -19,6 +19,7 @@ pub fn law_one_spelling()
 pub fn law_limits()
     ensures nodes { MAX_NODES ≡ 16 }
     ensures transactions { MAX_TX ≡ 65535 }
+    ensures sessions { MAX_SESSION ≡ 65535 }
     ensures operations { MAX_OPS ≡ 32 }
     ensures steps { MAX_STEPS ≡ 16 }
     ensures partitions { MAX_PARTITIONS ≡ 64 }

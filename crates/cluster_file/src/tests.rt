@@ -210,6 +210,36 @@ fn misspelt_words(rt: HostRuntime) {
     assert!(rt; is_refused_behind(alloc, b"tx 1 n1\nread a\nend\ntx 1 n1\n", 9, 8));
 }
 
+/// Whether the first and the last script behind the lines of `HEAD` have these sessions.
+fn has_sessions(alloc: Global, rest: &[u8], first: u16, last: u16) -> bool {
+    match behind(alloc, HEAD, rest) {
+        Ok(text) => match read_document(alloc, text.as_slice()) {
+            Ok(document) => match document.scripts() {
+                [one, .., other] => one.session == first && other.session == last,
+                _ => false,
+            },
+            Err(_) => false,
+        },
+        Err(_) => false,
+    }
+}
+
+#[test]
+fn session_words(rt: HostRuntime) {
+    let alloc = rt.alloc();
+    assert!(rt; is_refused_behind(alloc, b"tx 1 n1 session 0\n", 6, 9));
+    assert!(rt; is_refused_behind(alloc, b"tx 1 n1 sess 5\n", 6, 1));
+    assert!(rt; is_refused_behind(alloc, b"tx 1 n1 session\n", 6, 10));
+    assert!(rt; is_refused_behind(alloc, b"tx 1 n1 session 05\n", 6, 2));
+    assert!(rt; is_refused_behind(alloc, b"tx 1 n1 session 65536\n", 6, 9));
+    assert!(rt; is_refused_behind(alloc, b"tx 1 n1 session 0 x\n", 6, 9));
+    assert!(rt; is_refused_behind(alloc, b"tx 1 n1 session 5 5\n", 6, 1));
+    let least = b"tx 1 n1 session 5\nread a\nend\ntx 2 n2\nread b\nend\nschedule\n";
+    assert!(rt; has_sessions(alloc, least, 5, 0));
+    let most = b"tx 1 n1 session 1\nread a\nend\ntx 2 n2 session 65535\nread b\nend\nschedule\n";
+    assert!(rt; has_sessions(alloc, most, 1, 65535));
+}
+
 #[test]
 fn writes(rt: HostRuntime) {
     let alloc = rt.alloc();

@@ -146,7 +146,7 @@ wrong_write-refuted u other copies =
 -- what the reader took of it is refuted too
 pub wrong_write-read-refuted : (u : Value) → (u ≡ 5 → ⊥) → OneCopy equal_finals (carrying u u 7) → ⊥
 wrong_write-read-refuted u other copies =
-    let e : (1, u) ∷ (2, 7) ∷ [] ≡ (1, 5) ∷ (2, 7) ∷ [] = copies.readers (record { number = 3; home = 1; ops = (op.Read b ∷ op.Read a ∷ []) }) 3 refl refl refl in
+    let e : (1, u) ∷ (2, 7) ∷ [] ≡ (1, 5) ∷ (2, 7) ∷ [] = copies.readers (record { number = 3; home = 1; session = 0; ops = (op.Read b ∷ op.Read a ∷ []) }) 3 refl refl refl in
     other (ap value_of e)
 
 -- ---- a reader takes half of a snapshot
@@ -154,7 +154,7 @@ wrong_write-read-refuted u other copies =
 -- the reader is shown the first write and not the second, which has the same identifier: refuted
 pub torn_read-refuted : OneCopy equal_finals (carrying 5 5 10) → ⊥
 torn_read-refuted copies =
-    let e : (1, 5) ∷ (2, 10) ∷ [] ≡ (1, 5) ∷ (2, 7) ∷ [] = copies.readers (record { number = 3; home = 1; ops = (op.Read b ∷ op.Read a ∷ []) }) 3 refl refl refl in
+    let e : (1, 5) ∷ (2, 10) ∷ [] ≡ (1, 5) ∷ (2, 7) ∷ [] = copies.readers (record { number = 3; home = 1; session = 0; ops = (op.Read b ∷ op.Read a ∷ []) }) 3 refl refl refl in
     eqb-false 10 7 refl (ap next_value e)
 
 -- as it is, the reader was shown what it reads on the copy at its snapshot
@@ -167,7 +167,7 @@ right-snapshot = (refl, refl)
 abbrev pub skewed : DocumentData
 skewed = record {
   cluster = two_nodes;
-  scripts = copy_script ∷ record { number = 2; home = 2; ops = (op.Read b ∷ op.Write a (record { first = atom.Key b; steps = [] }) ∷ []) } ∷ [];
+  scripts = copy_script ∷ record { number = 2; home = 2; session = 0; ops = (op.Read b ∷ op.Write a (record { first = atom.Key b; steps = [] }) ∷ []) } ∷ [];
   items = [];
 }
 

@@ -137,7 +137,7 @@ value_in o = 0
 pub other_write-refuted : (u : Value) → (u ≡ 5 → ⊥) → Kept equal_finals (carrying u u 7) → ⊥
 other_write-refuted u other kept =
     let past : List Act = after [] (carrying u u 7) in
-    let held : IsKept equal_finals past (standing_logs equal_finals past) (record { number = 1; home = 1; ops = (op.Write b (record { first = atom.Number 5; steps = [] }) ∷ []) }) = kept (standing_logs equal_finals past) (standing-logs equal_finals past) (record { number = 1; home = 1; ops = (op.Write b (record { first = atom.Number 5; steps = [] }) ∷ []) }) 1 refl refl refl in
+    let held : IsKept equal_finals past (standing_logs equal_finals past) (record { number = 1; home = 1; session = 0; ops = (op.Write b (record { first = atom.Number 5; steps = [] }) ∷ []) }) = kept (standing_logs equal_finals past) (standing-logs equal_finals past) (record { number = 1; home = 1; session = 0; ops = (op.Write b (record { first = atom.Number 5; steps = [] }) ∷ []) }) 1 refl refl refl in
     let e : Some ((b, u) ∷ []) ≡ Some ((b, 5) ∷ []) = held.prepared 1 refl in
     other (ap value_in e)
 

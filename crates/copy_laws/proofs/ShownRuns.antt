@@ -20,11 +20,12 @@ use Rattle.grid_model.specs.declared.messages.Message.{Message}
 use Rattle.grid_model.specs.declared.messages.Message.TheVariants as message
 use Rattle.grid_model.specs.declared.messages.ReadRep.{ReadRep}
 use Rattle.grid_model.specs.declared.stories.Story.{Story}
+use Rattle.grid_model.specs.Sessions.{floor_at, first_at}
 use Rattle.grid_model.specs.Documents.{DocumentData, number_order, script_numbers}
 use Rattle.grid_model.specs.Histories.{after, sent, sent_at}
 use Rattle.journal_words.specs.Journals.{commit_id}
 use Rattle.grid_model.specs.Nodes.{node, journal, script_of}
-use Rattle.grid_model.specs.Stories.{begun, story, with_value, progressed}
+use Rattle.grid_model.specs.Stories.{begun_in, story, with_value, progressed}
 use Rattle.script_runs.specs.Waits.{waiting}
 use Rattle.grid_model.specs.Views.{view, stage, Open, open_of, participant}
 use Rattle.grid_model.specs.Advances.{advance}
@@ -100,9 +101,9 @@ shown-answer d past k m n x b said false quiet is due all = unshowing-all d (act
 
 -- ---- a begin
 
-shown-begin : (d : DocumentData) (past : List Act) (m : ℕ) (b : Bool) (s : ScriptData) → script_of s.number d.scripts ≡ Some s → story d past s.number ≡ None → AllShown d past → AllShown d (after past (numbered m s.home (kept b s.home (begin_outs s.home (participant (view d past s.home)) s))))
+shown-begin : (d : DocumentData) (past : List Act) (m : ℕ) (b : Bool) (s : ScriptData) → script_of s.number d.scripts ≡ Some s → story d past s.number ≡ None → AllShown d past → AllShown d (after past (numbered m s.home (kept b s.home (begin_outs s.home (participant (view d past s.home)) s (floor_at d past s)))))
 shown-begin d past m b s is new all =
-    let sid0 : Ident = commit_id (journal d past s.home) in
+    let sid0 : Ident = first_at d past s in
     let now : List Act = act.Began s.number s.home sid0 ∷ past in
     let P : Option Story → Type 0 = λ o. Says s (shown past s.number) o in
     let none : shown past s.number ≡ [] = subst P new (all s.number s is) in
@@ -110,8 +111,8 @@ shown-begin d past m b s is new all =
     let left : shown now s.number ++ owns ≡ reads_by [] s.ops = ap (λ zs. zs ++ owns) none ∙ sym (first-reads s.ops) in
     let T : List Act → Type 0 = λ acts. AllShown d (after past acts) in
     subst T
-    (sym (kept-first m s.home b (act.Began s.number s.home sid0) (advance d.cluster (open_of s (begun sid0)) 0) refl))
-    (shown-advance d now m s.home b s (begun sid0) 0 is (story-began d past s.number s.home sid0) left (λ t w other e. other-began d past s.number t s.home sid0 w other (all t w e)))
+    (sym (kept-first m s.home b (act.Began s.number s.home sid0) (advance d.cluster (open_of s (begun_in d (node d past) s.number sid0)) 0) refl))
+    (shown-advance d now m s.home b s (begun_in d (node d past) s.number sid0) 0 is (story-began d past s.number s.home sid0) left (λ t w other e. other-began d past s.number t s.home sid0 w other (all t w e)))
 
 -- ---- the shapes of an event
 
@@ -131,7 +132,7 @@ shown-shape d past i c due all (restarts n up) =
     let f : Flag = flag_of (node d past n).doubt c.finds in
     unshowing-all d past (if c.opens then opened_row d past n f else act.StillDown n ∷ [])
     (unshowing-restart d past n f c.opens) all
-shown-shape d past i c due all (begins s is new up) = shown-begin d past (next_number past) c.keeps s is new all
+shown-shape d past i c due all (begins s is new up quiet) = shown-begin d past (next_number past) c.keeps s is new all
 shown-shape d past i c due all (delivers m e is up) =
     shown-answer d past m (next_number past) e.to e.from c.keeps e.message (is_reply e.message) refl is
     ((e, is, up), due) (λ t s f. unshowing-by d past (act.Got m) t s refl (all t s f))

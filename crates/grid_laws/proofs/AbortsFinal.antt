@@ -1,4 +1,5 @@
 -- A transaction of which an abort was told can never commit.
+use Rattle.journal_words.proofs.Later.{undecided-later}
 use Rattle.grid_laws.proofs.StoryClaims.{asked-claim, else-claim, got-claim, hears-any, if-claim}
 use Rattle.std.proofs.Common.{◌≡◌, ◌⊎◌, inl, inr, ℕ, Bool, true, false, List, [], ◌∷◌, Option, Some, None, refl, sym, ap, subst, ◌∙◌, arith}
 use Rattle.std.proofs.lemmas.Bool.Decides.{nat_tests}
@@ -20,7 +21,7 @@ use Rattle.grid_model.specs.Documents.{DocumentData}
 use Rattle.grid_model.specs.Histories.{sent, sent_at}
 use Rattle.journal_words.specs.Journals.{Decision, Prepared, decision, home_in, is_closed, prepared_of, undone}
 use Rattle.grid_model.specs.Nodes.{Node, got, journal, node, script_of, is_home}
-use Rattle.grid_model.specs.Stories.{story, phase_at, is_open, begun, asked, heard, heard_at, if_told, with_vote, with_ack, Phase, progressed}
+use Rattle.grid_model.specs.Stories.{story, phase_at, is_open, begun_in, asked, heard, heard_at, if_told, with_vote, with_ack, Phase, progressed}
 use Rattle.script_runs.specs.Waits.{waiting}
 use Rattle.grid_model.specs.Views.{Open, Apart, acks_at, open_at, open_of, open_stage, stage, stage_by, view}
 use Rattle.grid_model.specs.Facts.{is_given_up, is_over, MeansNever, AbortsFinal}
@@ -33,7 +34,7 @@ use Rattle.grid_laws.proofs.ClosedSay.{over-more, closed-say, closed-stands}
 
 -- ---- what a story's flags mean
 
-abbrev Meant : List Act → TxId → Option Story → Type 0
+abbrev pub Meant : List Act → TxId → Option Story → Type 0
 Meant past t None = Unit {0}
 Meant past t (Some x) = (x.lost ≡ true → is_given_up t past ≡ true) × (x.aborted ≡ true → is_given_up t past ≡ true)
 
@@ -49,7 +50,7 @@ meant-more a past t (Some x) h = (λ e. given-more a past t (h.0 e), λ e. given
 meant-told : (d : DocumentData) (past now : List Act) (a : Act) (t : TxId) → now ≡ a ∷ past
     → Meant now t (story d past t) → Meant now t (story d (a ∷ past) t)
 meant-told d past now (act.Began u n sid0) t at k =
-    else-claim (Meant now t) (u == t) (Some (begun sid0)) (story d past t) (λ same. (λ e. cc, λ e. cc)) k
+    else-claim (Meant now t) (u == t) (Some (begun_in d (node d past) t sid0)) (story d past t) (λ same. (λ e. cc, λ e. cc)) k
 meant-told d past now (act.Sent m x y said) t at k = asked-claim (Meant now t) (λ j x i. i) d t said (story d past t) k
 meant-told d past now (act.Got m) t at k =
     got-claim (Meant now t) (hears-any (Meant now t) (λ vs x i. i) (λ ns x i. i)) d past (script_of t d.scripts)
@@ -65,7 +66,7 @@ meant-told d past now (act.Lost u) t at k =
 meant-told d past now (act.Down n h) t at k = if-claim (Meant now t) (is_home d t n) _ (story d past t) (λ e x i. i) k
 meant-told d past now a t at k = k
 
-flags-meant : (d : DocumentData) (past : List Act) (t : TxId) → Meant past t (story d past t)
+pub flags-meant : (d : DocumentData) (past : List Act) (t : TxId) → Meant past t (story d past t)
 flags-meant d [] t = tt
 flags-meant d (a ∷ past) t =
     meant-told d past (a ∷ past) a t refl (meant-more a past t (story d past t) (flags-meant d past t))
@@ -127,7 +128,7 @@ undone-none t r e is = rw e at is
 
 -- a full update that is neither lost, closed nor aborted, and has no Decided, is open
 still-open : (s : ScriptData) (x : Story) (h : Node) → x.lost ≡ false → is_closed s.number h.journal ≡ false → decision s.number h.journal ≡ None → x.aborted ≡ false → is_update s.ops ≡ true → waiting s.ops x.progress.values ≡ None → is_open (phase_at s (Some x) h) ≡ true
-still-open s x h a b c e u w = grind (arith, a, b, c, e, u, w)
+still-open s x h a b c e u w = rw (undecided-later x.skipped s.number h.journal c) (grind (arith, a, e, u, w))
 
 -- it was given up, or n has closed it
 abbrev pub IsGone : DocumentData → List Act → NodeId → TxId → Type 0

@@ -38,6 +38,8 @@ use Rattle.journal_words.proofs.Floors.{pending-floor}
 use Rattle.journal_words.proofs.Applied.{commit_id-floor}
 use Rattle.grid_laws.proofs.NodesFitActs.{undone-decision}
 use Rattle.grid_laws.proofs.Promises.{ever-covered}
+use Rattle.grid_model.specs.Sessions.{first_at}
+use Rattle.grid_laws.proofs.FloorsLow.{floor_at-low}
 use Rattle.grid_laws.proofs.LowWords.{IsLowStory, floor-low, nodes-low, decision-low, got-low, stories-low, snapshot-low}
 
 -- ---- versions
@@ -172,7 +174,7 @@ refused-low m d past n t q (cause.Holder u) low due = omega arith
 refused-low m d past n t q (cause.Newer key f) low due = (let h : f ≤ commit_id (journal d past n) = newer-low (journal d past n) q.reads q.sid (key, f) due.1 in omega (arith, node-commit m d past n low))
 
 ident-due : (k : ℕ) (d : DocumentData) (past : List Act) (a : Act) → AllDue d past → EachAct (IsAtMost (64 * k)) past → IsDue d past a → act_ident a ≤ 64 * (weight a + k)
-ident-due k d past (act.Began t n sid0) all low due = (let is : sid0 ≡ commit_id (journal d past n) = due.ident in omega (arith, node-commit (64 * k) d past n low))
+ident-due k d past (act.Began t n sid0) all low due = (let is : sid0 ≡ first_at d past due.script = due.ident in omega (arith, node-commit (64 * k) d past due.script.home low, floor_at-low (64 * k) d past due.script low))
 ident-due k d past (act.Sent m x y said) all low due = omega (arith, send-low (64 * k) d past x y said low due)
 ident-due k d past (act.Raised n sid) all low due = (let h : sid ≤ floor (journal d past n) = due.1 in omega (arith, node-floor (64 * k) d past n low))
 ident-due k d past (act.Served n t op key sid vn v) all low due =

@@ -16,11 +16,12 @@ use Rattle.grid_model.specs.declared.items.Item.{Item}
 use Rattle.grid_model.specs.declared.messages.Message.{Message}
 use Rattle.grid_model.specs.declared.messages.Message.TheVariants as message
 use Rattle.grid_model.specs.declared.messages.ReadRep.{ReadRep}
+use Rattle.grid_model.specs.Sessions.{floor_at, first_at}
 use Rattle.grid_model.specs.Documents.{DocumentData, number_order, script_numbers}
 use Rattle.grid_model.specs.Histories.{after, sent, sent_at}
 use Rattle.journal_words.specs.Journals.{commit_id}
 use Rattle.grid_model.specs.Nodes.{node, journal, script_of}
-use Rattle.grid_model.specs.Stories.{begun, story, with_value, progressed}
+use Rattle.grid_model.specs.Stories.{begun_in, story, with_value, progressed}
 use Rattle.grid_model.specs.Views.{view, stage, Stage, View, Open, Reads, open_of, participant}
 use Rattle.grid_model.specs.Advances.{advance}
 use Rattle.grid_model.specs.Fitness.{is_fit_at}
@@ -84,14 +85,14 @@ told-answer d past k m n x b said false quiet is all =
 
 -- ---- a begin
 
-told-begin : (d : DocumentData) (past : List Act) (m : ℕ) (b : Bool) (s : ScriptData) → script_of s.number d.scripts ≡ Some s → AllTold d past → AllTold d (after past (numbered m s.home (kept b s.home (begin_outs s.home (participant (view d past s.home)) s))))
+told-begin : (d : DocumentData) (past : List Act) (m : ℕ) (b : Bool) (s : ScriptData) → script_of s.number d.scripts ≡ Some s → AllTold d past → AllTold d (after past (numbered m s.home (kept b s.home (begin_outs s.home (participant (view d past s.home)) s (floor_at d past s)))))
 told-begin d past m b s is all =
-    let sid0 : Ident = commit_id (journal d past s.home) in
+    let sid0 : Ident = first_at d past s in
     let now : List Act = act.Began s.number s.home sid0 ∷ past in
     let T : List Act → Type 0 = λ acts. AllTold d (after past acts) in
     subst T
-    (sym (kept-first m s.home b (act.Began s.number s.home sid0) (advance d.cluster (open_of s (begun sid0)) 0) refl))
-    (told-advance d now m s.home b s (begun sid0) 0 is (story-began d past s.number s.home sid0) (λ t w other e. other-told w d past (act.Void 0) s.number t s.home sid0 other (all t w e)))
+    (sym (kept-first m s.home b (act.Began s.number s.home sid0) (advance d.cluster (open_of s (begun_in d (node d past) s.number sid0)) 0) refl))
+    (told-advance d now m s.home b s (begun_in d (node d past) s.number sid0) 0 is (story-began d past s.number s.home sid0) (λ t w other e. other-told w d past (act.Void 0) s.number t s.home sid0 other (all t w e)))
 
 -- ---- the shapes of an event
 
@@ -108,7 +109,7 @@ told-shape d past i c all (idle acts is) = untaking-all d past acts (untaking-id
 told-shape d past i c all (arms n k how is) = all
 told-shape d past i c all (crashes n up) = λ t s e. untaking-told s d past (act.Down n None) t refl (all t s e)
 told-shape d past i c all (restarts n up) = told-restart d past n (flag_of (node d past n).doubt c.finds) c.opens all
-told-shape d past i c all (begins s is new up) = told-begin d past (next_number past) c.keeps s is all
+told-shape d past i c all (begins s is new up quiet) = told-begin d past (next_number past) c.keeps s is all
 told-shape d past i c all (delivers m e is up) =
     told-answer d past m (next_number past) e.to e.from c.keeps e.message (is_reply e.message) refl is
     (λ t s f. untaking-told s d past (act.Got m) t refl (all t s f))

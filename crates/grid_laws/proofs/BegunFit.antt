@@ -1,5 +1,9 @@
 -- Is each begin of a run fit?
 use Rattle.grid_laws.proofs.Causes.{AllDue, BeganDue, IsDue}
+use Rattle.grid_laws.proofs.FloorsLow.{floor_at-low}
+use Rattle.grid_laws.proofs.SmallIdents.{IsLow, small}
+use Rattle.grid_model.specs.Sessions.{floor_at}
+use Rattle.grid_model.specs.Stories.{is_small}
 use Rattle.grid_laws.proofs.Frames.{same-number}
 use Rattle.grid_model.proofs.Undecided.{script-number}
 use Rattle.grid_model.specs.Documents.{DocumentData}
@@ -14,18 +18,19 @@ use Rattle.score_base.specs.declared.ids.TxId.{TxId}
 use Rattle.script_lang.specs.Scripts.{ScriptData}
 use Rattle.std.proofs.Common.{List, Option, [], refl, subst, sym, true, ◌∷◌, ◌≡◌}
 
--- a transaction that is due to begin stands at no desk
-due-fit : (d : DocumentData) (past : List Act) (t : TxId) (n : NodeId) (sid0 : Ident) (due : BeganDue d past t n sid0) → is_fit_begin n (view d past n) due.script ≡ true
-due-fit d past t n sid0 due =
+-- a transaction that is due to begin stands at no desk, and the floor of its session is small
+due-fit : (d : DocumentData) (past : List Act) (t : TxId) (n : NodeId) (sid0 : Ident) → IsLow past → (due : BeganDue d past t n sid0) → is_fit_begin n (view d past n) due.script (floor_at d past due.script) ≡ true
+due-fit d past t n sid0 low due =
     let number : due.script.number ≡ t = script-number t d.scripts due.script due.is in
-    rw (number, due.is, due.home, same-number n, due.new) refl
+    let floor : is_small (floor_at d past due.script) ≡ true = small (floor_at d past due.script) (floor_at-low 3200000 d past due.script low) in
+    rw (floor, number, due.is, due.home, same-number n, due.new) refl
 
-begin-fit : (d : DocumentData) (past : List Act) (a : Act) → IsDue d past a → BeganIsFit d a past
-begin-fit d past (act.Began t n sid0) due =
+begin-fit : (d : DocumentData) (past : List Act) (a : Act) → IsLow past → IsDue d past a → BeganIsFit d a past
+begin-fit d past (act.Began t n sid0) low due =
     let P : Option ScriptData → Type 0 = λ o. IsFitBegin d past n o in
-    subst P (sym due.is) (due-fit d past t n sid0 due)
-begin-fit d past a due = tt
+    subst P (sym due.is) (due-fit d past t n sid0 low due)
+begin-fit d past a low due = tt
 
-pub begins-fit : (d : DocumentData) (past : List Act) → AllDue d past → BeginsFit d past
-begins-fit d [] due = tt
-begins-fit d (a ∷ past) due = (begin-fit d past a due.0, begins-fit d past due.1)
+pub begins-fit : (d : DocumentData) (past : List Act) → AllDue d past → IsLow past → BeginsFit d past
+begins-fit d [] due low = tt
+begins-fit d (a ∷ past) due low = (begin-fit d past a low.1 due.0, begins-fit d past due.1 low.1)

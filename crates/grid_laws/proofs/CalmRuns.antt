@@ -17,6 +17,7 @@ use Rattle.grid_model.specs.declared.items.Item.{Item}
 use Rattle.grid_model.specs.declared.items.Item.TheVariants as item
 use Rattle.grid_model.specs.declared.messages.Envelope.{Envelope}
 use Rattle.grid_model.specs.declared.messages.Message.{Message}
+use Rattle.grid_model.specs.Sessions.{floor_at}
 use Rattle.grid_model.specs.Documents.{DocumentData, number_order, script_numbers}
 use Rattle.grid_model.specs.Histories.{after}
 use Rattle.grid_model.specs.Nodes.{Node, node, got, journal, change, changed}
@@ -83,9 +84,9 @@ shape-unarming d past i c e (idle acts is) = idle-pass is_unarming (λ code. ref
 shape-unarming d past i c e (arms n k how is) = armed i n k how is e
 shape-unarming d past i c e (crashes n up) = refl
 shape-unarming d past i c e (restarts n up) = unarming-opened d past n (flag_of (node d past n).doubt c.finds) c.opens
-shape-unarming d past i c e (begins s is new up) =
-    unarming-acts past c s.home (begin_outs s.home (participant (view d past s.home)) s)
-    (pass-begin is_unarming (λ t n sid0. refl) (λ t j v. refl) (λ t. refl) s.home (participant (view d past s.home)) s)
+shape-unarming d past i c e (begins s is new up quiet) =
+    unarming-acts past c s.home (begin_outs s.home (participant (view d past s.home)) s (floor_at d past s))
+    (pass-begin is_unarming (λ t n sid0. refl) (λ t j v. refl) (λ t. refl) s.home (participant (view d past s.home)) s (floor_at d past s))
 shape-unarming d past i c e (delivers m x is up) =
     unarming-acts past c x.to (answer x.to (view d past x.to) x.from x.message)
     (pass-answer is_unarming x.to (view d past x.to) x.from x.message (row-unarming x.to x.message))
@@ -103,9 +104,9 @@ shape-unfailing d past i e (crashes n up) = refl
 shape-unfailing d past i e (restarts n up) =
     pass-losses is_unfailing d (act.Up n (flag_of (node d past n).doubt false) ∷ past) n
     (number_order (script_numbers d.scripts)) (λ t. refl)
-shape-unfailing d past i e (begins s is new up) =
-    unfailing-acts past s.home (begin_outs s.home (participant (view d past s.home)) s)
-    (pass-begin is_unfailing (λ t n sid0. refl) (λ t j v. refl) (λ t. refl) s.home (participant (view d past s.home)) s)
+shape-unfailing d past i e (begins s is new up quiet) =
+    unfailing-acts past s.home (begin_outs s.home (participant (view d past s.home)) s (floor_at d past s))
+    (pass-begin is_unfailing (λ t n sid0. refl) (λ t j v. refl) (λ t. refl) s.home (participant (view d past s.home)) s (floor_at d past s))
 shape-unfailing d past i e (delivers m x is up) =
     unfailing-acts past x.to (answer x.to (view d past x.to) x.from x.message)
     (pass-answer is_unfailing x.to (view d past x.to) x.from x.message (row-unfailing x.to x.message))
@@ -173,8 +174,8 @@ shape-same d past i c before (idle acts is) e = refl
 shape-same d past i c before (arms n k how is) e = refl
 shape-same d past i c before (crashes n up) e = refl
 shape-same d past i c before (restarts n up) e = same-opened d past n c.opens c.finds before e
-shape-same d past i c before (begins s is new up) e =
-    same-kept c.keeps (next_number past) s.home (begin_outs s.home (participant (view d past s.home)) s) e
+shape-same d past i c before (begins s is new up quiet) e =
+    same-kept c.keeps (next_number past) s.home (begin_outs s.home (participant (view d past s.home)) s (floor_at d past s)) e
 shape-same d past i c before (delivers m x is up) e =
     ap (λ z. act.Got m ∷ z)
     (same-kept c.keeps (next_number past) x.to (answer x.to (view d past x.to) x.from x.message) e)

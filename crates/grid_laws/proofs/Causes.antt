@@ -24,8 +24,9 @@ use Rattle.grid_model.specs.declared.stories.HeldRead.{HeldRead}
 use Rattle.grid_model.specs.declared.stories.Story.{Story}
 use Rattle.grid_model.specs.Documents.{DocumentData}
 use Rattle.grid_model.specs.Histories.{sent, sent_at}
-use Rattle.journal_words.specs.Journals.{Decision, commit_id, ended, floor, holder, is_clear, newer, pending, undone, fits_outcome}
+use Rattle.journal_words.specs.Journals.{decision, Decision, commit_id, ended, floor, holder, is_clear, newer, pending, undone, fits_outcome}
 use Rattle.grid_model.specs.Nodes.{node, journal, script_of, parts_of}
+use Rattle.grid_model.specs.Sessions.{first_at, is_busy_at}
 use Rattle.grid_model.specs.Stories.{phase, is_open, story}
 use Rattle.script_runs.specs.Waits.{waiting}
 use Rattle.grid_model.specs.Views.{Commits, view, stage}
@@ -103,7 +104,9 @@ pub record BeganDue (d : DocumentData) (past : List Act) (t : TxId) (n : NodeId)
   pub home : script.home ≡ n
   pub up : IsUp d past n
   pub new : story d past t ≡ None
-  pub ident : sid0 ≡ commit_id (journal d past n)
+  pub undecided : decision script.number (journal d past n) ≡ None
+  pub quiet : is_busy_at d past script ≡ false
+  pub ident : sid0 ≡ first_at d past script
 
 pub record TakenDue (d : DocumentData) (past : List Act) (t : TxId) (op : ℕ) (sid : Ident) (v : Value) : Type 0 where
   pub n : NodeId

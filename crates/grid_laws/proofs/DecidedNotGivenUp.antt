@@ -22,7 +22,7 @@ use Rattle.grid_model.specs.Facts.{IsDecided, is_given_up}
 use Rattle.grid_model.proofs.Undecided.{script-number}
 use Rattle.grid_laws.proofs.Causes.{AbortedDue, AllDue, IsDue, IsUp, LostDue}
 use Rattle.grid_laws.proofs.NodesFitActs.{nodes-fit}
-use Rattle.grid_laws.proofs.OpenPhases.{open-undecided}
+use Rattle.grid_laws.proofs.DecisionsCount.{open-decided-never}
 use Rattle.grid_laws.proofs.OpenNotGivenUp.{given-either, open-not-given-up}
 use Rattle.grid_laws.proofs.KnownDecisions.{Decides, adds, adds-due, decided-has, has_tx, known, known-changed, known-written, undecided-none}
 use Rattle.grid_laws.proofs.EndsMeant.{abort-given-up}
@@ -76,7 +76,7 @@ running-unknown d past n t all r home =
     let Q : TxId → Type 0 = λ u. decision u (journal d past r.script.home) ≡ None in
     let h : Node = node d past r.script.home in
     let quiet : h.doubt ≡ None = (nodes-fit d past all r.script.home).quiet r.up in
-    let none : decision t h.journal ≡ None = subst Q (script-number t d.scripts r.script r.is) (open-undecided r.script (story d past r.script.number) h r.unended) in
+    let none : decision t h.journal ≡ None = subst Q (script-number t d.scripts r.script r.is) (open-decided-never d past all r.script r.unended) in
     let R : Option Record → Type 0 = λ o. has_tx t (decisions (written o h.journal)) ≡ false in
     subst P at (subst R (sym quiet) (undecided-none t h.journal none))
 

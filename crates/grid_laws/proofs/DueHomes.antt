@@ -18,10 +18,11 @@ use Rattle.grid_model.specs.declared.events.Out.TheVariants as out
 use Rattle.grid_model.specs.declared.messages.Message.{Message}
 use Rattle.grid_model.specs.declared.messages.Message.TheVariants as message
 use Rattle.grid_model.specs.declared.stories.Story.{Story}
+use Rattle.grid_model.specs.Sessions.{floor_at, first_at, is_busy_at}
 use Rattle.grid_model.specs.Documents.{DocumentData}
 use Rattle.journal_words.specs.Journals.{Decision, commit_id, decision, undone}
 use Rattle.grid_model.specs.Nodes.{node, journal, script_of, parts_of}
-use Rattle.grid_model.specs.Stories.{phase_at, is_open, story, begun}
+use Rattle.grid_model.specs.Stories.{phase_at, is_open, story, begun_in, over_at}
 use Rattle.script_runs.specs.Waits.{waiting}
 use Rattle.grid_model.specs.Views.{Stage, Apart, Reads, Collects, Commits, open_of, stage, view, participant}
 use Rattle.grid_model.specs.Advances.{advance, advance_end, prepare_for, prepares, request, request_of, to_node}
@@ -84,14 +85,14 @@ due-advance d past n m s x i at unended =
 
 -- ---- a begin
 
-pub story-began : (d : DocumentData) (past : List Act) (t : TxId) (n : NodeId) (sid0 : Ident) → story d (act.Began t n sid0 ∷ past) t ≡ Some (begun sid0)
+pub story-began : (d : DocumentData) (past : List Act) (t : TxId) (n : NodeId) (sid0 : Ident) → story d (act.Began t n sid0 ∷ past) t ≡ Some (begun_in d (node d past) t sid0)
 story-began d past t n sid0 = rw (same-number t) refl
 
-pub due-begin : (d : DocumentData) (past : List Act) (m : ℕ) (s : ScriptData) → script_of s.number d.scripts ≡ Some s → IsUp d past s.home → story d past s.number ≡ None → decision s.number (journal d past s.home) ≡ None → OutsDue d past s.home m (begin_outs s.home (participant (view d past s.home)) s)
-due-begin d past m s is up new none =
-    let sid0 : Ident = commit_id (journal d past s.home) in (
-      record { script = s; is = is; home = refl; up = up; new = new; ident = refl },
-      due-advance d (act.Began s.number s.home sid0 ∷ past) s.home m s (begun sid0) 0 (record { script = is; home = refl; story = story-began d past s.number s.home sid0 }) (open-begun s sid0 (node d past s.home) none),
+pub due-begin : (d : DocumentData) (past : List Act) (m : ℕ) (s : ScriptData) → script_of s.number d.scripts ≡ Some s → IsUp d past s.home → story d past s.number ≡ None → is_busy_at d past s ≡ false → decision s.number (journal d past s.home) ≡ None → OutsDue d past s.home m (begin_outs s.home (participant (view d past s.home)) s (floor_at d past s))
+due-begin d past m s is up new quiet none =
+    let sid0 : Ident = first_at d past s in (
+      record { script = s; is = is; home = refl; up = up; new = new; undecided = none; quiet = quiet; ident = refl },
+      due-advance d (act.Began s.number s.home sid0 ∷ past) s.home m s (begun_in d (node d past) s.number sid0) 0 (record { script = is; home = refl; story = story-began d past s.number s.home sid0 }) (open-begun s (over_at (node d past) (script_of s.number d.scripts)) sid0 (node d past s.home) none),
     )
 
 -- ---- retries

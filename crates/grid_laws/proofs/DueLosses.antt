@@ -1,6 +1,6 @@
 -- A node that is opened loses its open transactions: each loss is due, in the order of their numbers.
 use Rattle.std.proofs.lemmas.Bool.{and_parts}
-use Rattle.std.proofs.Common.{◌≡◌, ◌<◌, Bool, true, false, List, [], ◌∷◌, ◌++◌, Option, Some, None, refl, sym, subst, ◌∙◌, arith}
+use Rattle.std.proofs.Common.{ℕ, ◌≡◌, ◌<◌, Bool, true, false, List, [], ◌∷◌, ◌++◌, Option, Some, None, refl, sym, subst, ◌∙◌, arith}
 use Rattle.std.proofs.lemmas.Bool.Decides.{nat_tests}
 use Rattle.std.specs.Prelude.{◌==◌, ◌&&◌, fold, if◌then◌else◌}
 use Rattle.std.specs.List.{flat_map}
@@ -16,12 +16,14 @@ use Rattle.grid_model.specs.declared.acts.Act.TheVariants as act
 use Rattle.grid_model.specs.declared.acts.Flag.{Flag}
 use Rattle.grid_model.specs.declared.stories.Story.{Story}
 use Rattle.grid_model.specs.Documents.{DocumentData, number_order, script_numbers}
-use Rattle.journal_words.specs.Journals.{decision}
+use Rattle.journal_words.specs.Journals.{later_decision}
+use Rattle.journal_words.proofs.Later.{later-more}
+use Rattle.grid_model.proofs.Growing.{journal-before}
 use Rattle.grid_model.specs.Nodes.{Node, node, script_of, got, change}
-use Rattle.grid_model.specs.Stories.{story, phase, is_open, if_told}
+use Rattle.grid_model.specs.Stories.{story, phase, is_open, if_told, skipped_in}
 use Rattle.grid_model.specs.Schedules.{lost_at, losses}
 use Rattle.grid_model.specs.Claims.{was_open}
-use Rattle.grid_model.proofs.Undecided.{script-number, decision-before}
+use Rattle.grid_model.proofs.Undecided.{script-number}
 use Rattle.grid_laws.proofs.Causes.{AreDue, LostDue}
 use Rattle.grid_laws.proofs.Frames.{same-number}
 use Rattle.grid_laws.proofs.OpenPhases.{open-there, open-undecided}
@@ -68,8 +70,9 @@ rising-fold ks (t ∷ ts) h = rising-fold (insert_key nat_cmp ks t) ts (rising-i
 open-before : (d : DocumentData) (past : List Act) (n : NodeId) (f : Flag) (s : ScriptData) → is_open (phase d (act.Up n f ∷ past) s) ≡ true → is_open (phase d past s) ≡ true
 open-before d past n f s e =
     let h : Node = node d past s.home in
-    let none : decision s.number (node d (act.Up n f ∷ past) s.home).journal ≡ None = open-undecided s (story d past s.number) (node d (act.Up n f ∷ past) s.home) e in
-    open-there s (story d past s.number) (node d (act.Up n f ∷ past) s.home) h e (decision-before s.number (change d (got past) (act.Up n f) s.home) h none)
+    let k : ℕ = skipped_in (story d past s.number) in
+    let none : later_decision k s.number (node d (act.Up n f ∷ past) s.home).journal ≡ None = open-undecided s (story d past s.number) (node d (act.Up n f ∷ past) s.home) e in
+    open-there s (story d past s.number) (node d (act.Up n f ∷ past) s.home) h e (journal-before (λ r. later_decision k s.number r ≡ None) (λ x r i. later-more k s.number x r i) d past (act.Up n f) s.home none)
 
 was-open : (d : DocumentData) (past : List Act) (n : NodeId) (f : Flag) (t : TxId) (s : ScriptData) → script_of t d.scripts ≡ Some s → s.home ≡ n → is_open (phase d (act.Up n f ∷ past) s) ≡ true → was_open d t (act.Up n f ∷ past) ≡ true
 was-open d past n f t s is home e =

@@ -11,6 +11,7 @@ use Rattle.grid_model.specs.declared.acts.Flag.{Flag}
 use Rattle.grid_model.specs.declared.acts.Flag.TheVariants as flag
 use Rattle.grid_model.specs.declared.events.Out.{Out}
 use Rattle.grid_model.specs.declared.items.Item.{Item}
+use Rattle.grid_model.specs.Sessions.{floor_at}
 use Rattle.grid_model.specs.Documents.{DocumentData}
 use Rattle.grid_model.specs.Nodes.{node, script_of, journal}
 use Rattle.grid_model.specs.Stories.{story}
@@ -59,7 +60,7 @@ due-shape d past i c answered none (idle acts is) = due-idle d past acts is
 due-shape d past i c answered none (arms n k how is) = (tt, tt)
 due-shape d past i c answered none (crashes n up) = (up, tt)
 due-shape d past i c answered none (restarts n up) = due-restart d past n (flag_of (node d past n).doubt c.finds) c.opens
-due-shape d past i c answered none (begins s is new up) = due-outs d past c s.home (begin_outs s.home (participant (view d past s.home)) s) (due-begin d past (next_number past) s is up new (none s.number s is new))
+due-shape d past i c answered none (begins s is new up quiet) = due-outs d past c s.home (begin_outs s.home (participant (view d past s.home)) s (floor_at d past s)) (due-begin d past (next_number past) s is up new quiet (none s.number s is new))
 due-shape d past i c answered none (delivers m e is up) = ((e, is, up), acts-due d (act.Got m ∷ past) e.to (next_number past) c.keeps (answer e.to (view d past e.to) e.from e.message) (due-answer d past e.to m (next_number past) e.from e.message answered up is))
 due-shape d past i c answered none (again n os up is) = due-outs d past c n os (due-again d past n os answered is)
 

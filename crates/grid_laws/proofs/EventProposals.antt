@@ -12,6 +12,7 @@ use Rattle.grid_model.specs.declared.acts.Flag.{Flag}
 use Rattle.grid_model.specs.declared.events.Out.{Out}
 use Rattle.grid_model.specs.declared.items.Item.{Item}
 use Rattle.grid_model.specs.declared.items.Item.TheVariants as item
+use Rattle.grid_model.specs.Sessions.{floor_at}
 use Rattle.grid_model.specs.Documents.{DocumentData, events_of, number_order, script_numbers}
 use Rattle.grid_model.specs.Histories.{after}
 use Rattle.grid_model.specs.Nodes.{node}
@@ -50,9 +51,9 @@ one-shape d past i c (idle acts is) = omega (arith, none-idle acts is)
 one-shape d past i c (arms n k how is) = omega arith
 one-shape d past i c (crashes n up) = omega arith
 one-shape d past i c (restarts n up) = one-restart d past n (flag_of (node d past n).doubt c.finds) c.opens
-one-shape d past i c (begins s is new up) =
-    let os : List Out = begin_outs s.home (participant (view d past s.home)) s in
-    one-acts past c s.home os (from-none os (none-begin s.home (view d past s.home) s))
+one-shape d past i c (begins s is new up quiet) =
+    let os : List Out = begin_outs s.home (participant (view d past s.home)) s (floor_at d past s) in
+    one-acts past c s.home os (from-none os (none-begin s.home (view d past s.home) s (floor_at d past s)))
 one-shape d past i c (delivers m e is up) =
     let os : List Out = answer e.to (view d past e.to) e.from e.message in
     one-behind (act.Got m) (acts_of past c e.to os) refl (one-acts past c e.to os (one-answer e.to (view d past e.to) e.from e.message))

@@ -45,28 +45,6 @@ is_mute a = true
 pub journal-stays : (d : DocumentData) (past : List Act) (a : Act) (n : NodeId) → is_mute a ≡ true → journal d (a ∷ past) n ≡ journal d past n
 journal-stays d past a n h = grind arith
 
--- ---- a journal only grows
-
-changed-more : (T : List Record → Type 0) → ((x : Record) (r : List Record) → T r → T (x ∷ r)) → (c : Change) (x : Node) → T x.journal → T (changed c x).journal
-changed-more T grow Nothing x h = h
-changed-more T grow (Writes None) x h = h
-changed-more T grow (Writes (Some r)) x h = grow r x.journal h
-changed-more T grow (Raises sid) x h = h
-changed-more T grow (Holds o) x h = h
-changed-more T grow (Frees t op k sid) x h = h
-changed-more T grow (Stops o) x h = h
-changed-more T grow (Starts false) x h = h
-changed-more T grow (Starts true) x h = found-more x.doubt
-  where
-    found-more : (o : Option Record) → T (found true o x.journal)
-    found-more None = h
-    found-more (Some r) = grow r x.journal h
-changed-more T grow Stays x h = h
-
--- what a further record leaves true stays true
-pub journal-more : (T : List Record → Type 0) → ((x : Record) (r : List Record) → T r → T (x ∷ r)) → (d : DocumentData) (past : List Act) (a : Act) (n : NodeId) → T (journal d past n) → T (journal d (a ∷ past) n)
-journal-more T grow d past a n h = changed-more T grow (change d (got past) a n) (node d past n) h
-
 -- ---- the reads that are held were held once
 
 pub in-append : (h x : HeldRead) (hs : List HeldRead) → IsIn h (hs ++ x ∷ []) → IsIn h hs ⊎ (x ≡ h)

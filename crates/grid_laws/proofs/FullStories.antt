@@ -13,7 +13,7 @@ use Rattle.grid_model.specs.declared.acts.Act.TheVariants as act
 use Rattle.grid_model.specs.declared.stories.Story.{Story}
 use Rattle.grid_model.specs.Documents.{DocumentData}
 use Rattle.grid_model.specs.Nodes.{script_of, Node, node, parts_of, is_home}
-use Rattle.grid_model.specs.Stories.{story, told, if_told, first_sid, with_value, begun, progressed, Phase, asked, heard, heard_at, with_vote, with_ack}
+use Rattle.grid_model.specs.Stories.{story, told, if_told, first_sid, with_value, begun_in, progressed, Phase, asked, heard, heard_at, with_vote, with_ack}
 use Rattle.grid_model.specs.Histories.{sent, sent_at}
 use Rattle.script_runs.specs.Waits.{waiting}
 use Rattle.grid_model.specs.Copies.{snapshot, snapshot_in}
@@ -97,7 +97,7 @@ began-other d past u t n sid0 x due told same =
 pub full-more : (d : DocumentData) (past : List Act) (a : Act) (n : NodeId) (t : TxId) (s : ScriptData) (sid : Ident) (values : List (ℕ × Value)) → AllDue d (a ∷ past) → Full d past n t s sid values → Full d (a ∷ past) n t s sid values
 full-more d past (act.Began u k sid0) n t s sid values due f =
     let other : u ≢ t = began-other d past u t k sid0 f.story due.0 f.at.story in
-    keeps-full d past (act.Began u k sid0 ∷ past) n t s sid values f (story d (act.Began u k sid0 ∷ past) t) refl (else-keeps f.story (u == t) (Some (begun sid0)) (story d past t) (grind (arith, nat_tests)) (keeps-self d past t f.story f.at.story))
+    keeps-full d past (act.Began u k sid0 ∷ past) n t s sid values f (story d (act.Began u k sid0 ∷ past) t) refl (else-keeps f.story (u == t) (Some (begun_in d (node d past) t sid0)) (story d past t) (grind (arith, nat_tests)) (keeps-self d past t f.story f.at.story))
 full-more d past (act.Taken u op i v) n t s sid values due f =
     let reads : waiting s.ops f.story.progress.values ≡ None = ap (waiting s.ops) f.told ∙ f.full in
     let other : u ≢ t = taken-other d past u t op i v s f.story due.0 f.at.script f.at.story reads in

@@ -5,6 +5,7 @@ pub mod MessageCauses
 pub mod Causes
 pub mod Frames
 pub mod OpenPhases
+pub mod DecisionsCount
 pub mod DueActs
 pub mod DueReads
 pub mod DueParts
@@ -31,11 +32,13 @@ pub mod DecisionsRest
 pub mod AbortsFinal
 pub mod ClosedSay
 pub mod LowWords
+pub mod FloorsLow
 pub mod ActsLow
 pub mod OutProposals
 pub mod EventProposals
 pub mod SmallIdents
 pub mod Snapshots
+pub mod Begins
 pub mod PartsRise
 pub mod ScriptKeys
 pub mod PreparesFit
@@ -51,6 +54,7 @@ pub mod CausesShown
 pub mod RequestsFit
 pub mod ReadsDated
 pub mod RepliesFit
+pub mod SnapshotsAbove
 pub mod BegunFit
 pub mod DeliveredFit
 pub mod Instances

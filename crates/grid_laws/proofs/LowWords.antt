@@ -23,7 +23,7 @@ use Rattle.grid_model.specs.Documents.{DocumentData}
 use Rattle.grid_model.specs.Histories.{sent, sent_at}
 use Rattle.journal_words.specs.Journals.{floor, Decision, decision}
 use Rattle.grid_model.specs.Nodes.{got, node, script_of, parts_in, parts_of, is_home, Node, Change, Nothing, Writes, Raises, Holds, Frees, Stops, Starts, Stays, change, changed, found, learnt, prepared_by, prepared_from, doubt_of, freed, is_request, said_by, held_by, is_kept, where_at}
-use Rattle.grid_model.specs.Stories.{Phase, story, asked, heard, heard_at, if_told, first_sid, with_vote, with_ack, has_voted, with_value, begun, progressed}
+use Rattle.grid_model.specs.Stories.{Phase, story, asked, heard, heard_at, if_told, first_sid, with_vote, with_ack, has_voted, with_value, begun_in, progressed}
 use Rattle.grid_model.specs.Acts.{EachAct}
 use Rattle.grid_model.specs.Facts.{IsAtMost, act_ident, head_ident, message_ident, outcome_ident}
 use Rattle.grid_model.specs.Rows.{greatest_vote}
@@ -202,7 +202,7 @@ low-asked m d t (message.ReadReq q) o k = if-low m (q.t == t) _ o (λ x j. j) k
 low-asked m d t said o k = k
 
 low-told : (m : ℕ) (d : DocumentData) (past : List Act) (a : Act) (t : TxId) → EachAct (IsAtMost m) past → act_ident a ≤ m → IsLowStory m (story d past t) → IsLowStory m (story d (a ∷ past) t)
-low-told m d past (act.Began u n sid0) t all h k = either-low m (u == t) (Some (begun sid0)) (story d past t) (h, tt, omega arith) k
+low-told m d past (act.Began u n sid0) t all h k = either-low m (u == t) (Some (begun_in d (node d past) t sid0)) (story d past t) (h, tt, omega arith) k
 low-told m d past (act.Sent j x y said) t all h k = low-asked m d t said (story d past t) k
 low-told m d past (act.Got j) t all h k = low-got m d past (script_of t d.scripts) (sent_at j (sent past)) (story d past t) (λ e is. messages-low m past all j e is) k
 low-told m d past (act.Taken u op sid v) t all h k = if-low m (u == t) (progressed (with_value op sid v)) (story d past t) (λ x j. (j.0, first-low m x.progress.sid sid j.1 h, j.2)) k

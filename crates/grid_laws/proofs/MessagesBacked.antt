@@ -25,7 +25,8 @@ use Rattle.grid_model.specs.Acts.{EachSent, has_refused, is_same_cause}
 use Rattle.grid_model.specs.Facts.{has_served, Says, MessagesBacked, SaysIn, records_at}
 use Rattle.grid_laws.proofs.MessageCauses.{SendDue}
 use Rattle.grid_laws.proofs.Causes.{AllDue}
-use Rattle.grid_laws.proofs.Frames.{same-number, journal-more}
+use Rattle.grid_laws.proofs.Frames.{same-number}
+use Rattle.grid_model.proofs.Growing.{journal-more}
 use Rattle.script_lang.proofs.KeyLists.{same_key-self}
 use Rattle.journal_words.proofs.Decisions.{has_decided-grows, decision-has}
 use Rattle.journal_words.proofs.Stands.{has_prepared-grows, has_commit-grows, has_commit-is}

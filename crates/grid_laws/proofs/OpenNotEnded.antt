@@ -20,7 +20,7 @@ use Rattle.grid_model.proofs.Undecided.{script-number}
 use Rattle.grid_laws.proofs.MessageCauses.{AbortDue, SendDue, apart, given_up}
 use Rattle.grid_laws.proofs.Causes.{AllDue}
 use Rattle.grid_laws.proofs.NodesFitActs.{decision-home, nodes-fit}
-use Rattle.grid_laws.proofs.OpenPhases.{open-undecided}
+use Rattle.grid_laws.proofs.DecisionsCount.{open-decided-never}
 use Rattle.grid_laws.proofs.Holds.{sent-hold}
 use Rattle.grid_laws.proofs.AbortsFinal.{apart-gone, given-more}
 use Rattle.grid_laws.proofs.EndsMeant.{abort-given-up, commit-decided, is_decided-more}
@@ -28,13 +28,13 @@ use Rattle.grid_laws.proofs.OpenNotGivenUp.{open-not-given-up}
 use Rattle.grid_laws.proofs.DecidedNotGivenUp.{home-at}
 
 -- what is open is not decided
-pub open-not-decided : (d : DocumentData) (past : List Act) → (s : ScriptData) (t : TxId) → script_of t d.scripts ≡ Some s → is_open (phase d past s) ≡ true → (f : Ident) → IsDecided d past t f → ⊥
-open-not-decided d past s t is e f w =
+pub open-not-decided : (d : DocumentData) (past : List Act) → AllDue d past → (s : ScriptData) (t : TxId) → script_of t d.scripts ≡ Some s → is_open (phase d past s) ≡ true → (f : Ident) → IsDecided d past t f → ⊥
+open-not-decided d past all s t is e f w =
     let at : s.home ≡ w.0 = home-at d t w.0 s is w.1 in
     let says = has_decided-says t f (journal d past w.0) w.2 in
     let P : TxId → Type 0 = λ u. decision u (journal d past s.home) ≡ None in
     let Q : NodeId → Type 0 = λ k. decision t (journal d past k) ≡ None in
-    let none : decision t (journal d past w.0) ≡ None = subst Q at (subst P (script-number t d.scripts s is) (open-undecided s (story d past s.number) (node d past s.home) e)) in
+    let none : decision t (journal d past w.0) ≡ None = subst Q at (subst P (script-number t d.scripts s is) (open-decided-never d past all s e)) in
     let some : decision t (journal d past w.0) ≡ Some says.0 = says.1 in
     cc
 
@@ -44,7 +44,7 @@ open-not-ended d past all s t is e n = go (ended t (journal d past n)) refl
   where
     go : (o : Option Outcome) → ended t (journal d past n) ≡ o → o ≡ None
     go None i = refl
-    go (Some (outcome.Commit f)) i = absurd (open-not-decided d past s t is e f (commit-decided d past all n t f i))
+    go (Some (outcome.Commit f)) i = absurd (open-not-decided d past all s t is e f (commit-decided d past all n t f i))
     go (Some outcome.Abort) i = absurd (open-not-given-up d past all s t is e (abort-given-up d past all n t i))
 
 -- ---- what was told of it

@@ -13,7 +13,7 @@ use Rattle.grid_model.specs.declared.acts.Act.TheVariants as act
 use Rattle.grid_model.specs.declared.stories.Story.{Story}
 use Rattle.grid_model.specs.Documents.{DocumentData}
 use Rattle.grid_model.specs.Nodes.{node, script_of, Node, is_home}
-use Rattle.grid_model.specs.Stories.{story, phase, phase_at, begun, if_told, is_open, Phase, asked, heard, heard_at, with_vote, with_ack, progressed}
+use Rattle.grid_model.specs.Stories.{story, phase, phase_at, begun_in, if_told, is_open, Phase, asked, heard, heard_at, with_vote, with_ack, progressed}
 use Rattle.grid_model.specs.Histories.{sent, sent_at}
 use Rattle.grid_model.specs.Facts.{is_given_up}
 use Rattle.grid_model.proofs.Undecided.{script-number}
@@ -36,7 +36,7 @@ flagged-stays = record {
   lost = λ x i. or_right x.aborted true refl;
 }
 
-flagged-began : (d : DocumentData) (past : List Act) (u t : TxId) (n : NodeId) (sid0 : Ident) (b : Bool) → (u == t) ≡ b → BeganDue d past u n sid0 → IsFlagged (story d past t) → IsFlagged (if b then Some (begun sid0) else story d past t)
+flagged-began : (d : DocumentData) (past : List Act) (u t : TxId) (n : NodeId) (sid0 : Ident) (b : Bool) → (u == t) ≡ b → BeganDue d past u n sid0 → IsFlagged (story d past t) → IsFlagged (if b then Some (begun_in d (node d past) t sid0) else story d past t)
 flagged-began d past u t n sid0 true e due k =
     let same : u ≡ t = grind (arith, nat_tests) in
     let Q : TxId → Type 0 = λ w. story d past w ≡ None in

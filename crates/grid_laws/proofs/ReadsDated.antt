@@ -1,6 +1,7 @@
 -- Which identifier has a read: that of the snapshot, but for a first remote read.
-use Rattle.std.proofs.Common.{◌≡◌, ℕ, ◌⊎◌, inl, inr, Bool, true, false, List, [], ◌∷◌, Option, Some, None, refl, sym, ap, subst, ◌∙◌}
-use Rattle.std.specs.Prelude.{◌==◌, if◌then◌else◌}
+use Rattle.std.proofs.Common.{◌≡◌, ◌≤◌, ℕ, ◌⊎◌, inl, inr, Bool, true, false, List, [], ◌∷◌, Option, Some, None, refl, sym, ap, subst, ◌∙◌}
+use Rattle.std.proofs.Math.Nat.{le-max_left}
+use Rattle.std.specs.Prelude.{◌==◌, if◌then◌else◌, max}
 use Rattle.score_base.specs.declared.ids.TxId.{TxId}
 use Rattle.score_base.specs.declared.ids.NodeId.{NodeId}
 use Rattle.score_base.specs.declared.ids.Ident.{Ident}
@@ -23,13 +24,14 @@ use Rattle.grid_model.specs.Rows.{dated}
 use Rattle.grid_laws.proofs.Causes.{AllDue, IsDue, IsIn, SendDue, RequestDue, Requested, ReplyDue, MayServe, at_once, held, held_ever}
 use Rattle.grid_laws.proofs.Frames.{in-append}
 use Rattle.grid_laws.proofs.Holds.{got-hold, sent-hold}
+use Rattle.grid_laws.proofs.Begins.{BeganBelow, below-more, below-now}
 use Rattle.grid_laws.proofs.Snapshots.{HasSnapshot, snapshot-more, snapshot-told, story-step}
 
--- operation op is the first remote read of t, or sid is the snapshot of t
+-- operation op is the first remote read of t, which began at sid or below, or sid is the snapshot of t
 pub record IsDated (d : DocumentData) (past : List Act) (t : TxId) (op : ℕ) (sid : Ident) : Type 0 where
   pub script : ScriptData
   pub is : script_of t d.scripts ≡ Some script
-  pub dated : (waiting script.ops [] ≡ Some op) ⊎ HasSnapshot d past t sid
+  pub dated : ((waiting script.ops [] ≡ Some op) × BeganBelow d past t sid) ⊎ HasSnapshot d past t sid
 
 pub dated-more : (d : DocumentData) (past : List Act) (a : Act) (t : TxId) (op : ℕ) (sid : Ident) → AllDue d (a ∷ past) → IsDated d past t op sid → IsDated d (a ∷ past) t op sid
 dated-more d past a t op sid due h =
@@ -37,7 +39,7 @@ dated-more d past a t op sid due h =
       script = h.script;
       is = h.is;
       dated = elim h.dated [
-        | inl first ↦ inl first
+        | inl first ↦ inl (first.0, below-more d past a t sid due first.1)
         | inr later ↦ inr (snapshot-more d past a t sid due later)
       ];
     }
@@ -50,7 +52,11 @@ RequestDated d past q = (c : Ident) → IsDated d past q.t q.op (dated q.date c)
 
 request-due : (d : DocumentData) (past : List Act) (n y : NodeId) (q : ReadReq) → AllDue d past → RequestDue d past n y q → RequestDated d past q
 request-due d past n y q all due c = elim (story-step d past q.t due.script due.story all due.at.script due.at.story) [
-  | inl none ↦ record { script = due.script; is = due.at.script; dated = inl (ap (waiting due.script.ops) (sym none.1) ∙ due.reads) }
+  | inl none ↦
+      let reads : waiting due.script.ops [] ≡ Some q.op = ap (waiting due.script.ops) (sym none.1) ∙ due.reads in
+      let date : dated q.date c ≡ max due.story.progress.sid0 c = ap (λ z. dated z c) due.date ∙ ap (λ o. dated (date_by due.story.progress.sid0 o) c) none.0 in
+      let above : due.story.progress.sid0 ≤ dated q.date c = rw date (le-max_left due.story.progress.sid0 c) in
+      record { script = due.script; is = due.at.script; dated = inl (reads, below-now d past q.t due.story (dated q.date c) due.at.story above) }
   | inr some ↦
       let date : dated q.date c ≡ some.sid = ap (λ z. dated z c) due.date ∙ ap (λ o. dated (date_by due.story.progress.sid0 o) c) some.is in
       record { script = due.script; is = due.at.script; dated = inr (snapshot-told d past q.t due.story (dated q.date c) due.at.story (some.is ∙ ap (λ z. Some z) (sym date))) }
@@ -146,3 +152,7 @@ replies-due d past n y said all due = tt
 -- each reply that was sent
 pub reply-dated : (d : DocumentData) (past : List Act) (m : ℕ) (x y : NodeId) (q : ReadRep) → AllDue d past → sent_at m (sent past) ≡ Some (record { from = x; to = y; message = message.ReadRep q }) → IsDated d past q.t q.op q.sid
 reply-dated d past m x y q due is = sent-hold (RepliesDated d) d past (λ now a n y said all h. replies-more d now a n y said all h) (λ now n y said all h. replies-due d now n y said all h) due m (record { from = x; to = y; message = message.ReadRep q }) is
+
+-- the reply that was got last
+pub reply-got : (d : DocumentData) (past : List Act) (x n : NodeId) (q : ReadRep) → AllDue d past → got past ≡ Some (record { from = x; to = n; message = message.ReadRep q }) → IsDated d past q.t q.op q.sid
+reply-got d past x n q due is = got-hold (RepliesDated d) d past (λ now a n y said all h. replies-more d now a n y said all h) (λ now n y said all h. replies-due d now n y said all h) due (record { from = x; to = n; message = message.ReadRep q }) is

@@ -49,7 +49,7 @@ same-ident d past n t op sid x due h o =
     let told : x.progress.sid ≡ o.story.progress.sid = ap (λ (z : Open). z.progress.sid) o.is in
     elim h.dated [
       | inl first ↦
-          let begins : waiting o.script.ops [] ≡ Some op = ap (λ (z : ScriptData). waiting z.ops []) (sym same) ∙ first in
+          let begins : waiting o.script.ops [] ≡ Some op = ap (λ (z : ScriptData). waiting z.ops []) (sym same) ∙ first.0 in
           elim (story-step d past t o.script o.story due o.at.script o.at.story) [
             | inl none ↦ none-same sid x.progress.sid (told ∙ none.0)
             | inr some ↦ absurd (first-untaken o.script.ops o.story.progress.sid o.story.progress.values op begins o.reads some)

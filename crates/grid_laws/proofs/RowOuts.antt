@@ -43,7 +43,7 @@ use Rattle.grid_model.specs.Stories.{has_voted, is_open, phase, with_value}
 use Rattle.grid_model.specs.Views.{Apart, Collects, Commits, Open, Participant, Reads, Stage, View, participant, stage, view}
 use Rattle.grid_model.specs.Advances.{advance, advance_end, owns, parts_now, prepares, request_of, to_node}
 use Rattle.grid_model.specs.Fitness.{is_fit_at, tx_in}
-use Rattle.grid_model.specs.Rows.{abort_outs, ack_outs, answer, answered, are_all_among, asked_outs, ballot_outs, begin_outs, begun_at, ceiling_of, ceilings, closed_outs, commit_outs, decides, freed_by, greatest_vote, have_voted, if_pending, judged, not_among, not_voted, prepared_outs, raises, read_outs, release, reply_outs, retry_outs, message_outs, served, tell_outs, tells, version_for, vote_outs}
+use Rattle.grid_model.specs.Rows.{first_ident, abort_outs, ack_outs, answer, answered, are_all_among, asked_outs, ballot_outs, begin_outs, begun_at, ceiling_of, ceilings, closed_outs, commit_outs, decides, freed_by, greatest_vote, have_voted, if_pending, judged, not_among, not_voted, prepared_outs, raises, read_outs, release, reply_outs, retry_outs, message_outs, served, tell_outs, tells, version_for, vote_outs}
 use Rattle.grid_model.specs.Schedules.{broken, head_at, head_of, kept, lost_at, numbered, start_act, stopped}
 use Rattle.grid_model.proofs.EventShapes.{IsAgain, asks, retries}
 use Rattle.grid_laws.proofs.Frames.{same-number}
@@ -372,9 +372,9 @@ pass-answer f n v x said go =
 -- so do the outs of a begin
 pub pass-begin : (f : Act → Bool) → ((t : TxId) (n : NodeId) (sid0 : Ident) → f (act.Began t n sid0) ≡ true)
     → ((t : TxId) (j : ℕ) (v : Value) → f (act.Own t j v) ≡ true) → ((t : TxId) → f (act.Finished t) ≡ true)
-    → (n : NodeId) (p : Participant) (s : ScriptData) → Pass f (begin_outs n p s)
-pass-begin f began own finished n p s =
-    let sid0 : Ident = commit_id p.journal in
+    → (n : NodeId) (p : Participant) (s : ScriptData) (floor : Ident) → Pass f (begin_outs n p s floor)
+pass-begin f began own finished n p s floor =
+    let sid0 : Ident = first_ident p floor in
     pass-act f (act.Began s.number n sid0) (advance p.cluster (begun_at s sid0) 0) (began s.number n sid0)
     (pass-advance f own finished p.cluster (begun_at s sid0) 0)
 

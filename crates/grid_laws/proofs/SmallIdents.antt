@@ -30,7 +30,7 @@ identifiers-below d items h run =
 abbrev pub IsLow : List Act → Type 0
 IsLow past = EachAct (IsAtMost 3200000) past
 
-small : (i : Ident) → i ≤ 3200000 → is_small i ≡ true
+pub small : (i : Ident) → i ≤ 3200000 → is_small i ≡ true
 small i h = grind (arith, nat_tests, h)
 
 -- no identifier of a run of at most 50,000 events

@@ -14,7 +14,7 @@ use Rattle.grid_model.specs.declared.acts.Act.TheVariants as act
 use Rattle.grid_model.specs.declared.stories.Story.{Story}
 use Rattle.grid_model.specs.Documents.{DocumentData}
 use Rattle.grid_model.specs.Nodes.{script_of, Node, node, parts_of, is_home}
-use Rattle.grid_model.specs.Stories.{story, if_told, first_sid, with_value, begun, progressed, Phase, asked, heard, heard_at, phase_at, with_vote, with_ack}
+use Rattle.grid_model.specs.Stories.{story, if_told, first_sid, with_value, begun_in, progressed, Phase, asked, heard, heard_at, phase_at, with_vote, with_ack}
 use Rattle.grid_model.specs.Histories.{sent, sent_at}
 use Rattle.script_runs.specs.Waits.{value_taken, waiting}
 use Rattle.script_runs.proofs.Walks.{taken-stays, taken-new, waiting-open}
@@ -51,7 +51,7 @@ taken-of N Q d past u t op sid v true (Some x) e told due go k =
 -- the claim stays, where it holds of a story that begins and of one that takes a value
 pub of-more : (N : Type 0) (Q : Option Ident → List (ℕ × Value) → Type 0) (d : DocumentData) (past : List Act) (a : Act) (t : TxId) → (N → Q None []) → ((op : ℕ) (sid : Ident) (v : Value) (w : TakenDue d past t op sid v) → Q w.story.progress.sid w.story.progress.values → Q (Some (first_sid w.story.progress.sid sid)) (w.story.progress.values ++ (op, v) ∷ [])) → AllDue d (a ∷ past) → OfStory N Q (story d past t) → OfStory N Q (story d (a ∷ past) t)
 of-more N Q d past (act.Began u n sid0) t began taken due k =
-    else-claim (OfStory N Q) (u == t) (Some (begun sid0)) (story d past t)
+    else-claim (OfStory N Q) (u == t) (Some (begun_in d (node d past) t sid0)) (story d past t)
     (λ e. began-of N Q d past u t n sid0 due.0 began k e) k
 of-more N Q d past (act.Taken u op sid v) t began taken due k = taken-of N Q d past u t op sid v (u == t) (story d past t) refl refl due.0 (taken op sid v) k
 of-more N Q d past a t began taken due k = untaking-claim (OfStory N Q) (of-stays N Q) d past a t refl k

@@ -20,7 +20,7 @@ use Rattle.grid_model.specs.declared.stories.Voted.{Voted}
 use Rattle.grid_model.specs.Documents.{DocumentData}
 use Rattle.grid_model.specs.Histories.{sent, sent_at}
 use Rattle.grid_model.specs.Nodes.{Node, node, journal, script_of, parts_of, is_home}
-use Rattle.grid_model.specs.Stories.{Phase, Collecting, story, asked, heard, heard_at, if_told, phase_at, with_vote, with_ack, has_voted, is_counted_vote, is_counted_ack, begun, progressed}
+use Rattle.grid_model.specs.Stories.{Phase, Collecting, story, asked, heard, heard_at, if_told, phase_at, with_vote, with_ack, has_voted, is_counted_vote, is_counted_ack, begun_in, progressed}
 use Rattle.journal_words.specs.Journals.{has_prepared, has_commit}
 use Rattle.grid_model.specs.Facts.{parts_at, Says}
 use Rattle.grid_model.specs.Rows.{greatest_vote, have_voted, are_all_among}
@@ -124,7 +124,7 @@ backed-asked d past t (message.ReadReq q) o k = if-backed d past t (q.t == t) _ 
 backed-asked d past t said o k = k
 
 backed-told : (d : DocumentData) (past : List Act) (a : Act) (t : TxId) → AllDue d past → StoryBacked d (a ∷ past) t (story d past t) → StoryBacked d (a ∷ past) t (story d (a ∷ past) t)
-backed-told d past (act.Began u n sid0) t all k = either-backed d (act.Began u n sid0 ∷ past) t (u == t) (Some (begun sid0)) (story d past t) (λ e. (tt, tt)) k
+backed-told d past (act.Began u n sid0) t all k = either-backed d (act.Began u n sid0 ∷ past) t (u == t) (Some (begun_in d (node d past) t sid0)) (story d past t) (λ e. (tt, tt)) k
 backed-told d past (act.Sent m x y said) t all k = backed-asked d (act.Sent m x y said ∷ past) t said (story d past t) k
 backed-told d past (act.Got m) t all k = backed-got d (act.Got m ∷ past) past t (script_of t d.scripts) (sent_at m (sent past)) (story d past t) refl (λ e is. says-more d past (act.Got m) e.from e.message (says-sent d past all m e is)) k
 backed-told d past (act.Taken u j sid v) t all k = if-backed d (act.Taken u j sid v ∷ past) t (u == t) _ (story d past t) (λ e x i. i) k

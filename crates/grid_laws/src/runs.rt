@@ -75,10 +75,10 @@ pub fn law_fit()
     ensures { (d : DocumentData) (h : List Act) → IsOne d → IsRun d d.items h → DeliveredFit d h }
 {}
 
-/// Each transaction that begins in a run is fit to begin: its home is the node, and its number is not at
-/// the desk there.
+/// Each transaction that begins in a run is fit to begin: its home is the node, the floor of its session is
+/// below 2^22, and its number is not at the desk there.
 pub fn law_begun_fit()
-    ensures { (d : DocumentData) (h : List Act) → IsRun d d.items h → BeginsFit d (after [] h) }
+    ensures { (d : DocumentData) (h : List Act) → IsOne d → IsRun d d.items h → BeginsFit d (after [] h) }
 {}
 
 /// The facts on which one copy rests hold of every run, stops and restarts included.

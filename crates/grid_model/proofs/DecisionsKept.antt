@@ -20,9 +20,10 @@ use Rattle.grid_model.specs.declared.stories.Story.{Story}
 use Rattle.grid_model.specs.Documents.{DocumentData}
 use Rattle.grid_model.specs.Histories.{after, sent, sent_at}
 use Rattle.grid_model.proofs.PlainOuts.{both}
+use Rattle.grid_model.proofs.Undecided.{begins, skipped-told}
 use Rattle.journal_words.specs.Journals.{Decision, decision, undone, is_closed}
 use Rattle.grid_model.specs.Nodes.{Node, Change, Writes, Starts, Stops, node, journal, script_of, parts_of, is_home, got, change, changed, where_at, written, prepared_by, freed, parts_in, is_request, said_by}
-use Rattle.grid_model.specs.Stories.{Phase, story, told, begun, heard, heard_at, if_told, phase_at, with_vote, with_ack, with_value, with_request, without_answers, progressed}
+use Rattle.grid_model.specs.Stories.{Phase, story, told, begun, skipped_in, over_at, heard, heard_at, if_told, phase_at, with_vote, with_ack, with_value, with_request, without_answers, progressed}
 use Rattle.grid_model.specs.NextViews.{OwnDecisions, is_own_decision, is_running}
 
 -- ---- the decisions of a node
@@ -73,8 +74,18 @@ is_kept_at d past n t = not (knows (node d past n) t) || (is_home d t n && is_ru
 abbrev pub DecisionsKept : DocumentData → List Act → Type 0
 DecisionsKept d past = (n : NodeId) (t : TxId) → IsTrue (is_kept_at d past n t)
 
--- a transaction that is decided runs; one that is lost is decided nowhere
+-- all that a home decided counts: no transaction began behind a Decided of its own
+abbrev pub AllCount : DocumentData → List Act → Type 0
+AllCount d past = (t : TxId) → skipped_in (story d past t) ≡ 0
+
+-- what each run keeps
+pub record Keeps (d : DocumentData) (past : List Act) : Type 0 where
+  pub decisions : DecisionsKept d past
+  pub count : AllCount d past
+
+-- a transaction that begins was not decided; one that is decided runs; one that is lost is decided nowhere
 abbrev pub Owes : DocumentData → List Act → Act → Type 0
+Owes d past (act.Began t n sid0) = over_at (node d past) (script_of t d.scripts) ≡ 0
 Owes d past (act.Decided t f) = IsTrue (is_running (story d past t))
 Owes d past (act.Down m (Some (head.Decided t f))) = IsTrue (is_home d t m && is_running (story d past t))
 Owes d past (act.Lost t) = (n : NodeId) → knows (node d past n) t ≡ false
@@ -101,13 +112,13 @@ runs-got d past (Some s) (Some e) o is = go (e.to == s.home)
     go true = runs-heard (parts_of d s) (phase_at s o (node d past s.home)) (node d past s.home) s.number e.from e.message o is
     go false = is
 
-begun-runs : (b : Bool) (sid0 : Ident) (o : Option Story) → IsTrue (is_running o) → IsTrue (is_running (if b then Some (begun sid0) else o))
-begun-runs true sid0 o is = refl
-begun-runs false sid0 o is = is
+begun-runs : (b : Bool) (k : ℕ) (sid0 : Ident) (o : Option Story) → IsTrue (is_running o) → IsTrue (is_running (if b then Some (begun k sid0) else o))
+begun-runs true k sid0 o is = refl
+begun-runs false k sid0 o is = is
 
 -- an act leaves it running, unless it is lost
 pub runs-on : (d : DocumentData) (past : List Act) (a : Act) (t : TxId) (o : Option Story) → ((u : TxId) → a ≡ act.Lost u → (u == t) ≡ false) → IsTrue (is_running o) → IsTrue (is_running (told d past a t o))
-runs-on d past (act.Began u n sid0) t o apart is = begun-runs (u == t) sid0 o is
+runs-on d past (act.Began u n sid0) t o apart is = begun-runs (u == t) (over_at (node d past) (script_of t d.scripts)) sid0 o is
 runs-on d past (act.Sent m x y (message.ReadReq q)) t o apart is = runs-told (q.t == t) (progressed (with_request _)) o (λ z. refl) is
 runs-on d past (act.Sent m x y said) t o apart is = is
 runs-on d past (act.Got m) t o apart is = runs-got d past (script_of t d.scripts) (sent_at m (sent past)) o is
@@ -173,14 +184,28 @@ still-runs : (d : DocumentData) (past : List Act) (a : Act) (n : NodeId) (t : Tx
 still-runs d past a n t is apart = let known = both (is_home d t n) (is_running (story d past t)) is in rw (known.0) (runs-on d past a t (story d past t) apart known.1)
 
 -- an act that gives what it owes keeps the decisions
-pub kept-step : (d : DocumentData) (past : List Act) (a : Act) → DecisionsKept d past → Owes d past a → DecisionsKept d (a ∷ past)
-kept-step d past a kept owed n t = go (knows (changed (change d (got past) a n) (node d past n)) t) (knows (node d past n) t) refl (adds (change d (got past) a n) t) refl (knows-changed (change d (got past) a n) (node d past n) t) (kept n t)
+decisions-step : (d : DocumentData) (past : List Act) (a : Act) → DecisionsKept d past → Owes d past a → DecisionsKept d (a ∷ past)
+decisions-step d past a kept owed n t = go (knows (changed (change d (got past) a n) (node d past n)) t) (knows (node d past n) t) refl (adds (change d (got past) a n) t) refl (knows-changed (change d (got past) a n) (node d past n) t) (kept n t)
   where
     go : (after before : Bool) → knows (node d past n) t ≡ before → (adding : Bool) → adds (change d (got past) a n) t ≡ adding → IsTrue (not after || (before || adding)) → IsTrue (not before || (is_home d t n && is_running (story d past t))) → IsTrue (not after || (is_home d t n && is_running (told d past a t (story d past t))))
     go false before at adding is from kept = refl
     go true true at adding is from kept = still-runs d past a n t kept (lost-apart d past a n t owed at)
     go true false at true is from kept = still-runs d past a n t (added d past (got past) a n t owed is) (added-apart d (got past) a n t is)
     go true false at false is from kept = grind arith
+
+begun-counts : (d : DocumentData) (past : List Act) (a : Act) (t : TxId) → Owes d past a → begins t a ≡ true → over_at (node d past) (script_of t d.scripts) ≡ 0
+begun-counts d past (act.Began u n sid0) t owed is =
+    let same : u ≡ t = grind (arith, nat_tests) in
+    subst (λ w. over_at (node d past) (script_of w d.scripts) ≡ 0) same owed
+begun-counts d past a t owed is = grind arith
+
+-- and what counts
+pub kept-step : (d : DocumentData) (past : List Act) (a : Act) → Keeps d past → Owes d past a → Keeps d (a ∷ past)
+kept-step d past a kept owed =
+    record {
+      decisions = decisions-step d past a kept.decisions owed;
+      count = λ t. skipped-told (λ k. k ≡ 0) d past a t (begun-counts d past a t owed) (kept.count t);
+    }
 
 -- ---- many acts
 
@@ -189,13 +214,13 @@ abbrev pub OweAll : DocumentData → List Act → List Act → Type 0
 OweAll d past [] = Unit {0}
 OweAll d past (a ∷ acts) = Owes d past a × OweAll d (a ∷ past) acts
 
-pub kept-after : (d : DocumentData) (past acts : List Act) → DecisionsKept d past → OweAll d past acts → DecisionsKept d (after past acts)
+pub kept-after : (d : DocumentData) (past acts : List Act) → Keeps d past → OweAll d past acts → Keeps d (after past acts)
 kept-after d past [] kept owed = kept
 kept-after d past (a ∷ acts) kept (now, later) = kept-after d (a ∷ past) acts (kept-step d past a kept now) later
 
 -- at the beginning nothing is decided
-pub kept-start : (d : DocumentData) → DecisionsKept d []
-kept-start d n t = refl
+pub kept-start : (d : DocumentData) → Keeps d []
+kept-start d = record { decisions = λ n t. refl; count = λ t. refl }
 
 undone-none : (closed : Bool) (o : Option Decision) → o ≡ None → is_none (if closed then None else o) ≡ true
 undone-none true o is = refl
@@ -206,8 +231,8 @@ or-right true c is = refl
 or-right false c is = is
 
 -- so the decisions that stand are a node's own
-pub kept-own : (d : DocumentData) (past : List Act) (n : NodeId) → DecisionsKept d past → OwnDecisions d past n
-kept-own d past n kept t = go (is_decided_in t (node d past n).doubt) (has_decided t (node d past n).journal) refl (kept n t)
+pub kept-own : (d : DocumentData) (past : List Act) (n : NodeId) → Keeps d past → OwnDecisions d past n
+kept-own d past n kept t = go (is_decided_in t (node d past n).doubt) (has_decided t (node d past n).journal) refl (kept.decisions n t)
   where
     go : (doubt stands : Bool) → has_decided t (journal d past n) ≡ stands → IsTrue (not (doubt || stands) || (is_home d t n && is_running (story d past t))) → IsTrue (is_own_decision d past n t)
     go doubt false at is = rw (undone-none (is_closed t (journal d past n)) (decision t (journal d past n)) (no-decided t (journal d past n) at)) refl

@@ -1,6 +1,6 @@
 -- The seven shapes of an event: what the row of each item is behind a past, by what the disks choose.
 -- What holds of each shape holds of each row, so that an item more opens this file alone.
-use Rattle.std.proofs.Common.{◌≡◌, ℕ, Bool, true, false, List, [], ◌∷◌, ◌++◌, Option, Some, None, refl, sym, subst, if◌then◌else◌}
+use Rattle.std.proofs.Common.{not, ◌≡◌, ℕ, Bool, true, false, List, [], ◌∷◌, ◌++◌, Option, Some, None, refl, sym, subst, if◌then◌else◌}
 use Rattle.std.specs.List.{list_all}
 use Rattle.score_base.specs.declared.ids.TxId.{TxId}
 use Rattle.score_base.specs.declared.ids.NodeId.{NodeId}
@@ -18,6 +18,7 @@ use Rattle.grid_model.specs.Nodes.{node, script_of}
 use Rattle.grid_model.specs.Stories.{story}
 use Rattle.grid_model.specs.Views.{participant, view, stage}
 use Rattle.grid_model.specs.Rows.{answer, begin_outs, retry_outs, ask_outs}
+use Rattle.grid_model.specs.Sessions.{floor_at, is_busy_at}
 use Rattle.grid_model.specs.Schedules.{Choice, acts_of, begin_row, deliver_row, drop_row, flag_of, next_left, next_row, opened_row, or_void, retry_row, row}
 use Rattle.grid_model.proofs.Undecided.{script-number}
 
@@ -49,7 +50,7 @@ pub data Shape (d : DocumentData) (past : List Act) (i : Item) : Type 0 where
   crashes : (n : NodeId) → (node d past n).up ≡ true → Shape d past i
   restarts : (n : NodeId) → (node d past n).up ≡ false → Shape d past i
   begins : (s : ScriptData) → script_of s.number d.scripts ≡ Some s → story d past s.number ≡ None
-      → (node d past s.home).up ≡ true → Shape d past i
+      → (node d past s.home).up ≡ true → is_busy_at d past s ≡ false → Shape d past i
   delivers : (m : ℕ) (e : Envelope) → sent_at m (sent past) ≡ Some e → (node d past e.to).up ≡ true → Shape d past i
   again : (n : NodeId) (os : List Out) → (node d past n).up ≡ true → IsAgain d past n os → Shape d past i
 
@@ -60,7 +61,8 @@ acts_by d past i c (arms n k how is) = act.Armed n k how ∷ []
 acts_by d past i c (crashes n up) = act.Down n None ∷ []
 acts_by d past i c (restarts n up) =
     if c.opens then opened_row d past n (flag_of (node d past n).doubt c.finds) else act.StillDown n ∷ []
-acts_by d past i c (begins s is new up) = acts_of past c s.home (begin_outs s.home (participant (view d past s.home)) s)
+acts_by d past i c (begins s is new up quiet) =
+    acts_of past c s.home (begin_outs s.home (participant (view d past s.home)) s (floor_at d past s))
 acts_by d past i c (delivers m e is up) =
     act.Got m ∷ acts_of past c e.to (answer e.to (view d past e.to) e.from e.message)
 acts_by d past i c (again n os up is) = acts_of past c n os
@@ -78,11 +80,12 @@ alone d past i a is = record { shape = idle (a ∷ []) (rw is refl); same = λ c
 none : (d : DocumentData) (past : List Act) (i : Item) → IsShaped d past i (λ c. [])
 none d past i = record { shape = idle [] refl; same = λ c. refl }
 
-begin-shaped : (d : DocumentData) (past : List Act) (i : Item) (s : ScriptData) (b : Bool)
-    → script_of s.number d.scripts ≡ Some s → story d past s.number ≡ None → (node d past s.home).up ≡ b
-    → IsShaped d past i (λ c. if b then acts_of past c s.home (begin_outs s.home (participant (view d past s.home)) s) else act.Void 2 ∷ [])
-begin-shaped d past i s true is new up = record { shape = begins s is new up; same = λ c. refl }
-begin-shaped d past i s false is new up = alone d past i (act.Void 2) refl
+begin-shaped : (d : DocumentData) (past : List Act) (i : Item) (s : ScriptData) (b busy : Bool)
+    → script_of s.number d.scripts ≡ Some s → story d past s.number ≡ None → (node d past s.home).up ≡ b → is_busy_at d past s ≡ busy
+    → IsShaped d past i (λ c. if not b then act.Void 2 ∷ [] else (if busy then act.Void 9 ∷ [] else acts_of past c s.home (begin_outs s.home (participant (view d past s.home)) s (floor_at d past s))))
+begin-shaped d past i s true false is new up quiet = record { shape = begins s is new up quiet; same = λ c. refl }
+begin-shaped d past i s true true is new up quiet = alone d past i (act.Void 9) refl
+begin-shaped d past i s false busy is new up quiet = alone d past i (act.Void 2) refl
 
 begin_row-shaped : (d : DocumentData) (past : List Act) (i : Item) (t : TxId) (x : Option Story) (s : Option ScriptData)
     → story d past t ≡ x → script_of t d.scripts ≡ s → IsShaped d past i (λ c. begin_row d past c x s)
@@ -92,7 +95,7 @@ begin_row-shaped d past i t None (Some s) new is =
     let number : t ≡ s.number = sym (script-number t d.scripts s is) in
     let P : TxId → Type 0 = λ u. script_of u d.scripts ≡ Some s in
     let Q : TxId → Type 0 = λ u. story d past u ≡ None in
-    begin-shaped d past i s (node d past s.home).up (subst P number is) (subst Q number new) refl
+    begin-shaped d past i s (node d past s.home).up (is_busy_at d past s) (subst P number is) (subst Q number new) refl refl
 
 deliver-shaped : (d : DocumentData) (past : List Act) (i : Item) (m : ℕ) (e : Envelope) (b : Bool)
     → sent_at m (sent past) ≡ Some e → (node d past e.to).up ≡ b

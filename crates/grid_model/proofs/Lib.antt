@@ -9,7 +9,9 @@ pub mod RunsThatStop
 pub mod Unarmed
 pub mod LawfulStops
 pub mod ViewsOnTheWay
+pub mod BeginsAgain
 pub mod StateLaws
+pub mod Growing
 pub mod Undecided
 pub mod EventShapes
 pub mod ViewSteps

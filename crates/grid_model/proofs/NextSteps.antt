@@ -31,13 +31,13 @@ use Rattle.grid_model.specs.Documents.{DocumentData}
 use Rattle.grid_model.specs.Histories.{after, sent, sent_at}
 use Rattle.journal_words.specs.Journals.{Decision, commit_id, floor, is_clear, undone, pending, ended, is_commit, home_of, holder, newer}
 use Rattle.grid_model.specs.Nodes.{node, is_home, journal, script_of}
-use Rattle.grid_model.specs.Stories.{story, has_voted, with_value, with_vote}
+use Rattle.grid_model.specs.Stories.{is_small, story, has_voted, with_value, with_vote}
 use Rattle.script_runs.specs.Waits.{waiting}
 use Rattle.grid_model.specs.Views.{View, Open, Stage, Apart, Reads, Collects, Commits, view, stage, stage_by, open_stage, participant}
 use Rattle.grid_model.specs.Advances.{advance, advance_end, request_of, to_node, prepares, prepare_for, date_by, owns, parts_now}
 use Rattle.script_runs.specs.Walks.{op_at, own_reads, unread}
 use Rattle.grid_model.specs.Fitness.{is_fit, is_fit_at, tx_in, counts_vote}
-use Rattle.grid_model.specs.Rows.{release, served, ceiling_of, ceilings, raises, answered, read_outs, version_for, dated, reply_outs, prepared_outs, tells, have_voted, decides, greatest_vote, ballot_outs, vote_outs, are_all_among, ack_outs, asked_outs, commit_outs, abort_outs, tell_outs, freed_by, message_outs, answer, begin_outs, begun_at, retry_outs, not_voted, not_among, ask_outs, if_pending, outs_of}
+use Rattle.grid_model.specs.Rows.{first_ident, release, served, ceiling_of, ceilings, raises, answered, read_outs, version_for, dated, reply_outs, prepared_outs, tells, have_voted, decides, greatest_vote, ballot_outs, vote_outs, are_all_among, ack_outs, asked_outs, commit_outs, abort_outs, tell_outs, freed_by, message_outs, answer, begin_outs, begun_at, retry_outs, not_voted, not_among, ask_outs, if_pending, outs_of}
 use Rattle.grid_model.specs.Schedules.{numbered}
 use Rattle.grid_model.specs.NextViews.{is_running, OwnDecisions, Comes, brought, behind, behind_all, heard_view, next_view, changed_open, desk_heard}
 use Rattle.grid_model.proofs.ViewSteps.{here, step-began, step-decided}
@@ -252,10 +252,11 @@ deliver-view d past n x m k said is own = elim (answer-given d past n x said own
 ]
 
 -- a transaction begins
-begin-view : (d : DocumentData) (past : List Act) (n : NodeId) (k : ℕ) (s : ScriptData) → script_of s.number d.scripts ≡ Some s → s.home ≡ n → view d (after past (numbered k n (begin_outs n (participant (view d past n)) s))) n ≡ next_view n (view d past n) (event.Begin s) (begin_outs n (participant (view d past n)) s)
-begin-view d past n k s script home =
-    plain-view d (act.Began s.number n (commit_id (journal d past n)) ∷ past) n false None (Some s) k (advance d.cluster (begun_at s (commit_id (journal d past n))) 0) (advance-plain d n false d.cluster (begun_at s (commit_id (journal d past n))) 0) (λ is. never is)
-    ∙ ap (λ w. behind_all None (Some s) w (advance d.cluster (begun_at s (commit_id (journal d past n))) 0)) (step-began d past n n s (commit_id (journal d past n)) None script home)
+begin-view : (d : DocumentData) (past : List Act) (n : NodeId) (k : ℕ) (s : ScriptData) (floor : Ident) → script_of s.number d.scripts ≡ Some s → s.home ≡ n → view d (after past (numbered k n (begin_outs n (participant (view d past n)) s floor))) n ≡ next_view n (view d past n) (event.Begin s floor) (begin_outs n (participant (view d past n)) s floor)
+begin-view d past n k s floor script home =
+    let sid0 : Ident = first_ident (participant (view d past n)) floor in
+    plain-view d (act.Began s.number n sid0 ∷ past) n false None (Some s) k (advance d.cluster (begun_at s sid0) 0) (advance-plain d n false d.cluster (begun_at s sid0) 0) (λ is. never is)
+    ∙ ap (λ w. behind_all None (Some s) w (advance d.cluster (begun_at s sid0) 0)) (step-began d past n n s sid0 None script home)
 
 -- a home sends again
 retry-view : (d : DocumentData) (past : List Act) (n : NodeId) (k : ℕ) (t : TxId) → view d (after past (numbered k n (retry_outs d.cluster t (stage (view d past n) t)))) n ≡ next_view n (view d past n) (event.Retry t) (retry_outs d.cluster t (stage (view d past n) t))
@@ -276,13 +277,13 @@ ask-view d past n k t = plain-view d past n false None None k (ask_outs (partici
 
 -- an event comes
 pub event-view : (d : DocumentData) (past : List Act) (n m k : ℕ) (e : Event) → Comes d past n m e → view d (after (brought m e past) (numbered k n (outs_of n (view d past n) e))) n ≡ next_view n (view d past n) e (outs_of n (view d past n) e)
-event-view d past n m k (event.Begin s) script = go (s.home == n) refl (is_none ((view d past n).desk s.number))
+event-view d past n m k (event.Begin s floor) script = go (s.home == n) refl (is_small floor && is_none ((view d past n).desk s.number))
   where
     outs : List Out
-    outs = begin_outs n (participant (view d past n)) s
+    outs = begin_outs n (participant (view d past n)) s floor
 
-    go : (here : Bool) → (s.home == n) ≡ here → (new : Bool) → view d (after past (numbered k n (if here && new then outs else []))) n ≡ next_view n (view d past n) (event.Begin s) (if here && new then outs else [])
-    go true is true = let home : s.home ≡ n = grind (arith, nat_tests) in begin-view d past n k s script home
+    go : (here : Bool) → (s.home == n) ≡ here → (new : Bool) → view d (after past (numbered k n (if here && new then outs else []))) n ≡ next_view n (view d past n) (event.Begin s floor) (if here && new then outs else [])
+    go true is true = let home : s.home ≡ n = grind (arith, nat_tests) in begin-view d past n k s floor script home
     go true is false = refl
     go false is new = refl
 event-view d past n m k (event.Deliver x said) (is, own) = deliver-view d past n x m k said is own

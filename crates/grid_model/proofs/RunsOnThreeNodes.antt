@@ -28,7 +28,7 @@ three_nodes = record { nodes = 3; places = (1 ∷ []) ∷ (2 ∷ []) ∷ (3 ∷ 
 abbrev pub bystander_gets_nothing : DocumentData
 bystander_gets_nothing = record {
   cluster = three_nodes;
-  scripts = record { number = 1; home = 1; ops = (op.Read a ∷ op.Write c (record { first = atom.Key a; steps = (step.Add (atom.Number 1) ∷ []) }) ∷ []) } ∷ [];
+  scripts = record { number = 1; home = 1; session = 0; ops = (op.Read a ∷ op.Write c (record { first = atom.Key a; steps = (step.Add (atom.Number 1) ∷ []) }) ∷ []) } ∷ [];
   items = item.Begin 1 ∷ item.Next 10 ∷ [];
 }
 
@@ -90,7 +90,7 @@ replicas = record { nodes = 3; places = (1 ∷ 2 ∷ []) ∷ (2 ∷ 3 ∷ []) �
 abbrev pub replicated_transfer : DocumentData
 replicated_transfer = record {
   cluster = replicas;
-  scripts = record { number = 1; home = 1; ops = (op.Read a ∷ op.Read b ∷ op.Write a (record { first = atom.Key a; steps = (step.Sub (atom.Number 30) ∷ []) }) ∷ op.Write b (record { first = atom.Key b; steps = (step.Add (atom.Number 30) ∷ []) }) ∷ []) } ∷ [];
+  scripts = record { number = 1; home = 1; session = 0; ops = (op.Read a ∷ op.Read b ∷ op.Write a (record { first = atom.Key a; steps = (step.Sub (atom.Number 30) ∷ []) }) ∷ op.Write b (record { first = atom.Key b; steps = (step.Add (atom.Number 30) ∷ []) }) ∷ []) } ∷ [];
   items = item.Begin 1 ∷ item.Next 16 ∷ [];
 }
 
@@ -174,7 +174,7 @@ two_holders = record { nodes = 3; places = (1 ∷ []) ∷ (2 ∷ 3 ∷ []) ∷ [
 abbrev pub retry_at_the_other_holder : DocumentData
 retry_at_the_other_holder = record {
   cluster = two_holders;
-  scripts = record { number = 1; home = 1; ops = (op.Read a ∷ []) } ∷ [];
+  scripts = record { number = 1; home = 1; session = 0; ops = (op.Read a ∷ []) } ∷ [];
   items = item.Begin 1 ∷ item.Retry 1 ∷ item.Deliver 2 ∷ item.Deliver 1 ∷ item.Deliver 3 ∷ item.Deliver 4 ∷ [];
 }
 

@@ -45,7 +45,7 @@ read_then_write-b_at_1 = refl
 abbrev pub next_update : DocumentData
 next_update = record {
   cluster = two_nodes;
-  scripts = copy_script ∷ record { number = 2; home = 1; ops = (op.Write a (record { first = atom.Number 3; steps = [] }) ∷ []) } ∷ [];
+  scripts = copy_script ∷ record { number = 2; home = 1; session = 0; ops = (op.Write a (record { first = atom.Number 3; steps = [] }) ∷ []) } ∷ [];
   items = item.Begin 1 ∷ item.Next 10 ∷ item.Begin 2 ∷ item.Next 4 ∷ [];
 }
 
@@ -132,7 +132,7 @@ repeated_votes-phases = refl
 abbrev pub own_read : DocumentData
 own_read = record {
   cluster = two_nodes;
-  scripts = record { number = 1; home = 1; ops = (op.Write b (record { first = atom.Number 4; steps = [] }) ∷ op.Read b ∷ op.Write a (record { first = atom.Key b; steps = [] }) ∷ []) } ∷ [];
+  scripts = record { number = 1; home = 1; session = 0; ops = (op.Write b (record { first = atom.Number 4; steps = [] }) ∷ op.Read b ∷ op.Write a (record { first = atom.Key b; steps = [] }) ∷ []) } ∷ [];
   items = item.Begin 1 ∷ [];
 }
 

@@ -108,7 +108,7 @@ presumed_abort-phases = refl
 abbrev pub void_events : DocumentData
 void_events = record {
   cluster = two_nodes;
-  scripts = record { number = 1; home = 1; ops = (op.Read a ∷ []) } ∷ record { number = 2; home = 2; ops = (op.Read b ∷ []) } ∷ [];
+  scripts = record { number = 1; home = 1; session = 0; ops = (op.Read a ∷ []) } ∷ record { number = 2; home = 2; session = 0; ops = (op.Read b ∷ []) } ∷ [];
   items = item.Next 1 ∷ item.Begin 1 ∷ item.Begin 1 ∷ item.Deliver 99 ∷ item.Restart 1 ∷ item.Retry 2 ∷ item.Ask 1 1 ∷ item.Crash 2 0 ∷ item.Crash 2 0 ∷ item.Begin 2 ∷ item.Deliver 1 ∷ item.Drop 1 ∷ [];
 }
 

@@ -23,7 +23,7 @@ use Rattle.grid_model.proofs.Unarmed.{no_rise, calm-lawful}
 abbrev pub write_conflict : DocumentData
 write_conflict = record {
   cluster = two_nodes;
-  scripts = record { number = 1; home = 1; ops = (op.Write a (record { first = atom.Number 1; steps = [] }) ∷ []) } ∷ record { number = 2; home = 2; ops = (op.Write a (record { first = atom.Number 2; steps = [] }) ∷ []) } ∷ [];
+  scripts = record { number = 1; home = 1; session = 0; ops = (op.Write a (record { first = atom.Number 1; steps = [] }) ∷ []) } ∷ record { number = 2; home = 2; session = 0; ops = (op.Write a (record { first = atom.Number 2; steps = [] }) ∷ []) } ∷ [];
   items = item.Begin 1 ∷ item.Begin 2 ∷ item.Deliver 1 ∷ item.Deliver 2 ∷ item.Deliver 4 ∷ [];
 }
 
@@ -56,7 +56,7 @@ write_conflict-phases = refl
 abbrev pub stale_read_refused : DocumentData
 stale_read_refused = record {
   cluster = two_nodes;
-  scripts = record { number = 1; home = 1; ops = (op.Read a ∷ op.Write b (record { first = atom.Key a; steps = [] }) ∷ []) } ∷ record { number = 2; home = 2; ops = (op.Write a (record { first = atom.Number 7; steps = [] }) ∷ []) } ∷ [];
+  scripts = record { number = 1; home = 1; session = 0; ops = (op.Read a ∷ op.Write b (record { first = atom.Key a; steps = [] }) ∷ []) } ∷ record { number = 2; home = 2; session = 0; ops = (op.Write a (record { first = atom.Number 7; steps = [] }) ∷ []) } ∷ [];
   items = item.Begin 1 ∷ item.Deliver 1 ∷ item.Begin 2 ∷ item.Deliver 3 ∷ item.Deliver 4 ∷ item.Deliver 5 ∷ item.Deliver 6 ∷ item.Deliver 2 ∷ item.Deliver 8 ∷ item.Deliver 9 ∷ item.Deliver 7 ∷ item.Deliver 10 ∷ [];
 }
 
@@ -111,7 +111,7 @@ stale_read_refused-phases = refl
 abbrev pub lock_until_applied : DocumentData
 lock_until_applied = record {
   cluster = two_nodes;
-  scripts = record { number = 1; home = 1; ops = (op.Write a (record { first = atom.Number 1; steps = [] }) ∷ []) } ∷ record { number = 2; home = 1; ops = (op.Write c (record { first = atom.Number 2; steps = [] }) ∷ []) } ∷ record { number = 3; home = 1; ops = (op.Write c (record { first = atom.Number 3; steps = [] }) ∷ []) } ∷ [];
+  scripts = record { number = 1; home = 1; session = 0; ops = (op.Write a (record { first = atom.Number 1; steps = [] }) ∷ []) } ∷ record { number = 2; home = 1; session = 0; ops = (op.Write c (record { first = atom.Number 2; steps = [] }) ∷ []) } ∷ record { number = 3; home = 1; session = 0; ops = (op.Write c (record { first = atom.Number 3; steps = [] }) ∷ []) } ∷ [];
   items = item.Begin 1 ∷ item.Begin 2 ∷ item.Deliver 1 ∷ item.Deliver 2 ∷ item.Deliver 4 ∷ item.Deliver 5 ∷ item.Begin 3 ∷ item.Deliver 7 ∷ [];
 }
 

@@ -41,7 +41,7 @@ empty_schedule-lawful = calm-lawful empty_schedule empty_schedule_acts (played-r
 abbrev pub first_read : DocumentData
 first_read = record {
   cluster = two_nodes;
-  scripts = record { number = 1; home = 1; ops = (op.Read a ∷ []) } ∷ [];
+  scripts = record { number = 1; home = 1; session = 0; ops = (op.Read a ∷ []) } ∷ [];
   items = item.Begin 1 ∷ item.Deliver 1 ∷ item.Deliver 2 ∷ [];
 }
 
@@ -76,7 +76,7 @@ first_read-b_at_1 = refl
 abbrev pub held_read : DocumentData
 held_read = record {
   cluster = two_nodes;
-  scripts = copy_script ∷ record { number = 2; home = 1; ops = (op.Read b ∷ op.Read a ∷ []) } ∷ [];
+  scripts = copy_script ∷ record { number = 2; home = 1; session = 0; ops = (op.Read b ∷ op.Read a ∷ []) } ∷ [];
   items = item.Begin 1 ∷ item.Next 7 ∷ item.Begin 2 ∷ item.Deliver 10 ∷ item.Deliver 11 ∷ item.Deliver 12 ∷ item.Deliver 8 ∷ item.Deliver 14 ∷ [];
 }
 
@@ -124,7 +124,7 @@ held_read-phases = refl
 abbrev pub ceiling_after_crash : DocumentData
 ceiling_after_crash = record {
   cluster = two_nodes;
-  scripts = record { number = 1; home = 1; ops = (op.Write b (record { first = atom.Number 5; steps = [] }) ∷ []) } ∷ record { number = 2; home = 1; ops = (op.Read a ∷ []) } ∷ record { number = 3; home = 1; ops = (op.Write a (record { first = atom.Number 7; steps = [] }) ∷ []) } ∷ [];
+  scripts = record { number = 1; home = 1; session = 0; ops = (op.Write b (record { first = atom.Number 5; steps = [] }) ∷ []) } ∷ record { number = 2; home = 1; session = 0; ops = (op.Read a ∷ []) } ∷ record { number = 3; home = 1; session = 0; ops = (op.Write a (record { first = atom.Number 7; steps = [] }) ∷ []) } ∷ [];
   items = item.Begin 1 ∷ item.Next 4 ∷ item.Begin 2 ∷ item.Deliver 5 ∷ item.Crash 2 0 ∷ item.Restart 2 ∷ item.Begin 3 ∷ item.Deliver 7 ∷ [];
 }
 
@@ -173,7 +173,7 @@ ceiling_after_crash-phases = refl
 abbrev pub equal_finals : DocumentData
 equal_finals = record {
   cluster = two_nodes;
-  scripts = record { number = 1; home = 1; ops = (op.Write b (record { first = atom.Number 5; steps = [] }) ∷ []) } ∷ record { number = 2; home = 2; ops = (op.Write a (record { first = atom.Number 7; steps = [] }) ∷ []) } ∷ record { number = 3; home = 1; ops = (op.Read b ∷ op.Read a ∷ []) } ∷ [];
+  scripts = record { number = 1; home = 1; session = 0; ops = (op.Write b (record { first = atom.Number 5; steps = [] }) ∷ []) } ∷ record { number = 2; home = 2; session = 0; ops = (op.Write a (record { first = atom.Number 7; steps = [] }) ∷ []) } ∷ record { number = 3; home = 1; session = 0; ops = (op.Read b ∷ op.Read a ∷ []) } ∷ [];
   items = item.Begin 1 ∷ item.Begin 2 ∷ item.Next 8 ∷ item.Begin 3 ∷ item.Next 4 ∷ [];
 }
 

@@ -16,7 +16,7 @@ use Rattle.grid_model.proofs.Plays.{request, reply, prepare}
 
 -- the transaction: its home is n1
 abbrev pub copy_script : ScriptData
-copy_script = record { number = 1; home = 1; ops = (op.Read a ∷ op.Write b (record { first = atom.Key a; steps = (step.Add (atom.Number 1) ∷ []) }) ∷ []) }
+copy_script = record { number = 1; home = 1; session = 0; ops = (op.Read a ∷ op.Write b (record { first = atom.Key a; steps = (step.Add (atom.Number 1) ∷ []) }) ∷ []) }
 
 -- both nodes are opened
 abbrev pub opened : List Act

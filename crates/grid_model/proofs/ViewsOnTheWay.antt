@@ -49,7 +49,7 @@ abbrev pub while_held : List Act
 while_held = after [] held_read_front
 
 abbrev pub reader : ScriptData
-reader = record { number = 2; home = 1; ops = op.Read b ∷ op.Read a ∷ [] }
+reader = record { number = 2; home = 1; session = 0; ops = op.Read b ∷ op.Read a ∷ [] }
 
 -- n2 has prepared the update, and holds the read
 pub held_at_2-journal : (view held_read while_held 2).journal ≡ record'.Prepared 1 1 (1 ∷ 2 ∷ []) 0 1 (a ∷ []) [] ∷ []

@@ -30,6 +30,7 @@ use Rattle.grid_model.specs.Views.{view}
 use Rattle.grid_model.specs.Fitness.{is_fit, is_fit_begin, date_ident}
 use Rattle.grid_model.specs.Acts.{EachAct, EachBehind, EachSent, has_refused}
 use Rattle.grid_model.specs.Copies.{snapshot}
+use Rattle.grid_model.specs.Sessions.{floor_at}
 
 -- ---- words
 
@@ -183,7 +184,7 @@ AllFit d past = EachBehind (GotIsFit d) past
 -- there is a script, and its begin is fit at n behind this past
 abbrev pub IsFitBegin : DocumentData → List Act → NodeId → Option ScriptData → Type 0
 IsFitBegin d past n None = ⊥
-IsFitBegin d past n (Some s) = IsTrue (is_fit_begin n (view d past n) s)
+IsFitBegin d past n (Some s) = IsTrue (is_fit_begin n (view d past n) s (floor_at d past s))
 
 -- an act that begins a transaction is a fit begin
 abbrev pub BeganIsFit : DocumentData → Act → List Act → Type 0

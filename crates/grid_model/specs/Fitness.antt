@@ -109,6 +109,6 @@ is_fit_at n p s x said = is_small_node p.journal p.next && is_fit_content n p s 
 abbrev pub is_fit : NodeId → View → NodeId → Message → Bool
 is_fit n v x said = is_fit_at n (participant v) (stage v (tx_in said)) x said
 
--- a begin is fit at n: n is its home, and its number is not at the desk
-abbrev pub is_fit_begin : NodeId → View → ScriptData → Bool
-is_fit_begin n v s = (s.home == n) && is_none (v.desk s.number)
+-- a begin is fit at n: n is its home, the floor of its session is small, and its number is not at the desk
+abbrev pub is_fit_begin : NodeId → View → ScriptData → Ident → Bool
+is_fit_begin n v s floor = (s.home == n) && (is_small floor && is_none (v.desk s.number))

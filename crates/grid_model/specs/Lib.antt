@@ -10,6 +10,7 @@ pub mod Rows
 pub mod Fuses
 pub mod States
 pub mod Voids
+pub mod Sessions
 pub mod Schedules
 pub mod NextViews
 pub mod Runs

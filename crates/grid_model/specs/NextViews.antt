@@ -23,7 +23,7 @@ use Rattle.grid_model.specs.declared.stories.HeldRead.{HeldRead}
 use Rattle.grid_model.specs.declared.stories.Progress.{Progress}
 use Rattle.grid_model.specs.declared.stories.Story.{Story}
 use Rattle.grid_model.specs.Documents.{DocumentData}
-use Rattle.journal_words.specs.Journals.{Decision, decision, undone}
+use Rattle.journal_words.specs.Journals.{Decision, undone}
 use Rattle.grid_model.specs.Histories.{sent, sent_at}
 use Rattle.grid_model.specs.Nodes.{journal, is_home, script_of, prepared_by, held_by, said_by, is_request, written, learnt, with_held, without_read}
 use Rattle.grid_model.specs.Stories.{story, with_request, with_value, with_vote, with_node}
@@ -73,7 +73,7 @@ OwnDecisions d past n = (t : TxId) → IsTrue (is_own_decision d past n t)
 -- an event may come to n: a script is one of the document; a message is the one that was sent as m, and
 -- the decisions of n are its own
 abbrev pub Comes : DocumentData → List Act → NodeId → ℕ → Event → Type 0
-Comes d past n m (event.Begin s) = script_of s.number d.scripts ≡ Some s
+Comes d past n m (event.Begin s floor) = script_of s.number d.scripts ≡ Some s
 Comes d past n m (event.Deliver x said) = (sent_at m (sent past) ≡ Some (record { from = x; to = n; message = said })) × OwnDecisions d past n
 Comes d past n m e = Unit {0}
 
@@ -91,7 +91,7 @@ envelope_of n e = None
 
 -- the script that an event begins
 abbrev pub script_begun : Event → Option ScriptData
-script_begun (event.Begin s) = Some s
+script_begun (event.Begin s floor) = Some s
 script_begun e = None
 
 -- the Decided of an open transaction, where there is one
@@ -119,7 +119,7 @@ held_behind e hs (out.Act (act.Held n t op sid)) = with_held (held_by e t op sid
 held_behind e hs (out.Act (act.Served n t op k sid vn v)) = if is_request (said_by e) then hs else without_read t op k sid hs
 held_behind e hs o = hs
 
--- the transaction that a script opens where nothing is decided of it
+-- the transaction that a script opens where no Decided of it stands open
 abbrev pub opened_by : Option Decision → Option ScriptData → Ident → Option Open
 opened_by y None sid0 = None
 opened_by None (Some s) sid0 = Some (begun_at s sid0)
@@ -132,7 +132,7 @@ if_update (Some x) = if is_update x.script.ops then Some x else None
 
 -- the desk behind an out: a transaction is opened, changed, or gone
 abbrev pub desk_behind : Option ScriptData → View → Out → TxId → Option Open
-desk_behind s v (out.Act (act.Began u n sid0)) t = if u == t then opened_by (decision t v.journal) s sid0 else v.desk t
+desk_behind s v (out.Act (act.Began u n sid0)) t = if u == t then opened_by (undone t v.journal) s sid0 else v.desk t
 desk_behind s v (out.Act (act.Taken u j sid w)) t = if u == t then changed_open (with_value j sid w) (v.desk t) else v.desk t
 desk_behind s v (out.Act (act.Finished u)) t = if u == t then if_update (v.desk t) else v.desk t
 desk_behind s v (out.Act (act.Aborted u n why)) t = if u == t then None else v.desk t

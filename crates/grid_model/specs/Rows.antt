@@ -1,6 +1,6 @@
 -- The rule table: what a node gives where a message comes, by what it knows. Outs are acts and messages
 -- without a number. Each row is stated on the words that decide it.
-use Rattle.std.specs.Prelude.{ℕ, ◌+◌, ◌*◌, ◌/◌, max, Bool, true, false, ◌==◌, not, nat_lt, filter, map, List, [], ◌∷◌, ◌++◌, Option, Some, None, is_some, if◌then◌else◌}
+use Rattle.std.specs.Prelude.{max, ℕ, ◌+◌, ◌*◌, ◌/◌, max, Bool, true, false, ◌==◌, not, nat_lt, filter, map, List, [], ◌∷◌, ◌++◌, Option, Some, None, is_some, if◌then◌else◌}
 use Rattle.std.specs.List.{list_all}
 use Rattle.score_base.specs.declared.ids.TxId.{TxId}
 use Rattle.score_base.specs.declared.ids.NodeId.{NodeId}
@@ -220,9 +220,14 @@ answer n v x said = answer_at n (participant v) v.held (stage v (tx_in said)) x 
 abbrev pub begun_at : ScriptData → Ident → Open
 begun_at s sid0 = record { script = s; progress = at_begin sid0 }
 
--- what n gives where a transaction of its own begins
-abbrev pub begin_outs : NodeId → Participant → ScriptData → List Out
-begin_outs n p s = out.Act (act.Began s.number n (commit_id p.journal)) ∷ advance p.cluster (begun_at s (commit_id p.journal)) 0
+-- the identifier at which a transaction begins: the commit identifier of its home, or the floor of its
+-- session where that is greater
+abbrev pub first_ident : Participant → Ident → Ident
+first_ident p floor = max (commit_id p.journal) floor
+
+-- what n gives where a transaction of its own begins, whose session has this floor
+abbrev pub begin_outs : NodeId → Participant → ScriptData → Ident → List Out
+begin_outs n p s floor = out.Act (act.Began s.number n (first_ident p floor)) ∷ advance p.cluster (begun_at s (first_ident p floor)) 0
 
 -- those of the nodes that have not voted
 abbrev pub not_voted : List NodeId → List Voted → List NodeId
@@ -247,7 +252,7 @@ ask_outs p t = if is_some (pending t p.journal) then to_node (home_of t p.journa
 
 -- what n gives at an event: nothing at a begin that is not fit
 abbrev pub outs_of : NodeId → View → Event → List Out
-outs_of n v (event.Begin s) = if is_fit_begin n v s then begin_outs n (participant v) s else []
+outs_of n v (event.Begin s floor) = if is_fit_begin n v s floor then begin_outs n (participant v) s floor else []
 outs_of n v (event.Deliver x said) = answer n v x said
 outs_of n v (event.Retry t) = retry_outs v.cluster t (stage v t)
 outs_of n v (event.Ask t) = ask_outs (participant v) t

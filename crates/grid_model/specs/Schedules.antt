@@ -1,5 +1,5 @@
 -- The rows of a schedule's items, behind a history: which acts an event has, by what its disks do.
-use Rattle.std.specs.Prelude.{ℕ, ◌+◌, zero, suc, Bool, true, false, ◌&&◌, ◌==◌, map, replicate, List, [], ◌∷◌, length, Option, Some, None, if◌then◌else◌}
+use Rattle.std.specs.Prelude.{ℕ, ◌+◌, zero, suc, Bool, true, false, ◌&&◌, ◌==◌, not, map, replicate, List, [], ◌∷◌, length, Option, Some, None, if◌then◌else◌}
 use Rattle.std.specs.List.{range_with_len, flat_map}
 use Rattle.score_base.specs.declared.ids.TxId.{TxId}
 use Rattle.score_base.specs.declared.ids.NodeId.{NodeId}
@@ -25,6 +25,7 @@ use Rattle.grid_model.specs.Stories.{is_open}
 use Rattle.grid_model.specs.Rows.{answer, begin_outs, retry_outs, ask_outs}
 use Rattle.grid_model.specs.Views.{participant, stage}
 use Rattle.grid_model.specs.Voids.{void_code, voided}
+use Rattle.grid_model.specs.Sessions.{session_floor, is_busy}
 use Rattle.grid_model.specs.States.{State, state_of, state_behind, view_in, phase_on}
 
 -- ---- numbers and records
@@ -94,12 +95,16 @@ left_in st = first_in st.gone 1 (length st.sent)
 abbrev pub acts_on : State → Choice → NodeId → List Out → List Act
 acts_on st c n os = numbered (next_in st) n (kept c.keeps n os)
 
--- the begin of a script, where there is one: code 2 where its home is down
+-- the begin of a script, where there is one: code 2 where its home is down, code 9 where its session is
+-- busy
 abbrev pub begun_on : DocumentData → State → Choice → Option ScriptData → List Act
 begun_on d st c None = []
-begun_on d st c (Some s) = if (st.nodes s.home).up then acts_on st c s.home (begin_outs s.home (participant (view_in d st s.home)) s) else voided void.HomeDown
+begun_on d st c (Some s) =
+    if not (st.nodes s.home).up then voided void.HomeDown else
+    (if is_busy d st s.session then voided void.SessionBusy
+    else acts_on st c s.home (begin_outs s.home (participant (view_in d st s.home)) s (session_floor d st s.session)))
 
--- `begin t`: code 1 where it was begun before, code 2 where its home is down
+-- `begin t`: code 1 where it was begun before, else as above
 abbrev pub begin_on : DocumentData → State → Choice → Option Story → Option ScriptData → List Act
 begin_on d st c (Some x) s = voided void.Begun
 begin_on d st c None s = begun_on d st c s

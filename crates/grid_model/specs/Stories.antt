@@ -26,7 +26,7 @@ use Rattle.grid_model.specs.declared.stories.Story.{Story}
 use Rattle.grid_model.specs.declared.stories.Voted.{Voted}
 use Rattle.grid_model.specs.Documents.{DocumentData}
 use Rattle.grid_model.specs.Histories.{sent, sent_at}
-use Rattle.journal_words.specs.Journals.{floor, Decision, decision, is_closed}
+use Rattle.journal_words.specs.Journals.{floor, Decision, is_closed, later_decision, times_over}
 use Rattle.grid_model.specs.Nodes.{Node, node, script_of, parts_of, is_home}
 use Rattle.script_runs.specs.Waits.{waiting}
 
@@ -139,9 +139,23 @@ with_vote n p x = record x { votes = with_voted n p x.votes }
 
 -- ---- the story
 
--- a transaction that is begun
-abbrev pub begun : Ident → Story
-begun sid0 = record { progress = at_begin sid0; acks = []; finished = false; aborted = false; lost = false }
+-- a transaction that is begun where so many Decided of it are over
+abbrev pub begun : ℕ → Ident → Story
+begun k sid0 = record { progress = at_begin sid0; skipped = k; acks = []; finished = false; aborted = false; lost = false }
+
+-- how many Decided of a transaction do not count
+abbrev pub skipped_in : Option Story → ℕ
+skipped_in None = 0
+skipped_in (Some x) = x.skipped
+
+-- how many Decided of a script's transaction are over at its home
+abbrev pub over_at : (NodeId → Node) → Option ScriptData → ℕ
+over_at nodes None = 0
+over_at nodes (Some s) = times_over s.number (nodes s.home).journal
+
+-- a transaction that begins where the nodes are so
+abbrev pub begun_in : DocumentData → (NodeId → Node) → TxId → Ident → Story
+begun_in d nodes t sid0 = begun (over_at nodes (script_of t d.scripts)) sid0
 
 -- a transaction that came further
 abbrev pub progressed : (Progress → Progress) → Story → Story
@@ -184,9 +198,10 @@ heard ns p h t x (message.Vote u (ballot.Yes proposal)) o = if_told ((u == t) &&
 heard ns p h t x (message.Ack u) o = if_told ((u == t) && is_counted_ack ns p h.journal h.next x) (with_ack x) o
 heard ns p h t x said o = o
 
--- the phase of a script's transaction, by its story and its home
+-- the phase of a script's transaction, by its story and its home; a transaction that begins again leaves
+-- the Decided of before behind
 abbrev pub phase_at : ScriptData → Option Story → Node → Phase
-phase_at s o h = phase_by s.ops o (is_closed s.number h.journal) (decision s.number h.journal)
+phase_at s o h = phase_by s.ops o (is_closed s.number h.journal) (later_decision (skipped_in o) s.number h.journal)
 
 -- the story behind a message, where the transaction has a script and the message comes to its home
 abbrev pub heard_on : DocumentData → (NodeId → Node) → Option ScriptData → Option Envelope → Option Story → Option Story
@@ -205,7 +220,7 @@ asked d t said o = o
 
 -- the story of t behind one act more, by the messages that were sent and by the nodes
 abbrev pub told_on : DocumentData → List Envelope → (NodeId → Node) → Act → TxId → Option Story → Option Story
-told_on d ms nodes (act.Began u n sid0) t o = if u == t then Some (begun sid0) else o
+told_on d ms nodes (act.Began u n sid0) t o = if u == t then Some (begun_in d nodes t sid0) else o
 told_on d ms nodes (act.Sent m x y said) t o = asked d t said o
 told_on d ms nodes (act.Got m) t o = heard_on d nodes (script_of t d.scripts) (sent_at m ms) o
 told_on d ms nodes (act.Taken u j sid v) t o = if_told (u == t) (progressed (with_value j sid v)) o

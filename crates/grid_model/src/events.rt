@@ -1,7 +1,7 @@
 //! What a node is told, and what it gives.
 use crate::acts::Act;
 use crate::messages::Message;
-use score_base::{Memory, NodeId, TryCopy, TxId};
+use score_base::{Ident, Memory, NodeId, TryCopy, TxId};
 use script_lang::Script;
 
 /// What a node gives: an act of its own, or a message that is to be sent. Numbers are given to
@@ -24,8 +24,9 @@ impl TryCopy for Out {
 /// What a node is given.
 #[derive(Drop, Debug)]
 pub enum Event {
-    /// The client begins a transaction whose home is this node.
-    Begin(Script),
+    /// The client begins a transaction whose home is this node, and whose session has this floor: the
+    /// greatest identifier that the session has seen, or 0.
+    Begin(Script, Ident),
     /// A message comes from this node.
     Deliver(NodeId, Message),
     /// The home sends again what the transaction waits for.

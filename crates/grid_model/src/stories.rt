@@ -34,6 +34,9 @@ pub struct Progress {
 #[derive(Drop, Debug)]
 pub struct Story {
     pub progress: Progress,
+    /// How many Decided records of the transaction its home had when it was begun, all of them closed:
+    /// they count no more.
+    pub skipped: usize,
     /// The parts whose acknowledgements were taken since the home was last opened, in order.
     pub acks: NodeList,
     /// Whether the client was told.

@@ -21,6 +21,8 @@ pub enum Void {
     IsDown,
     /// The node is up already.
     IsUp,
+    /// A transaction of the same session is reading or collecting.
+    SessionBusy,
 }
 
 impl Void {
@@ -37,6 +39,7 @@ impl Void {
             Void::NotPending => 6,
             Void::IsDown => 7,
             Void::IsUp => 8,
+            Void::SessionBusy => 9,
         }
     }
 }

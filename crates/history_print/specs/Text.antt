@@ -15,9 +15,9 @@ use Rattle.grid_model.specs.declared.stories.Story.{Story}
 use Rattle.journal_words.specs.declared.versions.Version.{Version}
 use Rattle.grid_model.specs.Documents.{DocumentData, script_numbers, keys_of_document, key_order, number_order}
 use Rattle.grid_model.specs.Histories.{after}
-use Rattle.journal_words.specs.Journals.{decision, is_closed, newest_version}
+use Rattle.journal_words.specs.Journals.{later_decision, is_closed, newest_version}
 use Rattle.grid_model.specs.Nodes.{journal, script_of}
-use Rattle.grid_model.specs.Stories.{Phase, Unbegun, Lost, Closed, Decided, Aborted, Answered, Reading, Collecting, phase_by, story}
+use Rattle.grid_model.specs.Stories.{Phase, Unbegun, Lost, Closed, Decided, Aborted, Answered, Reading, Collecting, phase_by, skipped_in, story}
 use Rattle.grid_model.specs.Copies.{snapshot_in}
 use Rattle.history_print.specs.Acts.{act_line, line, node_word}
 
@@ -36,7 +36,7 @@ phase_words Collecting sid = codes "collecting" ∷ []
 
 -- the line of a script's transaction, by its story and by the journal of its home
 unfoldable pub tx_line : ScriptData → Option Story → List Record → List ℕ
-tx_line s o r = line (codes "tx" ∷ decimal s.number ∷ phase_words (phase_by s.ops o (is_closed s.number r) (decision s.number r)) (snapshot_in o))
+tx_line s o r = line (codes "tx" ∷ decimal s.number ∷ phase_words (phase_by s.ops o (is_closed s.number r) (later_decision (skipped_in o) s.number r)) (snapshot_in o))
 
 -- the line of a transaction that has a script
 unfoldable pub script_line : (TxId → Option Story) → (NodeId → List Record) → Option ScriptData → List ℕ

@@ -10,8 +10,8 @@ ghost use Rattle.placement.specs.Places.{is_among};
 ghost use Rattle.grid_model.specs.Documents.{script_numbers, number_order, key_order, keys_of_document};
 ghost use Rattle.grid_model.specs.Copies.{snapshot_in};
 ghost use Rattle.grid_model.specs.Nodes.{journal, script_of};
-ghost use Rattle.journal_words.specs.Journals.{is_closed, decision};
-ghost use Rattle.grid_model.specs.Stories.{phase_by, story};
+ghost use Rattle.journal_words.specs.Journals.{is_closed, later_decision};
+ghost use Rattle.grid_model.specs.Stories.{phase_by, skipped_in, story};
 ghost use Rattle.run_state.specs.Kept.{past};
 ghost use Rattle.history_print.specs.Acts.{spaced, line};
 ghost use Rattle.history_print.specs.Begun.{open_words, undecided_words, final_words, story_words};
@@ -20,7 +20,7 @@ ghost use Rattle.history_print.specs.Text.{phase_words, tx_line, script_line, tx
 use crate::words::{put_count, put_ident, put_key, put_node, put_tx, put_value, put_word};
 use grid_model::{Act, Document, Story};
 use journal_words::Version;
-use journal_words::records::{decided_final, newest_version};
+use journal_words::records::{later_final, newest_version};
 use placement::Cluster;
 use run_state::{RunState, script_of};
 use score_base::{Ident, Key, Memory, NodeId, Record, TryCopy, TxId, Value, put_bytes};
@@ -122,6 +122,16 @@ fn put_story(
     }
 }
 
+/// How many Decided of a transaction do not count.
+fn skipped_in(story: Option<&Story>) -> usize
+    ensures { result ≡ skipped_in (option_copied story.entry) }
+{
+    match story {
+        None => 0,
+        Some(story) => story.skipped,
+    }
+}
+
 /// The phase of a script's transaction, by its story and by the records of its home.
 fn put_phase(
     out: &mut Vec<u8>,
@@ -129,9 +139,10 @@ fn put_phase(
     story: Option<&Story>,
     records: &[Record],
 ) -> Result<(), Memory>
-    ensures { OnOk result (out.new.items ≡ out.old.items ++ spaced (phase_words (phase_by script.now.ops (option_copied story.entry) (is_closed script.now.number (reverse records.now)) (decision script.now.number (reverse records.now))) (snapshot_in (option_copied story.entry)))) }
+    ensures { OnOk result (out.new.items ≡ out.old.items ++ spaced (phase_words (phase_by script.now.ops (option_copied story.entry) (is_closed script.now.number (reverse records.now)) (later_decision (skipped_in (option_copied story.entry)) script.now.number (reverse records.now))) (snapshot_in (option_copied story.entry)))) }
 {
-    let final_ident = decided_final(records, script.number);
+    let times = skipped_in(story);
+    let final_ident = later_final(times, records, script.number);
     put_story(out, script.ops(), story, final_ident)
 }
 

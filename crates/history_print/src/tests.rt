@@ -376,9 +376,9 @@ fn cluster(alloc: Global) -> Result<Cluster, Memory>
 
 /// A transaction of n1 that reads `a`.
 fn reader(alloc: Global, number: TxId) -> Result<Script, Memory>
-    ensures { IfOk result (λ s. s ≡ record { number = number; home = 1; ops = Op.Read (codes "a") ∷ [] }) }
+    ensures { IfOk result (λ s. s ≡ record { number = number; home = 1; session = 0; ops = Op.Read (codes "a") ∷ [] }) }
 {
-    let mut draft = ScriptDraft::new(alloc, number, node(1));
+    let mut draft = ScriptDraft::new(alloc, number, node(1), 0);
     draft.push_read(key(b"a")?)?;
     Ok(draft.finish())
 }

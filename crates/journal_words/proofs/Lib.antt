@@ -18,3 +18,10 @@ pub mod Decisions
 pub mod NewRecords
 pub mod Orders
 pub mod LastWrites
+pub mod Later
+pub mod Smalls
+pub mod ParticipantWords
+pub mod AlikeWords
+pub mod AlikeFits
+pub mod SmallFits
+pub mod Needless

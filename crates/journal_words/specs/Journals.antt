@@ -1,6 +1,6 @@
 -- The words over one journal: the records of one node, the newest first. A list of records in the order
 -- of time becomes such a journal by `reverse`.
-use Rattle.std.specs.Prelude.{◌+◌, ◌%◌, max, Bool, true, false, ◌&&◌, ◌||◌, ◌==◌, not, nat_lt, nat_le, map, List, [], ◌∷◌, length, Option, Some, None, is_some, is_none, if◌then◌else◌}
+use Rattle.std.specs.Prelude.{ℕ, ◌+◌, ◌%◌, max, Bool, true, false, ◌&&◌, ◌||◌, ◌==◌, not, nat_lt, nat_le, map, List, [], ◌∷◌, length, Option, Some, None, is_some, is_none, if◌then◌else◌}
 use Rattle.std.specs.List.{list_all}
 use Rattle.score_base.specs.declared.ids.TxId.{TxId}
 use Rattle.score_base.specs.declared.ids.NodeId.{NodeId}
@@ -261,6 +261,20 @@ is_closed t (x ∷ r) = is_closed t r
 -- the last Decided of t, where no Closed of t stands behind it
 abbrev pub undone : TxId → List Record → Option Decision
 undone t r = if is_closed t r then None else decision t r
+
+-- how many Decided of t there are
+abbrev pub times_decided : TxId → List Record → ℕ
+times_decided t [] = 0
+times_decided t (record'.Decided u f parts ∷ r) = if u == t then times_decided t r + 1 else times_decided t r
+times_decided t (x ∷ r) = times_decided t r
+
+-- the last Decided of t, where there are more than k of them
+abbrev pub later_decision : ℕ → TxId → List Record → Option Decision
+later_decision k t r = if nat_lt k (times_decided t r) then decision t r else None
+
+-- how many Decided of t are over: all of them, but none where the last is not closed
+abbrev pub times_over : TxId → List Record → ℕ
+times_over t r = if is_some (undone t r) then 0 else times_decided t r
 
 -- ---- which records fit
 

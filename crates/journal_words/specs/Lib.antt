@@ -1,2 +1,3 @@
 pub mod Journals
+pub mod Small
 pub mod Orders

@@ -1,120 +1,87 @@
 -- A transaction has a lock that meets two lists exactly where it conflicts with them.
-use Rattle.std.proofs.Common.{◌≡◌, ◌≢◌, ℕ, Bool, true, false, ◌&&◌, ◌||◌, List, [], ◌∷◌, Option, Some, None, inl, inr, IsNone, IfSome, IsTrue, refl, sym, ap, ◌∙◌, nat_eq, arith}
+use Rattle.std.proofs.Common.{◌≡◌, ◌≢◌, ℕ, Bool, true, false, ◌||◌, List, [], ◌∷◌, Option, Some, None, inl, inr, IsNone, IfSome, refl, sym, ap, ◌∙◌, nat_eq}
 use Rattle.std.specs.Cmp.Lexicographic.{pointwise, nat_list_eq_equiv}
+use Rattle.std.specs.List.{list_any}
 use Rattle.std.specs.FinSet as set
-use Rattle.std.proofs.lemmas.Bool.{eqb-true}
-use Rattle.std.proofs.lemmas.Bool.Decides.{nat_tests}
-use Rattle.lock_table.specs.Keys.{is_read, is_written, Held, Conflicts, IsHolder}
-use Rattle.lock_table.specs.Table.{Lock, is_at, holds_in, writes_in, places, written_places, meets, meets_in, IsLeastMet}
-use Rattle.lock_table.proofs.Places.{held_is, written_is}
-use Rattle.lock_table.proofs.Least.{one_of, both_of, or_later, or_first}
+use Rattle.lock_table.specs.Keys.{is_read, is_written, writes_key, Held, Conflicts, IsHolder}
+use Rattle.lock_table.specs.Table.{Lock, holds_in, writes_in, places, written_places, meets_in, IsLeastOther}
+use Rattle.lock_table.proofs.Places.{held_is, written_is, written_held}
+use Rattle.lock_table.proofs.Least.{one_of, or_later, or_first, same_key}
 
 -- what a list of locks is seen as
 abbrev pub seen : List Lock → ℕ → Held
 seen ls spare = record { keys = set.from_list (places ls); written = set.from_list (written_places ls); spare = spare }
 
-pub same_key : (x y : List ℕ) → pointwise nat_eq x y ≡ true → x ≡ y
-same_key [] [] is = refl
-same_key [] (y ∷ ys) is = cc
-same_key (x ∷ xs) [] is = cc
-same_key (x ∷ xs) (y ∷ ys) is =
-    let h = both_of (nat_eq x y) (pointwise nat_eq xs ys) is in
-    let first : x ≡ y = eqb-true x y h.0 in
-    let rest : xs ≡ ys = same_key xs ys h.1 in
-    cc
-
--- u shares a key with the lists that it or they write
-record Shares (ls : List Lock) (reads : List (List ℕ)) (writes : List (List ℕ × ℕ)) (u : ℕ) : Type 0 where
+-- a key that passes one test and is in a list
+record Named (test listed : List ℕ → Bool) : Type 0 where
   key : List ℕ
-  held_by : holds_in ls u key ≡ true
-  named : (is_read reads key || is_written writes key) ≡ true
-  written : (writes_in ls u key || is_written writes key) ≡ true
+  passes : test key ≡ true
+  named : listed key ≡ true
 
-meets_gives : (w lw r : Bool) → (w || (lw && r)) ≡ true → ((r || w) ≡ true) × ((lw || w) ≡ true)
-meets_gives true lw r is = (or_later r true refl, or_later lw true refl)
-meets_gives false lw r is = let h = both_of lw r is in (or_first r false h.1, or_first lw false h.0)
+named_more : (test listed : List ℕ → Bool) (x : List ℕ) → Named test listed → Named test (λ k. pointwise nat_eq x k || listed k)
+named_more test listed x h = record { key = h.key; passes = h.passes; named = or_later (pointwise nat_eq x h.key) (listed h.key) h.named }
 
-first_written : (at lw rest w : Bool) → at ≡ true → (lw || w) ≡ true → (((at && lw) || rest) || w) ≡ true
-first_written true true rest w at is = refl
-first_written true false rest w at is = or_later rest w is
-first_written false lw rest w at is = cc
+named_write : (test : List ℕ → Bool) (writes : List (List ℕ × ℕ)) → list_any (λ w. test w.0) writes ≡ true → Named test (is_written writes)
+named_write test [] is = absurd (let bad : false ≡ true = is in cc)
+named_write test (w ∷ ws) is = elim (one_of (test w.0) (list_any (λ x. test x.0) ws) is) [
+  | inl here ↦ record { key = w.0; passes = here; named = or_first _ (is_written ws w.0) (nat_list_eq_equiv.refl w.0) }
+  | inr later ↦ named_more test (is_written ws) w.0 (named_write test ws later)
+]
 
-later_written : (x rest w : Bool) → (rest || w) ≡ true → ((x || rest) || w) ≡ true
-later_written true rest w is = refl
-later_written false rest w is = is
+named_read : (test : List ℕ → Bool) (reads : List (List ℕ)) → list_any test reads ≡ true → Named test (is_read reads)
+named_read test [] is = absurd (let bad : false ≡ true = is in cc)
+named_read test (x ∷ xs) is = elim (one_of (test x) (list_any test xs) is) [
+  | inl here ↦ record { key = x; passes = here; named = or_first _ (is_read xs x) (nat_list_eq_equiv.refl x) }
+  | inr later ↦ named_more test (is_read xs) x (named_read test xs later)
+]
 
-Shares-from : (ls : List Lock) (reads : List (List ℕ)) (writes : List (List ℕ × ℕ)) (u : ℕ) → meets_in ls reads writes u ≡ true → Shares ls reads writes u
-Shares-from [] reads writes u met = cc
-Shares-from (l ∷ ls) reads writes u met = elim (one_of (nat_eq l.t u && meets reads writes l) (meets_in ls reads writes u) met) [
-  | inl here ↦
-      let h = both_of (nat_eq l.t u) (meets reads writes l) here in
-      let gives = meets_gives (is_written writes l.key) l.writes (is_read reads l.key) h.1 in
-      let at : is_at l u l.key ≡ true = rw (nat_list_eq_equiv.refl l.key) (grind (arith, nat_tests, h.0)) in
+Conflicts-from : (ls : List Lock) (spare : ℕ) (reads : List (List ℕ)) (writes : List (List ℕ × ℕ)) (u : ℕ) → meets_in ls reads writes u ≡ true → Conflicts (seen ls spare) reads writes u
+Conflicts-from ls spare reads writes u met = elim (one_of (list_any (λ w. holds_in ls u w.0) writes) (list_any (λ k. writes_in ls u k) reads) met) [
+  | inl by_lists ↦
+      let h = named_write (holds_in ls u) writes by_lists in
       record {
-        key = l.key;
-        held_by = or_first (is_at l u l.key) (holds_in ls u l.key) at;
-        named = gives.0;
-        written = first_written (is_at l u l.key) l.writes (writes_in ls u l.key) (is_written writes l.key) at gives.1;
+        key = h.key;
+        held_by = held_is ls u h.key ∙ h.passes;
+        named = or_later (is_read reads h.key) (is_written writes h.key) h.named;
+        written = or_later (writes_key (seen ls spare) u h.key) (is_written writes h.key) h.named;
       }
-  | inr later ↦
-      let rest = Shares-from ls reads writes u later in
+  | inr by_u ↦
+      let h = named_read (writes_in ls u) reads by_u in
       record {
-        key = rest.key;
-        held_by = or_later (is_at l u rest.key) (holds_in ls u rest.key) rest.held_by;
-        named = rest.named;
-        written = later_written (is_at l u rest.key && l.writes) (writes_in ls u rest.key) (is_written writes rest.key) rest.written;
+        key = h.key;
+        held_by = held_is ls u h.key ∙ written_held ls u h.key h.passes;
+        named = or_first (is_read reads h.key) (is_written writes h.key) h.named;
+        written = or_first (writes_key (seen ls spare) u h.key) (is_written writes h.key) (written_is ls u h.key ∙ h.passes);
       }
 ]
 
 -- ---- the other way
 
-meets_written : (l : Lock) (reads : List (List ℕ)) (writes : List (List ℕ × ℕ)) (u : ℕ) (k : List ℕ) → is_at l u k ≡ true → is_written writes k ≡ true → (nat_eq l.t u && meets reads writes l) ≡ true
-meets_written l reads writes u k at is =
-    let h = both_of (nat_eq u l.t) (pointwise nat_eq l.key k) at in
-    let here : is_written writes l.key ≡ true = ap (is_written writes) (same_key l.key k h.1) ∙ is in
-    let same : nat_eq l.t u ≡ true = grind (arith, nat_tests, h.0) in
-    rw (same, here) refl
-
-meets_read : (l : Lock) (reads : List (List ℕ)) (writes : List (List ℕ × ℕ)) (u : ℕ) (k : List ℕ) → (is_at l u k && l.writes) ≡ true → is_read reads k ≡ true → (nat_eq l.t u && meets reads writes l) ≡ true
-meets_read l reads writes u k at is =
-    let g = both_of (is_at l u k) l.writes at in
-    let h = both_of (nat_eq u l.t) (pointwise nat_eq l.key k) g.0 in
-    let here : is_read reads l.key ≡ true = ap (is_read reads) (same_key l.key k h.1) ∙ is in
-    let same : nat_eq l.t u ≡ true = grind (arith, nat_tests, h.0) in
-    rw (same, g.1, here) (or_later (is_written writes l.key) true refl)
-
-met_by_write : (ls : List Lock) (reads : List (List ℕ)) (writes : List (List ℕ × ℕ)) (u : ℕ) (k : List ℕ) → holds_in ls u k ≡ true → is_written writes k ≡ true → meets_in ls reads writes u ≡ true
-met_by_write [] reads writes u k held is = cc
-met_by_write (l ∷ ls) reads writes u k held is = elim (one_of (is_at l u k) (holds_in ls u k) held) [
-  | inl at ↦ or_first _ (meets_in ls reads writes u) (meets_written l reads writes u k at is)
-  | inr later ↦ or_later (nat_eq l.t u && meets reads writes l) _ (met_by_write ls reads writes u k later is)
+any_written : (test : List ℕ → Bool) (writes : List (List ℕ × ℕ)) (k : List ℕ) → test k ≡ true → is_written writes k ≡ true → list_any (λ w. test w.0) writes ≡ true
+any_written test [] k passes is = absurd (let bad : false ≡ true = is in cc)
+any_written test (w ∷ ws) k passes is = elim (one_of (pointwise nat_eq w.0 k) (is_written ws k) is) [
+  | inl here ↦ or_first (test w.0) (list_any (λ x. test x.0) ws) (ap test (same_key w.0 k here) ∙ passes)
+  | inr later ↦ or_later (test w.0) (list_any (λ x. test x.0) ws) (any_written test ws k passes later)
 ]
 
-met_by_read : (ls : List Lock) (reads : List (List ℕ)) (writes : List (List ℕ × ℕ)) (u : ℕ) (k : List ℕ) → writes_in ls u k ≡ true → is_read reads k ≡ true → meets_in ls reads writes u ≡ true
-met_by_read [] reads writes u k held is = cc
-met_by_read (l ∷ ls) reads writes u k held is = elim (one_of (is_at l u k && l.writes) (writes_in ls u k) held) [
-  | inl at ↦ or_first _ (meets_in ls reads writes u) (meets_read l reads writes u k at is)
-  | inr later ↦ or_later (nat_eq l.t u && meets reads writes l) _ (met_by_read ls reads writes u k later is)
+any_read : (test : List ℕ → Bool) (reads : List (List ℕ)) (k : List ℕ) → test k ≡ true → is_read reads k ≡ true → list_any test reads ≡ true
+any_read test [] k passes is = absurd (let bad : false ≡ true = is in cc)
+any_read test (x ∷ xs) k passes is = elim (one_of (pointwise nat_eq x k) (is_read xs k) is) [
+  | inl here ↦ or_first (test x) (list_any test xs) (ap test (same_key x k here) ∙ passes)
+  | inr later ↦ or_later (test x) (list_any test xs) (any_read test xs k passes later)
 ]
 
 met_by : (ls : List Lock) (reads : List (List ℕ)) (writes : List (List ℕ × ℕ)) (u : ℕ) (k : List ℕ) → holds_in ls u k ≡ true → (is_read reads k || is_written writes k) ≡ true → (writes_in ls u k || is_written writes k) ≡ true → meets_in ls reads writes u ≡ true
-met_by ls reads writes u k held named written = elim (one_of (is_read reads k) (is_written writes k) named) [
-  | inl read ↦ elim (one_of (writes_in ls u k) (is_written writes k) written) [
-    | inl by_u ↦ met_by_read ls reads writes u k by_u read
-    | inr by_lists ↦ met_by_write ls reads writes u k held by_lists
-  ]
-  | inr by_lists ↦ met_by_write ls reads writes u k held by_lists
-]
-
-Conflicts-from : (ls : List Lock) (spare : ℕ) (reads : List (List ℕ)) (writes : List (List ℕ × ℕ)) (u : ℕ) → meets_in ls reads writes u ≡ true → Conflicts (seen ls spare) reads writes u
-Conflicts-from ls spare reads writes u met =
-    let shares = Shares-from ls reads writes u met in
-    record {
-      key = shares.key;
-      held_by = held_is ls u shares.key ∙ shares.held_by;
-      named = shares.named;
-      written = ap (λ b. b || is_written writes shares.key) (written_is ls u shares.key) ∙ shares.written;
-    }
+met_by ls reads writes u k held named written =
+    let by_w = list_any (λ w. holds_in ls u w.0) writes in
+    let by_r = list_any (λ q. writes_in ls u q) reads in
+    elim (one_of (is_read reads k) (is_written writes k) named) [
+      | inl read ↦ elim (one_of (writes_in ls u k) (is_written writes k) written) [
+        | inl by_u ↦ or_later by_w by_r (any_read (writes_in ls u) reads k by_u read)
+        | inr by_lists ↦ or_first by_w by_r (any_written (holds_in ls u) writes k held by_lists)
+      ]
+      | inr by_lists ↦ or_first by_w by_r (any_written (holds_in ls u) writes k held by_lists)
+    ]
 
 met_in_conflict : (ls : List Lock) (spare : ℕ) (reads : List (List ℕ)) (writes : List (List ℕ × ℕ)) (u : ℕ) → Conflicts (seen ls spare) reads writes u → meets_in ls reads writes u ≡ true
 met_in_conflict ls spare reads writes u h =
@@ -123,17 +90,16 @@ met_in_conflict ls spare reads writes u h =
 
 -- ---- who conflicts least
 
-pub the_holder : (a : Option ℕ) (ls : List Lock) (spare t : ℕ) (reads : List (List ℕ)) (writes : List (List ℕ × ℕ)) → IfSome a (IsLeastMet ls reads writes t)
+pub the_holder : (a : Option ℕ) (ls : List Lock) (spare t : ℕ) (reads : List (List ℕ)) (writes : List (List ℕ × ℕ)) → IsLeastOther (meets_in ls reads writes) t a
     → IfSome a (IsHolder (seen ls spare) reads writes t)
 the_holder None ls spare t reads writes is = tt
 the_holder (Some p) ls spare t reads writes is = record {
   other = is.other;
-  conflicts = Conflicts-from ls spare reads writes p is.met;
+  conflicts = Conflicts-from ls spare reads writes p is.passes;
   least = λ v other h. is.least v other (met_in_conflict ls spare reads writes v h);
 }
 
-pub no_holder : (a : Option ℕ) (ls : List Lock) (spare t : ℕ) (reads : List (List ℕ)) (writes : List (List ℕ × ℕ))
-    → (IsNone a → (u : ℕ) → u ≢ t → ¬ IsTrue (meets_in ls reads writes u)) × (((u : ℕ) → u ≢ t → ¬ IsTrue (meets_in ls reads writes u)) → IsNone a)
+pub no_holder : (a : Option ℕ) (ls : List Lock) (spare t : ℕ) (reads : List (List ℕ)) (writes : List (List ℕ × ℕ)) → IsLeastOther (meets_in ls reads writes) t a
     → (IsNone a → (u : ℕ) → u ≢ t → ¬ Conflicts (seen ls spare) reads writes u) × (((u : ℕ) → u ≢ t → ¬ Conflicts (seen ls spare) reads writes u) → IsNone a)
-no_holder a ls spare t reads writes is =
-    ((λ none u other h. is.0 none u other (met_in_conflict ls spare reads writes u h)), λ free. is.1 (λ u other m. free u other (Conflicts-from ls spare reads writes u m)))
+no_holder None ls spare t reads writes is = ((λ _ u other h. is u other (met_in_conflict ls spare reads writes u h)), λ _. refl)
+no_holder (Some p) ls spare t reads writes is = ((λ none. cc), λ free. absurd (free p is.other (Conflicts-from ls spare reads writes p is.passes)))

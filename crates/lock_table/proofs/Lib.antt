@@ -1,4 +1,5 @@
-pub mod Places
 pub mod Least
+pub mod Places
+pub mod Runs
 pub mod Conflicts
 pub mod Taking

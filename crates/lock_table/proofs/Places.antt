@@ -1,12 +1,13 @@
 -- Which keys a list of locks holds: more locks, and without those of one transaction.
 use Prim.Native.Nat.{zero, suc}
-use Rattle.std.proofs.Common.{◌≡◌, ℕ, Bool, true, false, not, cond, ◌&&◌, ◌||◌, List, [], ◌∷◌, ◌++◌, refl, sym, ap, ◌∙◌, nat_eq, arith}
+use Rattle.std.proofs.Common.{◌≡◌, ℕ, Bool, true, false, not, cond, ◌&&◌, ◌||◌, List, [], ◌∷◌, ◌++◌, refl, sym, ap, ◌∙◌, nat_eq, arith, inl, inr}
 use Rattle.std.specs.Cmp.{IsTotalOrder, unsigned_tied, both_tied, then_total, on_total, nat_cmp_total}
 use Rattle.std.specs.Cmp.Lexicographic.{slice_cmp, nat_list_cmp_total, nat_list_eq_equiv, texts_ties}
 use Rattle.std.specs.Ordering.{nat_cmp, eq_by_cmp}
 use Rattle.std.specs.List.{filter, insert}
 use Rattle.std.specs.FinSet as set
 use Rattle.std.proofs.lemmas.Bool.Decides.{nat_tests}
+use Rattle.lock_table.proofs.Least.{one_of, both_of, or_first, or_later}
 use Rattle.lock_table.specs.Keys.{by_transaction}
 use Rattle.lock_table.specs.Table.{Lock, is_at, holds_in, writes_in, place, places, written_places, lock_of, locks_of}
 
@@ -23,7 +24,7 @@ held_is (l ∷ ls) u k =
     ∙ ap (λ b. b || set.contains (set.from_list {R = by_transaction} (places ls)) (u, k)) (tied l u k)
     ∙ ap (λ b. is_at l u k || b) (held_is ls u k)
 
-and_true : (a : Bool) → a ≡ (a && true)
+pub and_true : (a : Bool) → a ≡ (a && true)
 and_true true = refl
 and_true false = refl
 
@@ -128,3 +129,11 @@ locks_of-filter t [] = refl
 locks_of-filter t (p ∷ ps) =
     map_kept (nat_eq p.0.1 t) p (filter (λ q. not (nat_eq q.0.1 t)) ps)
     ∙ ap (λ ls. cond (not (nat_eq p.0.1 t)) (lock_of p ∷ ls) ls) (locks_of-filter t ps)
+
+-- a key that is written is held
+pub written_held : (ls : List Lock) (u : ℕ) (k : List ℕ) → writes_in ls u k ≡ true → holds_in ls u k ≡ true
+written_held [] u k is = cc
+written_held (l ∷ ls) u k is = elim (one_of (is_at l u k && l.writes) (writes_in ls u k) is) [
+  | inl here ↦ or_first (is_at l u k) (holds_in ls u k) (both_of (is_at l u k) l.writes here).0
+  | inr later ↦ or_later (is_at l u k) (holds_in ls u k) (written_held ls u k later)
+]

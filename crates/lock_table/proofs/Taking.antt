@@ -1,25 +1,17 @@
 -- What the list of locks holds once a transaction has taken a key, whether or not it held it.
 use Prim.Native.Nat.{zero, suc}
 use Rattle.std.proofs.Common.{◌≡◌, ℕ, ◌<◌, Bool, true, false, not, ◌&&◌, ◌||◌, List, [], ◌∷◌, IsTrue, length, refl, sym, ap, ◌∙◌, nat_eq, arith}
-use Rattle.std.specs.Cmp.{IsTotalOrder, unsigned_tied, both_tied, then_total, on_total, nat_cmp_total}
-use Rattle.std.specs.Cmp.Lexicographic.{pointwise, slice_cmp, nat_list_cmp_total, nat_list_eq_equiv, texts_ties}
-use Rattle.std.specs.declared.cmp.Ordering.{Ordering}
+use Rattle.std.specs.Cmp.{unsigned_tied, both_tied}
+use Rattle.std.specs.Cmp.Lexicographic.{pointwise, slice_cmp, nat_list_eq_equiv, texts_ties}
 use Rattle.std.specs.declared.cmp.Ordering.TheVariants.{Equal}
-use Rattle.std.specs.Ordering.{nat_cmp, eq_by_cmp, is_eq, ordering_then, ordering_reverse}
+use Rattle.std.specs.Ordering.{nat_cmp, eq_by_cmp, is_eq, ordering_reverse}
 use Rattle.std.specs.List.{slice_index_or}
 use Rattle.std.proofs.lemmas.Bool.{eqb-true}
 use Rattle.score_base.specs.Tables.{IsGap}
 use Rattle.score_base.proofs.TableMaps.{IsAbsent, gap_absent}
-use Rattle.lock_table.specs.Table.{Lock, is_at, holds_in, writes_in, lock_of, locks_of}
-use Rattle.lock_table.proofs.Least.{both_of, or_later, or_first}
-use Rattle.lock_table.proofs.Conflicts.{same_key}
-
--- by key, then by transaction
-abbrev pub by_key : List ℕ × ℕ → List ℕ × ℕ → Ordering
-by_key a b = ordering_then (slice_cmp nat_cmp a.0 b.0) (nat_cmp a.1 b.1)
-
-pub by_key_total : IsTotalOrder by_key
-by_key_total = then_total (on_total (λ p. p.0) nat_list_cmp_total) (on_total (λ p. p.1) nat_cmp_total)
+use Rattle.lock_table.specs.Table.{Lock, is_at, holds_in, writes_in, lock_of, locks_of, by_key}
+use Rattle.lock_table.proofs.Least.{both_of, or_later, or_first, same_key}
+use Rattle.lock_table.proofs.Runs.{by_key_total}
 
 swapped : (a b : Bool) → (a && b) ≡ (b && a)
 swapped true true = refl

@@ -6,14 +6,19 @@
 //! among them that it writes (two sets of pairs of a transaction and a key), and of `spare`, the
 //! number of keys for which there is room.
 //!
+//! The locks stand in a table in the order of their keys, those on one key in the order of their
+//! transactions. `holder` finds the locks on a key by halving and goes over these alone.
+//!
 //! Only `reserve` takes memory.
 #![tactic(auto)]
 
-ghost use Rattle.std.specs.Prelude.{◌≡◌, ◌≢◌, ℕ, ◌+◌, ◌≤◌, ◌↔◌, ◌==◌, ◌&&◌, ◌||◌, not, nat_eq, List, length, min, IsTrue, IsNone, IfSome, MatchOption, OnOk};
+ghost use Rattle.std.specs.Prelude.{◌≡◌, ◌≢◌, ℕ, ◌+◌, ◌≤◌, ◌↔◌, ◌==◌, ◌&&◌, ◌||◌, not, nat_eq, List, length, min, IsTrue, IsNone, Some, IfSome, MatchOption, OnOk};
+ghost use Rattle.std.specs.List.{list_any};
 ghost use Rattle.std.specs.FinSet as set;
 ghost use Rattle.lock_table.specs.Keys.{is_read, is_written, holds_lock, writes_key, Conflicts, IsHolder};
 ghost use Rattle.std.specs.Cmp.Lexicographic.{pointwise};
-ghost use Rattle.lock_table.specs.Table.{lock_of, locks_of, meets, meets_in, IsLeastMet, holds_in, writes_in};
+ghost use Rattle.score_base.specs.Tables.{IsRising};
+ghost use Rattle.lock_table.specs.Table.{locks_of, holds_in, writes_in, blocks_in, by_key, AreNumbered, IsStart, IsLeastOther};
 
 use score_base::{Key, Memory, Ordered, TxId, Value};
 use std::alloc::Global;
@@ -28,13 +33,15 @@ pub struct Locks {
 impl Model for Locks {
     ghost use Rattle.std.specs.FinSet as set;
     ghost use Rattle.lock_table.specs.Keys.{Held, held_code};
-    ghost use Rattle.lock_table.specs.Table.{locks_of, places, written_places};
+    ghost use Rattle.lock_table.specs.Table.{locks_of, places, written_places, AreNumbered};
 
     ghost Value = { Held };
 
     ghost coded = { held_code };
 
     ghost view = { λ h. record { keys = set.from_list (places (locks_of h.locks.pairs)); written = set.from_list (written_places (locks_of h.locks.pairs)); spare = h.locks.spare } };
+
+    ghost invariant = { λ h. AreNumbered h.locks.pairs };
 }
 
 impl Locks {
@@ -65,7 +72,10 @@ impl Locks {
         ensures none { IsNone result ↔ ((u : ℕ) → u ≢ t → ¬ Conflicts self.now reads.now writes.now u) }
         ensures holder { IfSome result (IsHolder self.now reads.now writes.now t) }
     {
-        least_holder(&self.locks, reads, writes, t)
+        lesser(
+            least_on_writes(&self.locks, writes, t),
+            least_on_reads(&self.locks, reads, t),
+        )
     }
 
     /// `t` takes the keys of these lists.
@@ -91,52 +101,80 @@ impl Locks {
     }
 }
 
-/// The least transaction other than `t` with a lock that meets the lists.
-fn least_holder(
+/// The least transaction other than `t` that holds a key which this list writes.
+fn least_on_writes(
     locks: &Ordered<(Key, TxId), bool>,
-    reads: &[Key],
     writes: &[(Key, Value)],
     t: TxId,
 ) -> Option<TxId>
-    ensures none { IsNone result ↔ ((u : ℕ) → u ≢ t → ¬ IsTrue (meets_in (locks_of locks.now.pairs) reads.now writes.now u)) }
-    ensures least { IfSome result (IsLeastMet (locks_of locks.now.pairs) reads.now writes.now t) }
+    requires { AreNumbered locks.now.pairs }
+    ensures { IsLeastOther (λ u. list_any (λ w. holds_in (locks_of locks.now.pairs) u w.0) writes.now) t result }
 {
     let mut least = None;
-    for i in 0..locks.len() {
-        let lock = locks.pair(i);
-        if (lock.0).1 != t && meets(&lock, reads, writes) {
-            least = Some(lesser(least, (lock.0).1));
-        }
+    for write in writes {
+        least = lesser(least, least_on_key(locks, &write.0, true, t));
     }
     least
 }
 
-/// Whether the lists name the key of a lock, where the lock or they write it.
-fn meets(lock: &((Key, TxId), bool), reads: &[Key], writes: &[(Key, Value)]) -> bool
-    ensures { result ≡ meets reads.now writes.now (lock_of lock.now) }
+/// The least transaction other than `t` that writes a key which this list reads.
+fn least_on_reads(locks: &Ordered<(Key, TxId), bool>, reads: &[Key], t: TxId) -> Option<TxId>
+    requires { AreNumbered locks.now.pairs }
+    ensures { IsLeastOther (λ u. list_any (λ k. writes_in (locks_of locks.now.pairs) u k) reads.now) t result }
 {
-    is_written(writes, &(lock.0).0) || (lock.1 && is_read(reads, &(lock.0).0))
+    let mut least = None;
+    for key in reads {
+        least = lesser(least, least_on_key(locks, key, false, t));
+    }
+    least
 }
 
-fn is_read(reads: &[Key], key: &Key) -> bool
-    ensures { result ≡ is_read reads.now key.now }
+/// The least transaction other than `t` whose lock on a key blocks who reads it, or who writes it. The
+/// locks on a key stand side by side, in the order of their transactions.
+fn least_on_key(
+    locks: &Ordered<(Key, TxId), bool>,
+    key: &Key,
+    writes: bool,
+    t: TxId,
+) -> Option<TxId>
+    requires { AreNumbered locks.now.pairs }
+    ensures { IsLeastOther (λ u. blocks_in writes (locks_of locks.now.pairs) u key.now) t result }
 {
-    reads.contains(key)
+    for i in first_on_key(locks, key)..locks.len() {
+        let lock = locks.pair(i);
+        if (lock.0).0 != *key {
+            return None;
+        }
+        if (lock.0).1 != t && (writes || lock.1) {
+            return Some((lock.0).1);
+        }
+    }
+    None
 }
 
-fn is_written(writes: &[(Key, Value)], key: &Key) -> bool
-    ensures { result ≡ is_written writes.now key.now }
+/// The place of the first lock on a key, or on a greater one.
+fn first_on_key(locks: &Ordered<(Key, TxId), bool>, key: &Key) -> usize
+    requires { AreNumbered locks.now.pairs }
+    ensures start { IsStart locks.now.pairs key.now result }
+    ensures rising { IsRising by_key locks.now.pairs }
 {
-    writes.iter().any(|write| write.0 == *key)
+    match locks.place(&(*key, TxId { number: 1 })) {
+        Ok(i) => i,
+        Err(i) => i,
+    }
 }
 
-/// The lesser of two transactions, of which the first may be missing.
-fn lesser(least: Option<TxId>, t: TxId) -> TxId
-    ensures { MatchOption least (result ≡ t) (λ u. result ≡ min u t) }
+/// The lesser of two transactions, each of which may be missing.
+fn lesser(first: Option<TxId>, second: Option<TxId>) -> Option<TxId>
+    ensures { MatchOption first (result ≡ second) (λ u.
+        MatchOption second (result ≡ first) (λ v. result ≡ Some (min u v))) }
 {
-    match least {
-        Some(u) if u < t => u,
-        _ => t,
+    match first {
+        None => second,
+        Some(u) => match second {
+            Some(v) if v < u => second,
+            _ => first,
+        },
     }
 }
 
@@ -146,6 +184,7 @@ fn take_reads(locks: &mut Ordered<(Key, TxId), bool>, reads: &[Key], t: TxId)
     ensures keys { (u : ℕ) (k : List ℕ) → holds_in (locks_of locks.new.pairs) u k ≡ (holds_in (locks_of locks.old.pairs) u k || (u == t && is_read reads.now k)) }
     ensures written { (u : ℕ) (k : List ℕ) → writes_in (locks_of locks.new.pairs) u k ≡ writes_in (locks_of locks.old.pairs) u k }
     ensures spare { locks.old.spare ≤ locks.new.spare + length reads.now }
+    ensures numbered { AreNumbered locks.old.pairs → AreNumbered locks.new.pairs }
 {
     for key in reads {
         take_key(locks, key, t, false);
@@ -159,6 +198,7 @@ fn take_writes(locks: &mut Ordered<(Key, TxId), bool>, writes: &[(Key, Value)], 
     ensures keys { (u : ℕ) (k : List ℕ) → holds_in (locks_of locks.new.pairs) u k ≡ (holds_in (locks_of locks.old.pairs) u k || (u == t && is_written writes.now k)) }
     ensures written { (u : ℕ) (k : List ℕ) → writes_in (locks_of locks.new.pairs) u k ≡ (writes_in (locks_of locks.old.pairs) u k || (u == t && is_written writes.now k)) }
     ensures spare { locks.old.spare ≤ locks.new.spare + length writes.now }
+    ensures numbered { AreNumbered locks.old.pairs → AreNumbered locks.new.pairs }
 {
     for write in writes {
         take_key(locks, &write.0, t, true);
@@ -171,6 +211,7 @@ fn take_key(locks: &mut Ordered<(Key, TxId), bool>, key: &Key, t: TxId, writes: 
     ensures keys { (u : ℕ) (k : List ℕ) → holds_in (locks_of locks.new.pairs) u k ≡ (holds_in (locks_of locks.old.pairs) u k || (u == t && pointwise nat_eq key.now k)) }
     ensures written { (u : ℕ) (k : List ℕ) → writes_in (locks_of locks.new.pairs) u k ≡ (writes_in (locks_of locks.old.pairs) u k || ((writes && not (holds_in (locks_of locks.old.pairs) t key.now)) && (u == t && pointwise nat_eq key.now k))) }
     ensures spare { locks.old.spare ≤ locks.new.spare + 1 }
+    ensures numbered { AreNumbered locks.old.pairs → AreNumbered locks.new.pairs }
 {
     if let Err(i) = locks.place(&(*key, t)) {
         locks.insert(i, (*key, t), writes);
@@ -178,34 +219,4 @@ fn take_key(locks: &mut Ordered<(Key, TxId), bool>, key: &Key, t: TxId, writes: 
 }
 
 #[cfg(test)]
-mod tests {
-    use super::*;
-    use std::test::Fail;
-
-    // Two transactions read `a`, and the first writes `b` too.
-    #[test]
-    fn least_holder(rt: HostRuntime) -> Result<(), Fail> {
-        let a = Key::new(b"a").ok_or("a key")?;
-        let b = Key::new(b"b").ok_or("a key")?;
-        let first = TxId { number: 4 };
-        let second = TxId { number: 2 };
-        let third = TxId { number: 7 };
-        let mut locks = Locks::new(rt.alloc());
-        locks.reserve(3)?;
-        assert!(rt; locks.holder(&[a], &[(b, Value(11))], first).is_none());
-        locks.take(&[a], &[(b, Value(11))], first);
-        assert!(rt; locks.holder(&[a], &[], second).is_none());
-        locks.take(&[a], &[], second);
-        assert_eq!(rt; locks.holder(&[], &[(a, Value(1))], third), Some(second));
-        assert_eq!(rt; locks.holder(&[b], &[], third), Some(first));
-        assert_eq!(rt; locks.holder(&[b], &[], first), None);
-        locks.free(second);
-        assert_eq!(rt; locks.holder(&[], &[(a, Value(1))], third), Some(first));
-        locks.free(first);
-        assert_eq!(rt;
-            locks.holder(&[], &[(a, Value(1)), (b, Value(2))], third),
-            None
-        );
-        Ok(())
-    }
-}
+mod tests;

@@ -90,7 +90,7 @@ pub fn is_undone(rt: &impl Abort, journal: &[Record], t: TxId, f: u64, parts: &[
 pub fn is_closed(rt: &impl Abort, journal: &[Record], t: TxId, f: u64) {
     assert!(rt; records::is_closed(journal, t));
     assert!(rt; records::undone(journal, t).is_none());
-    assert!(rt; records::decided_final(journal, t) == Some(Ident(f)));
+    assert!(rt; records::later_final(0, journal, t) == Some(Ident(f)));
 }
 
 /// The home of t.

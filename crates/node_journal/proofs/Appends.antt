@@ -4,10 +4,10 @@ use Rattle.std.proofs.lemmas.Grind.{elements}
 use Rattle.score_base.specs.declared.records.Record.{Record}
 use Rattle.score_disk.specs.Files.{File, IsSettled, synced, written}
 use Rattle.journal_records.specs.Records.{record_bytes, IsRecord}
-use Rattle.node_journal.specs.Log.{log, records_of, framed, IsLog}
-use Rattle.node_journal.specs.Torn.{LeavesClosed, LeavesOneOf, LeavesOld, LeavesOldOrNew, opened_at}
+use Rattle.node_journal.specs.Log.{generation, log, records_of, framed, IsLog}
+use Rattle.node_journal.specs.Torn.{LeavesClosed, LeavesOneOf, LeavesOld, LeavesOldOrNew, LeavesVersion, opened_at}
 use Rattle.node_journal.proofs.Frames.{record_block}
-use Rattle.node_journal.proofs.Logs.{log_is, log_kept, log_opened}
+use Rattle.node_journal.proofs.Logs.{log_is, log_kept, log_opened, version_kept, opened_version}
 use Rattle.node_journal.proofs.Torn.{settled_synced}
 
 pub length-framed : (body : List ℕ) → length (framed body) ≡ 2 + length body
@@ -49,3 +49,15 @@ append_torn f now frame rs r gate fit e l leaves c image = elim (leaves c image)
 -- one of the first two failed
 pub append_early : (f now : File) (rs : List Record) (gate : ℕ) → IsLog f.seen rs gate → LeavesClosed f.seen gate now → LeavesOld rs now
 append_early f now rs gate l leaves c image = log_is c rs gate (log_kept f.seen c rs gate l (leaves c image))
+
+-- neither the frame nor the gate touches the version
+pub append_version : (f now : File) (frame : List ℕ) (rs : List Record) (gate : ℕ) → now ≡ synced (written gate (1 ∷ []) (synced (written (gate + 1) frame f))) → IsLog f.seen rs gate → generation now.seen ≡ generation f.seen
+append_version f now frame rs gate done l =
+    let opened : now.seen ≡ opened_at f.seen gate frame = ap (λ (x : File). x.seen) done in
+    ap generation opened ∙ opened_version f.seen frame rs gate l
+
+pub torn_version : (f now : File) (frame : List ℕ) (rs : List Record) (gate : ℕ) → IsLog f.seen rs gate → LeavesOneOf f.seen gate frame now → LeavesVersion (generation f.seen) now
+torn_version f now frame rs gate l leaves c image = elim (leaves c image) [
+  | inl kept ↦ (version_kept f.seen c rs gate l kept.place kept.front).number
+  | inr opened ↦ ap generation opened ∙ opened_version f.seen frame rs gate l
+]

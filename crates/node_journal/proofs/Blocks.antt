@@ -29,14 +29,21 @@ pub log_fault : (place : ℕ) (rest : List ℕ) → block_at rest ≡ None → l
 unfolding log_from
 log_fault place rest e = ap (λ o. opened place o (λ n. log_from (place + 1) n rest)) e
 
--- an open gate with a block with_front it
+-- an open gate with a block behind it
 log_open : (place : ℕ) (block rest : List ℕ) (r : Record) → block_at (block ++ rest) ≡ Some (r, length block) → log_from place 0 (1 ∷ (block ++ rest)) ≡ with_front (r ∷ []) (log_from (place + 1 + length block) 0 rest)
 unfolding log_from
 log_open place block rest r e = ap (λ o. opened place o (λ n. log_from (place + 1) n (block ++ rest))) e ∙ ap (with_front (r ∷ [])) (log_skip (place + 1) block rest)
 
-behind-behind : (a b : List Record) (x : Result (List Record) ℕ) → with_front a (with_front b x) ≡ with_front (a ++ b) x
+behind-nil : (x : Result (List Record) ℕ) → x ≡ with_front [] x
+behind-nil (Ok rs) = refl
+behind-nil (Err p) = refl
+
+pub behind-behind : (a b : List Record) (x : Result (List Record) ℕ) → with_front a (with_front b x) ≡ with_front (a ++ b) x
 behind-behind a b (Ok rs) = ap Ok (sym (append_assoc a b rs))
 behind-behind a b (Err p) = refl
+
+pub spells_nil : Spells [] []
+spells_nil = record { read = λ place rest h. behind-nil (log_from place 0 rest) ∙ ap (λ p. with_front [] (log_from p 0 rest)) (sym (add-zero place)) }
 
 -- Before any rest, this is the block of this record.
 pub record IsBlock (block : List ℕ) (r : Record) : Type 0 where
@@ -101,7 +108,7 @@ take_less k n xs h = grind (arith, common_steps)
 first_same : (k n : ℕ) (xs ys : List ℕ) → k ≤ n → take n xs ≡ take n ys → take k xs ≡ take k ys
 first_same k n xs ys h e = sym (take_less k n xs h) ∙ ap (take k) e ∙ take_less k n ys h
 
--- the same block, whatever stands with_front its next gate
+-- the same block, whatever stands behind its next gate
 found_again : (xs ys : List ℕ) (r : Record) (n : ℕ) → Found xs r n → take n xs ≡ take n ys → n < length ys → Found ys r n
 found_again xs ys r n f same next =
     let size : 2 + body_length xs ≡ n = omega (arith, f.size) in
@@ -114,7 +121,7 @@ found_again xs ys r n f same next =
       size = omega (arith, long, size);
     }
 
--- what was found with_front a gate is a block
+-- what was found behind a gate is a block
 pub taken_block : (xs : List ℕ) (r : Record) (n : ℕ) → block_at xs ≡ Some (r, n) → (n < length xs) × IsBlock (take n xs) r
 taken_block xs r n e =
     let f = found_of xs r n e in

@@ -2,7 +2,7 @@
 use Rattle.std.proofs.Common.{◌≡◌, ℕ, ◌+◌, ◌-◌, Option, Some, None, refl, ap, ◌∙◌, arith}
 use Rattle.node_journal.specs.Calls.{lowered, LoweredAtMost}
 
-lowered-lowered : (m n : ℕ) (left : Option ℕ) → lowered m (lowered n left) ≡ lowered (n + m) left
+pub lowered-lowered : (m n : ℕ) (left : Option ℕ) → lowered m (lowered n left) ≡ lowered (n + m) left
 lowered-lowered m n None = refl
 lowered-lowered m n (Some k) = let same : (k - n) - m ≡ k - (n + m) = omega arith in ap Some same
 

@@ -8,7 +8,7 @@ use Rattle.node_journal.specs.declared.reading.Gate.TheVariants.{Closed, Open}
 use Rattle.node_journal.specs.declared.reading.ReadEnd.{ReadEnd}
 use Rattle.node_journal.specs.declared.reading.ReadEnd.TheVariants.{Failed, Bad, Memory}
 use Rattle.node_journal.specs.Gates.{IsGate, IsFault, IfBad}
-use Rattle.node_journal.specs.Log.{block_at, log, Spells}
+use Rattle.node_journal.specs.Log.{block_at, first_gate, log, Spells, HasGateAt}
 use Rattle.node_journal.proofs.Blocks.{block_front}
 use Rattle.node_journal.proofs.Logs.{at_gate, log_bad, spells_next}
 
@@ -44,19 +44,22 @@ piece_taken bytes piece at len n p l h e =
     let count : (at + n) - at ≡ n = omega arith in
     p ∙ (ap (λ k. take k (drop at bytes)) (count ∙ same) ∙ take_min 4100 (drop at bytes))
 
+from_first : (bytes : List ℕ) (rs : List Record) (first at : ℕ) → HasGateAt bytes first → Spells (drop first (take at bytes)) rs → Spells (drop (first_gate bytes) (take at bytes)) rs
+from_first bytes rs first at v s = subst (λ n. Spells (drop n (take at bytes)) rs) (sym v.gate) s
+
 -- a fault at this place, where the file was read up to there
-pub bad_at : {P : Type 0} (end : ReadEnd) (bytes : List ℕ) (rs : List Record) (at : ℕ) → (P → 2 < length bytes) → (P → get_or bytes 0 0 ≡ 1) → 1 ≤ at → (P → at < length bytes) → (P → Spells (drop 1 (take at bytes)) rs)
+pub bad_at : {P : Type 0} (end : ReadEnd) (bytes : List ℕ) (rs : List Record) (first at : ℕ) → (P → 2 < length bytes) → (P → HasGateAt bytes first) → first ≤ at → (P → at < length bytes) → (P → Spells (drop first (take at bytes)) rs)
     → IfBad end (λ place. (place ≡ at) × (P → IsFault (drop at bytes))) → IfBad end (λ place. P → log bytes ≡ Err place)
-bad_at Failed bytes rs at long v low high s h = h
-bad_at Memory bytes rs at long v low high s h = h
-bad_at (Bad place) bytes rs at long v low high s h = λ p.
+bad_at Failed bytes rs first at long v low high s h = h
+bad_at Memory bytes rs first at long v low high s h = h
+bad_at (Bad place) bytes rs first at long v low high s h = λ p.
     let here : drop at bytes ≡ get_or bytes at 0 ∷ drop (at + 1) bytes = at_gate bytes at (high p) in
     let one : get_or bytes at 0 ≡ 1 = sym (ap (λ l. get_or l 0 0) here) ∙ (h.1 p).gate in
     let none : block_at (drop (at + 1) bytes) ≡ None = sym (ap (λ l. block_at (drop 1 l)) here) ∙ (h.1 p).block in
-    log_bad bytes rs at (long p) (v p) low (high p) (s p) one none ∙ ap Err (sym h.0)
+    log_bad bytes rs at (long p) (v p).version (omega (arith, (v p).gate, low)) (high p) (from_first bytes rs first at (v p) (s p)) one none ∙ ap Err (sym h.0)
 
 -- a record at this place
-pub next_at : (bytes : List ℕ) (rs : List Record) (r : Record) (at n : ℕ) → 1 ≤ at → at < length bytes → Spells (drop 1 (take at bytes)) rs → IsGate (drop at bytes) (Open r n) → Spells (drop 1 (take (at + (1 + n)) bytes)) (rs ++ r ∷ [])
-next_at bytes rs r at n low high s h =
+pub next_at : (bytes : List ℕ) (rs : List Record) (r : Record) (first at n : ℕ) → first ≤ at → at < length bytes → Spells (drop first (take at bytes)) rs → IsGate (drop at bytes) (Open r n) → Spells (drop first (take (at + (1 + n)) bytes)) (rs ++ r ∷ [])
+next_at bytes rs r first at n low high s h =
     let here : drop at bytes ≡ get_or bytes at 0 ∷ drop (at + 1) bytes = at_gate bytes at high in
-    spells_next bytes rs r at n low high s (sym (ap (λ l. get_or l 0 0) here) ∙ h.0) (sym (ap (λ l. block_at (drop 1 l)) here) ∙ h.1)
+    spells_next bytes rs r first at n low high s (sym (ap (λ l. get_or l 0 0) here) ∙ h.0) (sym (ap (λ l. block_at (drop 1 l)) here) ∙ h.1)

@@ -1,8 +1,14 @@
 pub mod Appends
 pub mod Blocks
 pub mod Calls
+pub mod Compactions
+pub mod Fillings
 pub mod Frames
 pub mod Gates
+pub mod Generations
 pub mod Logs
 pub mod Openings
+pub mod Pairs
+pub mod Spending
 pub mod Torn
+pub mod Versions

@@ -4,3 +4,6 @@ pub mod Calls
 pub mod Gates
 pub mod Ends
 pub mod Sets
+pub mod Pairs
+pub mod Spending
+pub mod PairDisks

@@ -1,8 +1,8 @@
 -- What the images of a file are while a log is written.
-use Rattle.std.specs.Prelude.{◌≡◌, ◌≢◌, ◌⊎◌, ℕ, ◌+◌, ◌<◌, ◌≤◌, false, max, List, [], ◌∷◌, ◌++◌, length, take, slice_index, Ok}
+use Rattle.std.specs.Prelude.{◌≡◌, ◌≢◌, ◌⊎◌, ℕ, ◌+◌, ◌<◌, ◌≤◌, false, max, List, [], ◌∷◌, ◌++◌, length, take, slice_index, Option, Ok}
 use Rattle.score_base.specs.declared.records.Record.{Record}
 use Rattle.score_disk.specs.Files.{File, IsImage, IsSettled, put_at}
-use Rattle.node_journal.specs.Log.{log}
+use Rattle.node_journal.specs.Log.{generation, log}
 
 -- now is from, where since then nothing but n places from `at` on was touched
 pub record Near (from : File) (at n : ℕ) (now : File) : Type 0 where
@@ -45,3 +45,7 @@ LeavesOldOrNew records more f = (c : List ℕ) → IsImage f c → (log c ≡ Ok
 -- no image has more bytes than this
 abbrev pub LeavesShort : ℕ → File → Type 0
 LeavesShort most f = (c : List ℕ) → IsImage f c → length c ≤ most
+
+-- each image has this generation, or none
+abbrev pub LeavesVersion : Option ℕ → File → Type 0
+LeavesVersion gen f = (c : List ℕ) → IsImage f c → generation c ≡ gen

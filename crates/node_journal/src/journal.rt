@@ -6,9 +6,10 @@ ghost use Rattle.score_disk.specs.Counts.{Counted};
 ghost use Rattle.journal_records.specs.Records.{CanEncode};
 ghost use Rattle.node_journal.specs.Calls.{HasRoom, lowered, LoweredAtMost, EndedByFault, IsUntouched};
 ghost use Rattle.node_journal.specs.Ends.{MatchEnd};
-ghost use Rattle.node_journal.specs.Log.{IsLog, log, records_of};
+ghost use Rattle.node_journal.specs.Log.{IsLog, generation, log, records_of};
+ghost use Rattle.node_journal.specs.Spending.{Spent, Halted, Untouched};
 ghost use Rattle.node_journal.specs.Sets.{IsLog-prop};
-ghost use Rattle.node_journal.specs.Torn.{IsAtRest, LeavesOld, LeavesOldOrNew, LeavesShort};
+ghost use Rattle.node_journal.specs.Torn.{IsAtRest, LeavesOld, LeavesOldOrNew, LeavesShort, LeavesVersion};
 
 use crate::ends::{OpenEnd, Stopped};
 use crate::kept::Kept;
@@ -112,16 +113,44 @@ impl<D: Disk> Journal<D> {
         disk
     }
 
+    /// Puts the journal on another disk, whose log has this closed gate and so many records, and gives
+    /// back the disk that it leaves.
+    pub(crate) fn move_to(self, other: D, place: u64, records: u64) -> (Journal<D>, D)
+        requires settled { Settled (D.tells other) (D.file other) }
+        requires is_log { IsTrue (D.tells other) → IsLog (D.file other).seen (records_of (log (D.file other).seen)) place }
+        requires counted { IsTrue (D.tells other) → records ≡ length (records_of (log (D.file other).seen)) }
+        requires few { records ≤ place }
+        requires small { place < 2 ^ 63 }
+        ensures disk { result.0.disk ≡ other }
+        ensures left_disk { result.1 ≡ self.disk }
+    {
+        let Journal {
+            disk,
+            gate: _,
+            count: _,
+            scratch,
+            body,
+            frame,
+        } = self;
+        (
+            Journal {
+                disk: other,
+                gate: place,
+                count: records,
+                scratch,
+                body,
+                frame,
+            },
+            disk,
+        )
+    }
+
     /// Makes room for one record: afterwards it may be appended. A log that ends less than its
     /// longest block below 2^63 bytes has no room; no memory holds more. All else is as before,
     /// also after [`Memory`].
     pub fn room(&mut self) -> Result<(), Memory>
         ensures room { OnOk result (HasRoom (D.spare self.new.disk) (vec_capacity self.new.scratch) (vec_capacity self.new.body) (vec_capacity self.new.frame) self.new.gate) }
-        ensures file { D.file self.new.disk ≡ D.file self.old.disk }
-        ensures tells { D.tells self.new.disk ≡ D.tells self.old.disk }
-        ensures left { D.left self.new.disk ≡ D.left self.old.disk }
-        ensures own { D.own self.new.disk ≡ D.own self.old.disk }
-        ensures faults { D.faults self.new.disk ≡ D.faults self.old.disk }
+        ensures untouched { Untouched D.Disk self.old.disk self.new.disk }
         ensures count { self.new.count ≡ self.old.count }
     {
         if self.gate > (1 << 63) - LONGEST_BLOCK {
@@ -146,17 +175,13 @@ impl<D: Disk> Journal<D> {
         ensures kept { IfOk result (λ x. x.1.rec ≡ rec) }
         ensures appended { IfOk result (λ x. IsTrue (D.tells self.disk) → (records : List Record) → log (D.file self.disk).seen ≡ Ok records → IsAtRest (D.file x.0.disk) (records ++ rec ∷ [])) }
         ensures counts { IfOk result (λ x. x.0.count ≡ self.count + 1) }
-        ensures ok_tells { IfOk result (λ x. D.tells x.0.disk ≡ D.tells self.disk) }
-        ensures ok_left { IfOk result (λ x. D.left x.0.disk ≡ lowered 4 (D.left self.disk)) }
-        ensures unstopped { IfOk result (λ x. D.left x.0.disk ≢ Some 0) }
-        ensures ok_faults { IfOk result (λ x. D.faults x.0.disk ≡ D.faults self.disk) }
-        ensures ok_own { IfOk result (λ x. D.own x.0.disk ≡ D.own self.disk) }
+        ensures version { IfOk result (λ x. IsTrue (D.tells self.disk) → generation (D.file x.0.disk).seen ≡ generation (D.file self.disk).seen) }
+        ensures spent { IfOk result (λ x. Spent D.Disk 4 self.disk x.0.disk) }
         ensures stopped { IfErr result (λ s. IsTrue (D.tells self.disk) → (records : List Record) → log (D.file self.disk).seen ≡ Ok records → LeavesOldOrNew records rec (D.file s.disk)) }
         ensures early { IfErr result (λ s. IsTrue (D.tells self.disk) → (k : ℕ) → D.left self.disk ≡ Some k → k ≤ 2 → (records : List Record) → log (D.file self.disk).seen ≡ Ok records → LeavesOld records (D.file s.disk)) }
         ensures rec { IfErr result (λ s. s.rec ≡ rec) }
-        ensures tells { IfErr result (λ s. D.tells s.disk ≡ D.tells self.disk) }
-        ensures left { IfErr result (λ s. LoweredAtMost 4 (D.left self.disk) (D.left s.disk)) }
-        ensures counted { IfErr result (λ s. Counted (D.faults self.disk) (D.faults s.disk) (D.own self.disk) (D.own s.disk) (D.left s.disk) result) }
+        ensures version_stopped { IfErr result (λ s. IsTrue (D.tells self.disk) → LeavesVersion (generation (D.file self.disk).seen) (D.file s.disk)) }
+        ensures halted { IfErr result (λ s. Halted D.Disk 4 self.disk s.disk) }
     {
         let Journal {
             mut disk,

@@ -12,20 +12,32 @@
 //! the receipt of one record that was appended so: nothing else makes one, none can be copied, and
 //! each must be spent. Where a disk doesn't tell its file, the sentences on counts and on a fuse hold
 //! still.
+//!
+//! A [`Pair`] is the journal of a node on two disks, of which one is live: the one whose file has the
+//! greater generation. [`Pair::compact`] writes what a compaction keeps of the log into the other disk
+//! as a file of version 2 under the next generation, and from then on that disk is the live one. It
+//! clears the other disk, fills it behind its byte 0, and opens it by its version; each stage is
+//! synced before the next, so whatever a crash leaves of the two files has the old log or the small
+//! one. In contracts `pair_log` is what two files read as.
 #![tactic(auto)]
 
+mod compacting;
 mod ends;
 mod journal;
 mod kept;
 mod laws;
 mod opening;
+mod pair;
+mod pair_opening;
 mod reading;
+mod spelling;
 mod writing;
 
-pub use ends::{OpenEnd, Stopped};
+pub use ends::{Compacting, OpenEnd, PairEnd, PairStopped, Stopped};
 pub use journal::Journal;
 pub use kept::Kept;
-pub use laws::law_log;
+pub use laws::{law_compaction, law_log};
+pub use pair::Pair;
 
 #[cfg(test)]
 mod tests;

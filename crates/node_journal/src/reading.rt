@@ -1,7 +1,7 @@
 //! How the bytes of a log are read, gate by gate.
 ghost use Rattle.std.specs.Prelude.{◌≡◌, ◌≢◌, ℕ, ◌+◌, ◌-◌, ◌<◌, ◌≤◌, Some, None, Ok, Err, length, drop, slice_index, IsTrue, IfOk, IfErr, IfSome, if◌then◌else◌};
 ghost use Rattle.score_disk.specs.Counts.{Counted};
-ghost use Rattle.node_journal.specs.Log.{body_length, has_body, block_at, log, IsLog};
+ghost use Rattle.node_journal.specs.Log.{body_length, has_body, block_at, log, IsLog, HasGateAt};
 ghost use Rattle.node_journal.specs.Gates.{IsGate, IsNextWithin, IsFault, IfBad, calls_of};
 
 use journal_records::decode;
@@ -106,16 +106,18 @@ fn read_gate<D: Disk>(alloc: Global, disk: &mut D, at: u64, len: u64) -> Result<
     }
 }
 
-/// Reads the records of a log of `len` bytes whose version is right, and the place of its closed
+/// Reads the records of a log of `len` bytes from its first gate on, and the place of its closed
 /// gate.
 pub(crate) fn read_records<D: Disk>(
     alloc: Global,
     disk: &mut D,
     len: u64,
+    first: u64,
 ) -> Result<(Vec<Record>, u64), ReadEnd>
     requires long { 2 < len }
     requires len { IsTrue (D.tells disk.old) → len ≡ length (D.file disk.old).seen }
-    requires version { IsTrue (D.tells disk.old) → slice_index (D.file disk.old).seen 0 ≡ 1 }
+    requires inside { first < len }
+    requires version { IsTrue (D.tells disk.old) → HasGateAt (D.file disk.old).seen first }
     ensures ok { IfOk result (λ x. IsTrue (D.tells disk.old) → IsLog (D.file disk.old).seen x.0.items x.1) }
     ensures count { IfOk result (λ x. length x.0.items ≤ x.1) }
     ensures inside { IfOk result (λ x. x.1 < len) }
@@ -126,7 +128,7 @@ pub(crate) fn read_records<D: Disk>(
     ensures counted { Counted (D.faults disk.old) (D.faults disk.new) (D.own disk.old) (D.own disk.new) (D.left disk.new) (calls_of result) }
 {
     let mut records = Vec::new(alloc);
-    let mut at = 1;
+    let mut at = first;
     'gates: loop {
         match read_gate(alloc, disk, at, len) {
             Ok(Gate::Closed) => return Ok((records, at)),
@@ -161,8 +163,11 @@ pub(crate) fn read_log<D: Disk>(
         Ok(()) => {}
         Err(_) => return Err(ReadEnd::Failed),
     }
-    if version[0] != 1 {
-        return Err(ReadEnd::Bad(0));
+    if version[0] == 1 {
+        return read_records(alloc, disk, len, 1);
     }
-    read_records(alloc, disk, len)
+    if version[0] == 2 && len >= 10 {
+        return read_records(alloc, disk, len, 9);
+    }
+    Err(ReadEnd::Bad(0))
 }

@@ -1,11 +1,10 @@
 //! How a record is written, so that a crash leaves it whole or not at all.
 ghost use Rattle.std.specs.Prelude.{◌≡◌, ◌≢◌, ℕ, ◌+◌, ◌^◌, ◌≤◌, ◌<◌, ◌++◌, List, [], ◌∷◌, Some, length, slice_index, vec_capacity, IsTrue, OnOk, OnErr};
 ghost use Rattle.journal_records.specs.Records.{record_bytes, CanEncode, IsRecord};
-ghost use Rattle.score_disk.specs.Counts.{Counted};
 ghost use Rattle.score_disk.specs.Files.{IsSettled, Settled, synced, written};
 ghost use Rattle.node_journal.specs.Torn.{Near, LeavesOneOf, LeavesClosed};
-ghost use Rattle.node_journal.specs.Calls.{lowered, LoweredAtMost};
 ghost use Rattle.node_journal.specs.Log.{framed};
+ghost use Rattle.node_journal.specs.Spending.{Spends};
 
 use journal_records::encode;
 use score_base::{Failed, Record};
@@ -18,12 +17,8 @@ pub(crate) fn put_durably<D: Disk>(disk: &mut D, at: u64, bytes: &[u8]) -> Resul
     requires room { length bytes.now ≤ D.spare disk.old }
     ensures ok { OnOk result (IsTrue (D.tells disk.old) → D.file disk.new ≡ synced (written at bytes.now (D.file disk.old))) }
     ensures torn { OnErr result (IsTrue (D.tells disk.old) → Near (D.file disk.old) at (length bytes.now) (D.file disk.new)) }
-    ensures tells { D.tells disk.new ≡ D.tells disk.old }
     ensures spare { D.spare disk.old ≤ D.spare disk.new + length bytes.now }
-    ensures lowered { OnOk result (D.left disk.new ≡ lowered 2 (D.left disk.old)) }
-    ensures unstopped { OnOk result (D.left disk.new ≢ Some 0) }
-    ensures at_most { OnErr result (LoweredAtMost 2 (D.left disk.old) (D.left disk.new)) }
-    ensures counted { Counted (D.faults disk.old) (D.faults disk.new) (D.own disk.old) (D.own disk.new) (D.left disk.new) result }
+    ensures spends { Spends D.Disk 2 disk.old disk.new result }
 {
     match disk.write(at, bytes) {
         Ok(()) => {}
@@ -46,11 +41,7 @@ pub(crate) fn append_at<D: Disk>(disk: &mut D, gate: u64, frame: &[u8]) -> Resul
         D.file disk.new ≡ synced (written gate (1 ∷ []) (synced (written (gate + 1) frame.now (D.file disk.old))))) }
     ensures stopped { OnErr result (IsTrue (D.tells disk.old) → LeavesOneOf (D.file disk.old).seen gate frame.now (D.file disk.new)) }
     ensures early { OnErr result (IsTrue (D.tells disk.old) → (k : ℕ) → D.left disk.old ≡ Some k → k ≤ 2 → LeavesClosed (D.file disk.old).seen gate (D.file disk.new)) }
-    ensures tells { D.tells disk.new ≡ D.tells disk.old }
-    ensures lowered { OnOk result (D.left disk.new ≡ lowered 4 (D.left disk.old)) }
-    ensures unstopped { OnOk result (D.left disk.new ≢ Some 0) }
-    ensures at_most { OnErr result (LoweredAtMost 4 (D.left disk.old) (D.left disk.new)) }
-    ensures counted { Counted (D.faults disk.old) (D.faults disk.new) (D.own disk.old) (D.own disk.new) (D.left disk.new) result }
+    ensures spends { Spends D.Disk 4 disk.old disk.new result }
 {
     match put_durably(disk, gate + 1, frame) {
         Ok(()) => {}

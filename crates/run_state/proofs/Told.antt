@@ -16,7 +16,7 @@ use Rattle.grid_model.specs.Documents.{DocumentData}
 use Rattle.grid_model.specs.Histories.{sent, sent_at}
 use Rattle.grid_model.specs.Keyed.{at_key, put_key}
 use Rattle.grid_model.specs.Nodes.{Node, node, script_of, parts_of, is_home}
-use Rattle.grid_model.specs.Stories.{story, begun, told, if_told, heard, heard_at, asked, phase_at, Phase, with_request, with_value, with_vote, with_ack, without_answers, is_counted_vote, is_counted_ack, progressed}
+use Rattle.grid_model.specs.Stories.{story, begun_in, told, if_told, heard, heard_at, asked, phase_at, Phase, with_request, with_value, with_vote, with_ack, without_answers, is_counted_vote, is_counted_ack, progressed}
 use Rattle.run_state.proofs.ForCode.{at-put, put-other, script-number}
 use Rattle.run_state.specs.Kept.{retold, paired, voter, hearing_at, hearing_of, hearing, asking, telling, put_telling, forgotten, retold_by}
 
@@ -160,7 +160,14 @@ told-one d past f u xs same t = at-telling (retold u f (story d past u)) xs t �
 -- one act more
 pub stories-more : (d : DocumentData) (past : List Act) (a : Act) (xs : List (ℕ × Story)) → ((t : ℕ) → at_key t xs ≡ story d past t) → (t : ℕ) → at_key t (retold_by d a (telling d past a) xs) ≡ story d (a ∷ past) t
 stories-more d past (act.Down n h) xs same t = at-forgotten d n xs t ∙ ap (if_told (is_home d t n) without_answers) (same t)
-stories-more d past (act.Began u n s) xs same t = at-put_cases u t (begun s) xs ∙ ap (λ o. if u == t then Some (begun s) else o) (same t)
+stories-more d past (act.Began u n s) xs same t =
+    at-put_cases u t (begun_in d (node d past) u s) xs
+    ∙ ap (λ o. if u == t then Some (begun_in d (node d past) u s) else o) (same t)
+    ∙ begun-same (u == t) refl
+  where
+    begun-same : (b : Bool) → (u == t) ≡ b → (if b then Some (begun_in d (node d past) u s) else story d past t) ≡ (if b then Some (begun_in d (node d past) t s) else story d past t)
+    begun-same true at = let same : u ≡ t = grind (arith, nat_tests) in subst (λ w. Some (begun_in d (node d past) u s) ≡ Some (begun_in d (node d past) w s)) same refl
+    begun-same false at = refl
 stories-more d past (act.Sent m x y said) xs same t = at-telling (asking d past said) xs t ∙ ap (behind (asking d past said) t) (same t) ∙ asking-told d past said t
 stories-more d past (act.Got m) xs same t = at-telling (hearing d past (sent_at m (sent past))) xs t ∙ ap (behind (hearing d past (sent_at m (sent past))) t) (same t) ∙ hearing-told d past (sent_at m (sent past)) t
 stories-more d past (act.Taken u j sid v) xs same t = told-one d past (progressed (with_value j sid v)) u xs same t

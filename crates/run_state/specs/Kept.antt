@@ -14,7 +14,7 @@ use Rattle.grid_model.specs.Documents.{DocumentData}
 use Rattle.grid_model.specs.Histories.{after, sent, sent_at, is_gone}
 use Rattle.grid_model.specs.Keyed.{at_key, put_key}
 use Rattle.grid_model.specs.Nodes.{Node, blank, node, got, script_of, parts_of, is_home}
-use Rattle.grid_model.specs.Stories.{story, begun, with_request, with_value, without_answers, heard, phase_at, progressed}
+use Rattle.grid_model.specs.Stories.{story, begun_in, with_request, with_value, without_answers, heard, phase_at, progressed}
 
 -- a run so far: the acts of a document, in the order of time
 pub record RunData : Type 0 where
@@ -119,7 +119,7 @@ asking d past said = None
 
 -- the story that an act changes, as it is behind the act; a Down may change many
 abbrev pub telling : DocumentData → List Act → Act → Option (TxId × Story)
-telling d past (act.Began t n sid0) = Some (t, begun sid0)
+telling d past (act.Began t n sid0) = Some (t, begun_in d (node d past) t sid0)
 telling d past (act.Sent m x y said) = asking d past said
 telling d past (act.Got m) = hearing d past (sent_at m (sent past))
 telling d past (act.Taken t j sid v) = retold t (progressed (with_value j sid v)) (story d past t)

@@ -12,6 +12,7 @@ use crate::plain_nodes::PlainNode;
 use crate::scripts::{home_of, is_home, script_of};
 use crate::stories::{begun, copy_of, heard, with_request, with_value, without_answers};
 use grid_model::{Act, Document, Envelope, Message, Story};
+use journal_words::records::times_over;
 use score_base::{Ident, Memory, NodeId, TryCopy, TxId, Value, push};
 use std::alloc::Global;
 use std::marker::Model;
@@ -217,7 +218,7 @@ fn retold(
 impl<'a> RunState<'a> {
     ghost use Rattle.run_state.specs.Kept.{RunData, past, retold, hearing_at, hearing_of, hearing, asking, telling};
     ghost use Rattle.grid_model.specs.Nodes.{node, script_of};
-    ghost use Rattle.grid_model.specs.Stories.{story};
+    ghost use Rattle.grid_model.specs.Stories.{story, over_at};
     ghost use Rattle.grid_model.specs.declared.stories.Story.{Story};
     ghost use Rattle.std.specs.Fn.{FnOnceReturnsAtMut};
     ghost use Rattle.grid_model.specs.Schedules.{next_number, next_left, first_left};
@@ -295,6 +296,16 @@ impl<'a> RunState<'a> {
     {
         let RunState { acts, .. } = self;
         acts
+    }
+
+    /// How many Decided of a transaction are over at its home.
+    fn over_at(&self, t: TxId) -> usize
+        ensures { result ≡ over_at (node self.now.doc (past self.now)) (script_of t self.now.doc.scripts) }
+    {
+        match script_of(self.doc().scripts(), t) {
+            None => 0,
+            Some(script) => times_over(self.node(script.home).records.as_slice(), script.number),
+        }
     }
 
     fn asking(&self, message: &Message) -> Result<Option<(TxId, Story)>, Memory>
@@ -383,7 +394,7 @@ impl<'a> RunState<'a> {
         ensures { IfOk result (λ o. o ≡ telling self.now.doc (past self.now) act.now) }
     {
         match act {
-            Act::Began(t, _, sid0) => Ok(Some((*t, begun(alloc, *sid0)))),
+            Act::Began(t, _, sid0) => Ok(Some((*t, begun(alloc, self.over_at(*t), *sid0)))),
             Act::Sent(_, _, _, message) => self.asking(message),
             Act::Got(m) => self.hearing(alloc, *m),
             Act::Taken(t, j, sid, value) => self.taking(*t, *j, *sid, *value),

@@ -7,7 +7,7 @@ ghost use Rattle.grid_model.specs.Nodes.{parts_of};
 use crate::plain_nodes::PlainNode;
 use crate::scripts::parts_of;
 use grid_model::{Document, Message, Progress, Story, Voted};
-use journal_words::records::{decision, floor, undone};
+use journal_words::records::{floor, is_closed, later_decision};
 use score_base::{Ballot, Ident, Members, Memory, NodeId, NodeList, TryCopy, Value};
 use script_lang::{Script, is_update};
 use script_runs::first_waiting;
@@ -26,12 +26,13 @@ fn at_begin(alloc: Global, sid0: Ident) -> Progress
     }
 }
 
-/// A transaction that is begun.
-pub fn begun(alloc: Global, sid0: Ident) -> Story
-    ensures { result ≡ begun sid0 }
+/// A transaction that is begun where so many Decided of it are over.
+pub fn begun(alloc: Global, skipped: usize, sid0: Ident) -> Story
+    ensures { result ≡ begun skipped sid0 }
 {
     Story {
         progress: at_begin(alloc, sid0),
+        skipped,
         acks: NodeList::new(alloc),
         finished: false,
         aborted: false,
@@ -58,6 +59,7 @@ pub fn copy_of(story: &Story) -> Result<Story, Memory>
 {
     Ok(Story {
         progress: copy_of_progress(&story.progress)?,
+        skipped: story.skipped,
         acks: story.acks.copy()?,
         finished: story.finished,
         aborted: story.aborted,
@@ -145,7 +147,7 @@ fn is_undecided_collecting(script: &Script, story: &Story) -> bool
 fn is_collecting(script: &Script, story: &Story, home: &PlainNode) -> bool
     ensures { result ≡ is_collecting (phase_at script.now (Some story.now) home.now) }
 {
-    if story.lost || decision(home.records.as_slice(), script.number).is_some() {
+    if story.lost || later_decision(story.skipped, home.records.as_slice(), script.number).is_some() {
         return false;
     }
     is_undecided_collecting(script, story)
@@ -187,10 +189,11 @@ fn is_counted_vote(
 fn is_counted_ack(script: &Script, story: &Story, home: &PlainNode, from: NodeId) -> bool
     ensures { (ns : List ℕ) → result ≡ is_counted_ack ns (phase_at script.now (Some story.now) home.now) home.now.journal home.now.next from }
 {
-    if story.lost {
+    let records = home.records.as_slice();
+    if story.lost || is_closed(records, script.number) {
         return false;
     }
-    match undone(home.records.as_slice(), script.number) {
+    match later_decision(story.skipped, records, script.number) {
         None => false,
         Some(decided) => is_small_node(home) && decided.parts.as_slice().contains(&from),
     }

@@ -33,7 +33,7 @@ use Rattle.grid_model.specs.Views.{Participant, Open, Stage, Apart, Reads, Colle
 use Rattle.grid_model.specs.Advances.{advance, advance_end, owns, request, request_of, prepares, prepare_for, parts_now, to_node}
 use Rattle.script_runs.specs.Walks.{unread, own_reads}
 use Rattle.grid_model.specs.Fitness.{is_fit_at}
-use Rattle.grid_model.specs.Rows.{served, version_for, release, ceilings, raises, answered, read_outs, reply_outs, judged, prepared_outs, tells, decides, ballot_outs, vote_outs, are_all_among, closed_outs, ack_outs, asked_outs, commit_outs, abort_outs, freed_by, tell_outs, message_outs, answer_at, begun_at, begin_outs, not_voted, not_among, retry_outs, ask_outs, if_pending}
+use Rattle.grid_model.specs.Rows.{first_ident, served, version_for, release, ceilings, raises, answered, read_outs, reply_outs, judged, prepared_outs, tells, decides, ballot_outs, vote_outs, are_all_among, closed_outs, ack_outs, asked_outs, commit_outs, abort_outs, freed_by, tell_outs, message_outs, answer_at, begun_at, begin_outs, not_voted, not_among, retry_outs, ask_outs, if_pending}
 use Rattle.schedule_replay.specs.Numbering.{sends}
 use Rattle.schedule_replay.specs.Stages.{parts_left}
 
@@ -244,8 +244,8 @@ counts-row n p held s x (message.Ask t) = counts-more 1 0 _ 1 _ (omega arith) (o
 pub counts-answer : (n : ℕ) (p : Participant) (held : List HeldRead) (s : Stage) (x : ℕ) (said : Message) → Counts (16 + length held) 1 (answer_at n p held s x said)
 counts-answer n p held s x said = counts-if (is_fit_at n p s x said) (16 + length held) 1 (message_outs n p held s x said) [] (counts-row n p held s x said) (counts-none (16 + length held) 1)
 
-pub counts-begin : (n : ℕ) (p : Participant) (s : ScriptData) → Counts 16 0 (begin_outs n p s)
-counts-begin n p s = let a : Counts 16 0 (advance p.cluster (begun_at s (commit_id p.journal)) 0) = counts-advance p.cluster (begun_at s (commit_id p.journal)) 0 in record { sent = a.sent; held = a.held; own = a.own }
+pub counts-begin : (n : ℕ) (p : Participant) (s : ScriptData) (floor : ℕ) → Counts 16 0 (begin_outs n p s floor)
+counts-begin n p s floor = let a : Counts 16 0 (advance p.cluster (begun_at s (first_ident p floor)) 0) = counts-advance p.cluster (begun_at s (first_ident p floor)) 0 in record { sent = a.sent; held = a.held; own = a.own }
 
 -- the parts of a decided transaction are at most 16
 abbrev pub IsShort : Stage → Type 0

@@ -9,6 +9,7 @@ use Rattle.grid_model.specs.declared.acts.Flag.{Flag}
 use Rattle.grid_model.specs.declared.events.Out.{Out}
 use Rattle.grid_model.specs.declared.items.Item.{Item}
 use Rattle.grid_model.specs.declared.messages.Envelope.{Envelope}
+use Rattle.grid_model.specs.Sessions.{floor_at}
 use Rattle.grid_model.specs.Documents.{DocumentData}
 use Rattle.grid_model.specs.Histories.{after, sent}
 use Rattle.grid_model.specs.Nodes.{node}
@@ -26,8 +27,8 @@ use Rattle.schedule_replay.proofs.Reopened.{are_lost, losses-lost, lost-posts, l
 
 -- ---- what nodes give
 
-pub few-begin : (d : DocumentData) (past : List Act) (k : ℕ) (s : ScriptData) → IsFew d past k → Counts (16 + k) 1 (begin_outs s.home (participant (view d past s.home)) s)
-few-begin d past k s f = counts-more 16 0 (16 + k) 1 (begin_outs s.home (participant (view d past s.home)) s) (omega arith) (omega arith) (counts-begin s.home (participant (view d past s.home)) s)
+pub few-begin : (d : DocumentData) (past : List Act) (k : ℕ) (s : ScriptData) → IsFew d past k → Counts (16 + k) 1 (begin_outs s.home (participant (view d past s.home)) s (floor_at d past s))
+few-begin d past k s f = counts-more 16 0 (16 + k) 1 (begin_outs s.home (participant (view d past s.home)) s (floor_at d past s)) (omega arith) (omega arith) (counts-begin s.home (participant (view d past s.home)) s (floor_at d past s))
 
 pub few-answer : (d : DocumentData) (past : List Act) (k : ℕ) (e : Envelope) → IsFew d past k → Counts (16 + k) 1 (answer e.to (view d past e.to) e.from e.message)
 few-answer d past k e f = counts-more (16 + length (node d past e.to).held) 1 (16 + k) 1 (answer e.to (view d past e.to) e.from e.message) (omega (arith, f.held_few e.to)) (omega arith) (counts-answer e.to (participant (view d past e.to)) (view d past e.to).held (stage (view d past e.to) (tx_in e.message)) e.from e.message)
@@ -71,7 +72,7 @@ adds-shape d past k i f (idle acts is) = adds-idle (16 + k) acts is
 adds-shape d past k i f (arms n c how is) = record { sent = omega arith; held = omega arith }
 adds-shape d past k i f (crashes n up) = record { sent = omega arith; held = omega arith }
 adds-shape d past k i f (restarts n up) = adds-opened d past (16 + k) n (flag_of (node d past n).doubt false)
-adds-shape d past k i f (begins s is new up) = adds-acts past (16 + k) s.home _ (few-begin d past k s f)
+adds-shape d past k i f (begins s is new up quiet) = adds-acts past (16 + k) s.home _ (few-begin d past k s f)
 adds-shape d past k i f (delivers m e is up) = adds-got (16 + k) m _ (adds-acts past (16 + k) e.to _ (few-answer d past k e f))
 adds-shape d past k i f (again n os up is) = adds-acts past (16 + k) n os (few-again d past k n os f is)
 

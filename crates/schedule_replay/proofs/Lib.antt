@@ -8,3 +8,4 @@ pub mod Reopened
 pub mod Events
 pub mod Ranges
 pub mod Loops
+pub mod Left

@@ -20,7 +20,7 @@ use grid_model::{Act, Message, Out, Story};
 use journal_words::records::{commit_id, home_of, pending};
 use placement::Cluster;
 use run_state::{PlainNode, begun};
-use score_base::{Memory, NodeId, Outcome, TxId, append, push};
+use score_base::{Ident, Memory, NodeId, Outcome, TxId, append, push};
 use script_lang::Script;
 use std::alloc::Global;
 
@@ -85,19 +85,20 @@ pub fn answer(
     row_of(alloc, cluster, n, node, &stage, from, message)
 }
 
-/// What node `n` gives where a transaction of its own begins.
+/// What node `n` gives where a transaction of its own begins, whose session has this floor.
 pub fn begin_outs(
     alloc: Global,
     cluster: &Cluster,
     n: NodeId,
     node: &PlainNode,
     script: &Script,
+    floor: Ident,
 ) -> Result<Vec<Out>, Memory>
-    ensures row { IfOk result (λ outs. outs.items ≡ begin_outs n (participant_of cluster.now node.now) script.now) }
+    ensures row { IfOk result (λ outs. outs.items ≡ begin_outs n (participant_of cluster.now node.now) script.now floor) }
     ensures few { IfOk result (λ outs. sends outs.items ≤ 16) }
 {
-    let sid0 = commit_id(alloc, node.records.as_slice())?;
-    let story = begun(alloc, sid0);
+    let sid0 = commit_id(alloc, node.records.as_slice())?.max(floor);
+    let story = begun(alloc, 0, sid0);
     let tx = Open {
         script,
         story: &story,

@@ -15,6 +15,7 @@ mod readers;
 mod replays;
 mod restarts;
 mod schedule;
+mod sessions;
 mod stages;
 mod voters;
 

@@ -3,11 +3,13 @@ ghost use Rattle.std.specs.Prelude.{◌≡◌, ◌≤◌, ◌+◌, IfOk, length}
 ghost use Rattle.grid_model.specs.Nodes.{node, script_of};
 ghost use Rattle.grid_model.specs.Views.{participant, view, stage};
 ghost use Rattle.grid_model.specs.Rows.{answer, begin_outs, retry_outs, ask_outs};
+ghost use Rattle.grid_model.specs.Sessions.{floor_at};
 ghost use Rattle.run_state.specs.Kept.{past};
 ghost use Rattle.schedule_replay.specs.Numbering.{sends};
 ghost use Rattle.schedule_replay.specs.Replays.{HasRoom};
 
 use crate::answers::{answer, ask_outs, begin_outs, retry_outs, tx_in};
+use crate::sessions::floor_of;
 use grid_model::{Envelope, Out};
 use run_state::{RunState, script_of};
 use score_base::{Memory, NodeId, TxId};
@@ -16,10 +18,11 @@ use std::alloc::Global;
 
 /// What the home gives where its transaction begins.
 pub fn outs_at_begin(alloc: Global, run: &RunState, script: &Script) -> Result<Vec<Out>, Memory>
-    ensures outs { IfOk result (λ outs. outs.items ≡ begin_outs script.now.home (participant (view run.now.doc (past run.now) script.now.home)) script.now) }
+    ensures outs { IfOk result (λ outs. outs.items ≡ begin_outs script.now.home (participant (view run.now.doc (past run.now) script.now.home)) script.now (floor_at run.now.doc (past run.now) script.now)) }
 {
     let home = script.home;
-    begin_outs(alloc, run.doc().cluster(), home, run.node(home), script)
+    let floor = floor_of(run, script.session);
+    begin_outs(alloc, run.doc().cluster(), home, run.node(home), script, floor)
 }
 
 /// What the receiver of a message gives.

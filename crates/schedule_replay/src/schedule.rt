@@ -13,6 +13,7 @@ ghost use Rattle.schedule_replay.specs.Replays.{HasRoom};
 use crate::numbering::number_all;
 use crate::outs::{outs_at_ask, outs_at_begin, outs_at_delivery, outs_at_retry};
 use crate::restarts::{only, restart_row, voided};
+use crate::sessions::is_busy;
 use grid_model::{Act, Item, Out, Void};
 use run_state::{RunState, script_of};
 use score_base::{Memory, NodeId, TxId};
@@ -59,6 +60,9 @@ fn begin_row(alloc: Global, run: &RunState, t: TxId) -> Result<Vec<Act>, Memory>
     };
     if !run.node(script.home).up {
         return voided(alloc, Void::HomeDown);
+    }
+    if is_busy(run, script.session) {
+        return voided(alloc, Void::SessionBusy);
     }
     let outs = outs_at_begin(alloc, run, script)?;
     acts_of(run, Vec::new(alloc), script.home, outs)

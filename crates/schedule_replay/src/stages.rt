@@ -10,7 +10,7 @@ ghost use Rattle.journal_words.specs.Journals.{undone};
 ghost use Rattle.schedule_replay.specs.Stages.{shown};
 
 use grid_model::Story;
-use journal_words::records::{Decided, decision, undone};
+use journal_words::records::{Decided, later_decision, undone};
 use placement::Cluster;
 use run_state::{PlainNode, parts_at};
 use score_base::{Memory, NodeId, NodeList, TxId};
@@ -61,7 +61,7 @@ pub fn is_open(node: &PlainNode, script: &Script, story: &Story) -> bool
     if story.lost || story.aborted || (story.finished && !is_update(script.ops())) {
         return false;
     }
-    decision(node.records.as_slice(), script.number).is_none()
+    later_decision(story.skipped, node.records.as_slice(), script.number).is_none()
 }
 
 /// A transaction of this home, where it is reading or collecting.

@@ -8,6 +8,7 @@ use Rattle.grid_model.specs.Claims.{Caused, Genuine, Kept}
 use Rattle.grid_model.specs.Excuses.{Accounted}
 use Rattle.grid_model.specs.Claims.{Atomic}
 use Rattle.grid_model.specs.Claims.{RefusedWhereAsked}
+use Rattle.grid_model.specs.Sessions.{SessionOrder}
 
 -- The headline of these acts: they are a lawful run of the document in which no disk failed; committed
 -- updates, by final identifier and then by number, and finished read-only transactions, at their snapshot,
@@ -15,7 +16,8 @@ use Rattle.grid_model.specs.Claims.{RefusedWhereAsked}
 -- committed wherever it ended; an update whose client was told is committed, and stands in all lists of
 -- records that the disks may hold; only the home of a transaction and the holders of its keys send and get
 -- its messages; each abort, refusal and loss has its shown cause; each transaction that was begun is
--- answered, aborted, lost, decided or closed, or it is excused.
+-- answered, aborted, lost, decided or closed, or it is excused; and the serial order keeps the order of
+-- each session.
 pub record Headline (d : DocumentData) (h : List Act) : Type 0 where
   pub lawful : Lawful d h (λ n. 0)
   pub copy : OneCopy d h
@@ -25,3 +27,4 @@ pub record Headline (d : DocumentData) (h : List Act) : Type 0 where
   pub causes : Caused d h
   pub asked : RefusedWhereAsked h
   pub accounted : Accounted d h
+  pub sessions : SessionOrder d h

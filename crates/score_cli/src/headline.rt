@@ -7,6 +7,7 @@ ghost use Rattle.score_cli.specs.Headline.{Headline};
 
 use cause_laws::{law_caused, law_excused, law_genuine};
 use copy_laws::{law_atomic, law_kept, law_one_copy};
+use session_laws::law_sessions;
 
 /// The headline holds of each lawful run of a document in which no disk failed.
 pub fn law_headline()
@@ -18,4 +19,5 @@ pub fn law_headline()
     law_genuine();
     law_caused();
     law_excused();
+    law_sessions();
 }

@@ -84,3 +84,17 @@ pub const LOCK_UNTIL_APPLIED: &str =
 
 pub const LOCK_UNTIL_APPLIED_TEXT: &str =
     "up n1 none\nup n2 none\nbegan 1 n1 0\nsent 1 n1 n2 prepare 1 0 parts 1 n2 reads 0 writes 1 a 1\nbegan 2 n1 0\nsent 2 n1 n2 prepare 2 0 parts 1 n2 reads 0 writes 1 c 2\ngot 1\nprepared n2 1 1\nsent 3 n2 n1 vote 1 yes 1\ngot 2\nprepared n2 2 2\nsent 4 n2 n1 vote 2 yes 2\ngot 4\ndecided 2 2\nfinished 2\nsent 5 n1 n2 tell 2 commit 2\ngot 5\nended n2 2 commit 2\nsent 6 n2 n1 ack 2\nbegan 3 n1 0\nsent 7 n1 n2 prepare 3 0 parts 1 n2 reads 0 writes 1 c 3\ngot 7\nrefused n2 3 holder 2\nsent 8 n2 n1 vote 3 no holder 2\nsummary\ntx 1 collecting\ntx 2 committed 2\ntx 3 collecting\nkey a n2 10 0\nkey b n1 0 0\nkey c n2 0 0\n";
+
+/// A client writes at one node and reads at another, in one session.
+pub const SESSION: &str =
+    "nodes 2\npartition 0 n1\npartition 1 n2\ninit a 10\ninit b 0\ntx 1 n1 session 5\nwrite b 5\nend\ntx 2 n2 session 5\nread a\nread b\nend\nschedule\nbegin 1\nbegin 2\nnext 4\nbegin 2\nnext 4\n";
+
+pub const SESSION_TEXT: &str =
+    "up n1 none\nup n2 none\nbegan 1 n1 0\nsent 1 n1 n1 prepare 1 0 parts 1 n1 reads 0 writes 1 b 5\nvoid 9\ngot 1\nprepared n1 1 1\nsent 2 n1 n1 vote 1 yes 1\ngot 2\ndecided 1 1\nfinished 1\nsent 3 n1 n1 tell 1 commit 1\ngot 3\nended n1 1 commit 1\nsent 4 n1 n1 ack 1\ngot 4\nclosed 1\nbegan 2 n2 1\nsent 5 n2 n2 readreq 2 1 a first 1\ngot 5\nceiling n2 64\nraised n2 1\nserved n2 2 1 a 1 0 10\nsent 6 n2 n2 readrep 2 1 1 10\ngot 6\ntaken 2 1 1 10\nsent 7 n2 n1 readreq 2 2 b at 1\ngot 7\nserved n1 2 2 b 1 1 5\nsent 8 n1 n2 readrep 2 2 1 5\ngot 8\ntaken 2 2 1 5\nfinished 2\nsummary\ntx 1 committed 1\ntx 2 read 1\nkey a n2 10 0\nkey b n1 5 1\n";
+
+/// The same without a session.
+pub const WITHOUT_SESSION: &str =
+    "nodes 2\npartition 0 n1\npartition 1 n2\ninit a 10\ninit b 0\ntx 1 n1\nwrite b 5\nend\ntx 2 n2\nread a\nread b\nend\nschedule\nbegin 1\nbegin 2\nnext 4\nbegin 2\nnext 4\n";
+
+pub const WITHOUT_SESSION_TEXT: &str =
+    "up n1 none\nup n2 none\nbegan 1 n1 0\nsent 1 n1 n1 prepare 1 0 parts 1 n1 reads 0 writes 1 b 5\nbegan 2 n2 0\nsent 2 n2 n2 readreq 2 1 a first 0\ngot 1\nprepared n1 1 1\nsent 3 n1 n1 vote 1 yes 1\ngot 2\nserved n2 2 1 a 0 0 10\nsent 4 n2 n2 readrep 2 1 0 10\ngot 3\ndecided 1 1\nfinished 1\nsent 5 n1 n1 tell 1 commit 1\ngot 4\ntaken 2 1 0 10\nsent 6 n2 n1 readreq 2 2 b at 0\nvoid 1\ngot 5\nended n1 1 commit 1\nsent 7 n1 n1 ack 1\ngot 6\nserved n1 2 2 b 0 0 0\nsent 8 n1 n2 readrep 2 2 0 0\ngot 7\nclosed 1\ngot 8\ntaken 2 2 0 0\nfinished 2\nsummary\ntx 1 committed 1\ntx 2 read 0\nkey a n2 10 0\nkey b n1 5 1\n";

@@ -123,6 +123,13 @@ fn updates(rt: HostRuntime) {
     runs(&rt, alloc, rows::REPEATED_VOTES, rows::REPEATED_VOTES_TEXT);
     runs(&rt, alloc, rows::EQUAL_FINALS, rows::EQUAL_FINALS_TEXT);
     runs(&rt, alloc, rows::OWN_READ, rows::OWN_READ_TEXT);
+    runs(&rt, alloc, rows::SESSION, rows::SESSION_TEXT);
+    runs(
+        &rt,
+        alloc,
+        rows::WITHOUT_SESSION,
+        rows::WITHOUT_SESSION_TEXT,
+    );
     runs(
         &rt,
         alloc,

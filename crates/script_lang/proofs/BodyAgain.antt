@@ -10,7 +10,7 @@ use Rattle.score_base.specs.declared.keys.Key.{Key}
 use Rattle.score_base.specs.declared.ids.NodeId.{NodeId}
 use Rattle.score_base.specs.declared.ids.TxId.{TxId}
 use Rattle.score_base.specs.Keys.{is_key}
-use Rattle.script_lang.specs.declared.limits.TheConstants.{MAX_OPS, MAX_TX}
+use Rattle.script_lang.specs.declared.limits.TheConstants.{MAX_OPS, MAX_SESSION, MAX_TX}
 use Rattle.script_lang.specs.declared.script_lines.Stage.TheVariants as stage
 use Rattle.script_lang.specs.declared.scripts.Op.TheVariants as op
 use Rattle.script_lang.specs.Scripts.{ScriptData}
@@ -20,19 +20,24 @@ use Rattle.script_lang.specs.declared.exprs.Expr.{Expr}
 use Rattle.script_lang.specs.Words.{node_of, key_of, tx_of}
 use Rattle.script_lang.specs.Names.{is_taken, with_key, name_key, new_number}
 use Rattle.script_lang.specs.ExprWords.{expr_of}
-use Rattle.script_lang.specs.Spelling.{expr_words, is_plain_expr}
-use Rattle.script_lang.specs.ScriptLines.{first_line, read_line, write_line, end_line, body_line}
+use Rattle.script_lang.specs.Spelling.{expr_words, session_words, is_plain_expr}
+use Rattle.script_lang.specs.ScriptLines.{session_of, first_line, read_line, write_line, end_line, body_line}
 use Rattle.script_lang.proofs.WordsAgain.{goes, passes, node_of_again, key_again, tx_again}
+use Rattle.script_lang.proofs.SessionWords.{session_again}
 use Rattle.script_lang.proofs.NamesRead.{name_again}
 use Rattle.script_lang.proofs.StepsRead.{expr_again}
 
-pub first_line_again : (nodes : ℕ) (numbers : BTreeSet TxId) (t : TxId) (n : NodeId) → is_taken numbers t ≡ false → (nat_le 1 t && nat_le t MAX_TX) ≡ true → nat_le 1 n ≡ true → nat_le n nodes ≡ true → n < 2 ^ 64
-    → first_line nodes numbers (decimal t ∷ (110 ∷ decimal n) ∷ []) ≡ Ok (record { number = t; home = n; ops = [] })
+pub first_line_again : (nodes : ℕ) (numbers : BTreeSet TxId) (t : TxId) (n : NodeId) (s : ℕ)
+    → is_taken numbers t ≡ false → (nat_le 1 t && nat_le t MAX_TX) ≡ true
+    → nat_le 1 n ≡ true → nat_le n nodes ≡ true → n < 2 ^ 64 → nat_le s MAX_SESSION ≡ true
+    → first_line nodes numbers (decimal t ∷ (110 ∷ decimal n) ∷ session_words s)
+    ≡ Ok (record { number = t; home = n; session = s; ops = [] })
 unfolding first_line
-first_line_again nodes numbers t n new is least most low =
+first_line_again nodes numbers t n s new is least most low few =
     goes (tx_of (decimal t)) _ t _ (tx_again t is)
     (goes (new_number numbers t) _ tt _ (rw new refl)
-    (goes (node_of nodes (110 ∷ decimal n)) _ n _ (node_of_again nodes n least most low) refl))
+    (goes (node_of nodes (110 ∷ decimal n)) _ n _ (node_of_again nodes n least most low)
+    (goes (session_of (session_words s)) _ s _ (session_again s few) refl)))
 
 -- a line of an operation, with room for it and its key
 pub read_again : (most : ℕ) (named : BTreeSet Key) (s : ScriptData) (k : Key) → length s.ops < MAX_OPS → length (insert_key (slice_cmp nat_cmp) named.keys k) ≤ most → is_key k ≡ true

@@ -7,7 +7,7 @@ use Rattle.std.proofs.lemmas.Bool.Decides.{nat_tests}
 use Rattle.std.proofs.lemmas.List.{map-append}
 use Rattle.score_base.specs.declared.keys.Key.{Key}
 use Rattle.score_base.specs.declared.ids.TxId.{TxId}
-use Rattle.script_lang.specs.declared.limits.TheConstants.{MAX_OPS, MAX_TX}
+use Rattle.script_lang.specs.declared.limits.TheConstants.{MAX_OPS, MAX_SESSION, MAX_TX}
 use Rattle.script_lang.specs.declared.script_lines.Stage.{Stage}
 use Rattle.script_lang.specs.declared.script_lines.Stage.TheVariants as stage
 use Rattle.script_lang.specs.declared.scripts.Op.{Op}
@@ -21,9 +21,10 @@ use Rattle.script_lang.specs.Words.{node_of, key_of, tx_of}
 use Rattle.script_lang.specs.Names.{is_taken, with_key, name_key, new_number}
 use Rattle.script_lang.specs.ExprWords.{expr_of}
 use Rattle.script_lang.specs.Spelling.{op_words, tx_words, script_words, is_plain_op}
-use Rattle.script_lang.specs.ScriptLines.{first_line, read_line, write_line, end_line, body_line}
+use Rattle.script_lang.specs.ScriptLines.{session_of, first_line, read_line, write_line, end_line, body_line}
 use Rattle.script_lang.proofs.Readings.{behind, either}
 use Rattle.script_lang.proofs.WordsRead.{word_read, end_read, key_read, tx_read, node_read}
+use Rattle.script_lang.proofs.SessionWords.{session_read}
 use Rattle.script_lang.proofs.NamesRead.{name_read}
 use Rattle.script_lang.proofs.StepsRead.{IsExprOf, expr_read}
 
@@ -34,6 +35,7 @@ pub record IsFirst (nodes : ℕ) (numbers : BTreeSet TxId) (line : List (List �
   pub new : is_taken numbers s.number ≡ false
   pub tx : (nat_le 1 s.number && nat_le s.number MAX_TX) ≡ true
   pub node : (nat_le 1 s.home && nat_le s.home nodes) ≡ true
+  pub session : nat_le s.session MAX_SESSION ≡ true
 
 pub first_line_read : (nodes : ℕ) (numbers : BTreeSet TxId) (ws : List (List ℕ)) → IfOk (first_line nodes numbers ws) (IsFirst nodes numbers (codes "tx" ∷ ws))
 unfolding first_line
@@ -41,12 +43,13 @@ first_line_read nodes numbers ws =
     behind (word_at ws) _ (λ x. ws ≡ x.0 ∷ x.1) _ (word_read ws) (λ w a. behind (tx_of w.0) _ _ _ (tx_read w.0) (λ t b.
     behind (new_number numbers t) _ (λ _. is_taken numbers t ≡ false) _ (either (is_taken numbers t) _ _ _ (λ e. tt) (λ e. e)) (λ _ new.
     behind (word_at w.1) _ (λ x. w.1 ≡ x.0 ∷ x.1) _ (word_read w.1) (λ v c. behind (node_of nodes v.0) _ _ _ (node_read nodes v.0) (λ n d.
-    behind (end_at v.1) _ (λ _. v.1 ≡ []) _ (end_read v.1) (λ _ e. record {
+    behind (session_of v.1) _ _ _ (session_read v.1) (λ s e. record {
       bare = refl;
-      spelled = ap (λ l. codes "tx" ∷ l) (a ∙ ap (λ x. x ∷ w.1) b.0 ∙ ap (λ l. decimal t ∷ l) (c ∙ ap (λ x. x ∷ v.1) d.0 ∙ ap (λ l. (110 ∷ decimal n) ∷ l) e));
+      spelled = ap (λ l. codes "tx" ∷ l) (a ∙ ap (λ x. x ∷ w.1) b.0 ∙ ap (λ l. decimal t ∷ l) (c ∙ ap (λ x. x ∷ v.1) d.0 ∙ ap (λ l. (110 ∷ decimal n) ∷ l) e.0));
       new = new;
       tx = b.1;
       node = d.1;
+      session = e.1;
     }))))))
 
 -- the expression of a write is over the known keys

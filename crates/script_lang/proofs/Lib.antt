@@ -8,6 +8,7 @@ pub mod WordsRead
 pub mod AtomsRead
 pub mod StepsRead
 pub mod WordsAgain
+pub mod SessionWords
 pub mod NamesRead
 pub mod BodyRead
 pub mod BodyAgain

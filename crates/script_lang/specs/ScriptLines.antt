@@ -1,6 +1,6 @@
--- A script as lines: 'tx t n', then 1 to 32 lines 'read k' or 'write k E', then 'end'. The same lines
--- stand in a text of one script and in a document; a reader passes the keys that were named before
--- them, and how many may be named at most.
+-- A script as lines: 'tx t n' or 'tx t n session s', then 1 to 32 lines 'read k' or 'write k E', then
+-- 'end'. The same lines stand in a text of one script and in a document; a reader passes the keys that
+-- were named before them, and how many may be named at most.
 use Rattle.std.specs.Prelude.{◌≡◌, ℕ, ◌+◌, ◌==◌, nat_le, List, [], ◌∷◌, ◌++◌, length, Option, Some, None, Result, Ok, Err, if◌then◌else◌, codes}
 use Rattle.std.specs.List.{slice_split, list_all}
 use Rattle.std.specs.BTreeSet.{BTreeSet}
@@ -8,7 +8,7 @@ use Rattle.score_base.specs.declared.keys.Key.{Key}
 use Rattle.score_base.specs.declared.ids.TxId.{TxId}
 use Rattle.script_lang.specs.Scripts.{ScriptData}
 use Rattle.script_lang.specs.Whys.{number_of}
-use Rattle.script_lang.specs.declared.limits.TheConstants.{MAX_OPS}
+use Rattle.script_lang.specs.declared.limits.TheConstants.{MAX_OPS, MAX_SESSION}
 use Rattle.script_lang.specs.declared.scripts.Op.TheVariants as op
 use Rattle.script_lang.specs.declared.script_lines.Stage.{Stage}
 use Rattle.script_lang.specs.declared.script_lines.Stage.TheVariants as stage
@@ -19,14 +19,27 @@ use Rattle.script_lang.specs.declared.whys.ScriptEnd.TheVariants as ends
 use Rattle.script_lang.specs.declared.whys.Why.{Why}
 use Rattle.script_lang.specs.declared.whys.Why.TheVariants as why
 use Rattle.script_lang.specs.Reads.{known_keys}
-use Rattle.script_lang.specs.Reading.{◌>>=◌, is_word, word_at, end_at}
+use Rattle.script_lang.specs.Reading.{◌>>=◌, is_word, word_at, end_at, number_at, in_range}
 use Rattle.script_lang.specs.Words.{node_of, key_of, tx_of, is_printed}
 use Rattle.script_lang.specs.Names.{name_key, new_number}
 use Rattle.script_lang.specs.ExprWords.{expr_of}
 
 -- The words of each line behind the first one.
 
--- 'tx t n': a number that no other script has, and the home
+-- the number of a session, and no word behind it
+unfoldable pub session_number : List (List ℕ) → Result ℕ Why
+session_number ws = do
+  n ← number_at ws
+  s ← in_range 1 MAX_SESSION n.0
+  end ← end_at n.1
+  Ok s
+
+-- 'session s', or no word for no session
+abbrev pub session_of : List (List ℕ) → Result ℕ Why
+session_of [] = Ok 0
+session_of (w ∷ ws) = if is_word w (codes "session") then session_number ws else Err why.Word
+
+-- 'tx t n' or 'tx t n session s': a number that no other script has, the home, the session
 unfoldable pub first_line : ℕ → BTreeSet TxId → List (List ℕ) → Result ScriptData Why
 first_line nodes numbers ws = do
   w ← word_at ws
@@ -34,8 +47,8 @@ first_line nodes numbers ws = do
   new ← new_number numbers t
   v ← word_at w.1
   n ← node_of nodes v.0
-  end ← end_at v.1
-  Ok (record { number = t; home = n; ops = [] })
+  s ← session_of v.1
+  Ok (record { number = t; home = n; session = s; ops = [] })
 
 -- 'read k'
 unfoldable pub read_line : ℕ → BTreeSet Key → ScriptData → List (List ℕ) → Result (Stage × BTreeSet Key) Why

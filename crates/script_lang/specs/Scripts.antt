@@ -1,5 +1,5 @@
 -- Scripts, and what makes one well formed.
-use Rattle.std.specs.Prelude.{◌≤◌, Bool, true, ◌&&◌, List, [], ◌∷◌, length, IsTrue}
+use Rattle.std.specs.Prelude.{ℕ, ◌≤◌, Bool, true, ◌&&◌, List, [], ◌∷◌, length, IsTrue}
 use Rattle.score_base.specs.declared.ids.TxId.{TxId}
 use Rattle.score_base.specs.declared.ids.NodeId.{NodeId}
 use Rattle.score_base.specs.declared.keys.Key.{Key}
@@ -8,10 +8,11 @@ use Rattle.script_lang.specs.declared.scripts.Op.TheVariants as op
 use Rattle.script_lang.specs.Exprs.{is_expr_among}
 use Rattle.script_lang.specs.declared.limits.TheConstants.{MAX_OPS}
 
--- a script: its number, its home, its operations in order
+-- a script: its number, its home, its session or 0 for none, its operations in order
 pub record ScriptData : Type 0 where
   pub number : TxId
   pub home : NodeId
+  pub session : ℕ
   pub ops : List Op
 
 -- each expression has at most 16 steps and names only keys that were read before it

@@ -1,5 +1,5 @@
 -- The words and lines by which expressions and scripts are written.
-use Rattle.std.specs.Prelude.{ℕ, ◌^◌, ◌&&◌, nat_lt, Bool, true, List, [], ◌∷◌, ◌++◌, map, codes}
+use Rattle.std.specs.Prelude.{ℕ, ◌^◌, ◌==◌, ◌&&◌, if◌then◌else◌, nat_lt, Bool, true, List, [], ◌∷◌, ◌++◌, map, codes}
 use Rattle.std.specs.List.{flat_map, join_with_byte}
 use Rattle.std.specs.Fmt.{decimal}
 use Rattle.score_base.specs.Keys.{is_key}
@@ -35,9 +35,13 @@ abbrev pub op_words : Op → List (List ℕ)
 op_words (op.Read k) = codes "read" ∷ k ∷ []
 op_words (op.Write k e) = codes "write" ∷ k ∷ expr_words e
 
+-- the words that name a session, or none where there is none
+abbrev pub session_words : ℕ → List (List ℕ)
+session_words s = if s == 0 then [] else codes "session" ∷ decimal s ∷ []
+
 -- the words of the first line of a script
 abbrev pub tx_words : ScriptData → List (List ℕ)
-tx_words s = codes "tx" ∷ decimal s.number ∷ (110 ∷ decimal s.home) ∷ []
+tx_words s = codes "tx" ∷ decimal s.number ∷ (110 ∷ decimal s.home) ∷ session_words s.session
 
 -- the words of each line of a script
 abbrev pub script_words : ScriptData → List (List (List ℕ))

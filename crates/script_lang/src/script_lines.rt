@@ -1,14 +1,17 @@
 //! The lines of a script, as each reader of scripts meets them.
 ghost use Rattle.std.specs.Prelude.{◌≡◌, map};
 ghost use Rattle.script_lang.specs.Reading.{Gives};
-ghost use Rattle.script_lang.specs.ScriptLines.{first_line, read_line, write_line, end_line, body_line};
+ghost use Rattle.script_lang.specs.ScriptLines.{session_number, session_of, first_line};
+ghost use Rattle.script_lang.specs.ScriptLines.{read_line, write_line, end_line, body_line};
 
 use crate::expr_words::read_expr;
-use crate::limits::MAX_OPS;
+use crate::limits::{MAX_OPS, MAX_SESSION};
 use crate::names::{name_key, new_number};
 use crate::scripts::{Script, ScriptDraft};
 use crate::whys::{LineEnd, Why};
-use crate::words::{NodeCount, end_at, is_word, key_of, node_of, tx_of, word_at};
+use crate::words::{
+    NodeCount, end_at, in_range, is_word, key_of, node_of, number_at, tx_of, word_at,
+};
 use score_base::{Key, TxId};
 use std::alloc::Global;
 use std::collections::BTreeSet;
@@ -22,7 +25,34 @@ pub enum Stage {
     Done(Script),
 }
 
-/// The first line, behind its word `tx`: a number that no other script has, and the home.
+/// The number of a session, from 1 to 65,535, and no word behind it; why 10, 2, 9 or 1.
+#[tactic(auto, unfolding(crate::specs::ScriptLines::session_number))]
+fn session_number(words: &[&[u8]]) -> Result<u16, LineEnd>
+    ensures { Gives (λ s. s) result (session_number (map (λ w. w.now) words.now)) }
+{
+    let (n, rest) = number_at(words)?;
+    let session = in_range(1, MAX_SESSION as u64, n)?;
+    end_at(rest)?;
+    Ok(session as u16)
+}
+
+/// The session that the words name, from `session` on, or 0 where no word is left.
+fn session_of(words: &[&[u8]]) -> Result<u16, LineEnd>
+    ensures { Gives (λ s. s) result (session_of (map (λ w. w.now) words.now)) }
+{
+    match words {
+        [] => Ok(0),
+        [word, rest @ ..] => {
+            if is_word(word, b"session") {
+                session_number(rest)
+            } else {
+                Err(LineEnd::Why(Why::Word))
+            }
+        }
+    }
+}
+
+/// The first line, behind its word `tx`: a number that no other script has, the home, and the session.
 #[tactic(auto, unfolding(crate::specs::ScriptLines::first_line))]
 pub fn first_line(
     alloc: Global,
@@ -37,8 +67,8 @@ pub fn first_line(
     new_number(numbers, &number)?;
     let (word, rest) = word_at(rest)?;
     let home = node_of(nodes, word)?;
-    end_at(rest)?;
-    Ok(ScriptDraft::new(alloc, number, home))
+    let session = session_of(rest)?;
+    Ok(ScriptDraft::new(alloc, number, home, session))
 }
 
 #[tactic(auto, unfolding(crate::specs::ScriptLines::read_line))]

@@ -33,6 +33,8 @@ pub type OpList = Members<Op>;
 pub struct Script {
     pub number: TxId,
     pub home: NodeId,
+    /// The session that it belongs to, or 0 for none.
+    pub session: u16,
     pub ops: OpList,
 }
 
@@ -41,7 +43,7 @@ impl Model for Script {
 
     ghost Value = { ScriptData };
 
-    ghost view = { λ s. record { number = s.number; home = s.home; ops = s.ops } };
+    ghost view = { λ s. record { number = s.number; home = s.home; session = s.session; ops = s.ops } };
 
     ghost invariant = { λ s. IsBody s.ops };
 }
@@ -63,6 +65,7 @@ impl TryCopy for Script {
         Ok(Script {
             number: self.number,
             home: self.home,
+            session: self.session,
             ops: self.ops.copy()?,
         })
     }
@@ -73,6 +76,7 @@ impl TryCopy for Script {
 pub struct ScriptDraft {
     number: TxId,
     home: NodeId,
+    session: u16,
     ops: OpList,
 }
 
@@ -81,7 +85,7 @@ impl Model for ScriptDraft {
 
     ghost Value = { ScriptData };
 
-    ghost view = { λ s. record { number = s.number; home = s.home; ops = s.ops } };
+    ghost view = { λ s. record { number = s.number; home = s.home; session = s.session; ops = s.ops } };
 
     ghost invariant = { λ s. IsFront s.ops };
 }
@@ -92,12 +96,13 @@ impl ScriptDraft {
     ghost use Rattle.script_lang.specs.Scripts.{IsFront};
 
     /// No operation yet.
-    pub fn new(alloc: Global, number: TxId, home: NodeId) -> ScriptDraft
-        ensures { result ≡ record { number = number; home = home; ops = [] } }
+    pub fn new(alloc: Global, number: TxId, home: NodeId, session: u16) -> ScriptDraft
+        ensures { result ≡ record { number = number; home = home; session = session; ops = [] } }
     {
         ScriptDraft {
             number,
             home,
+            session,
             ops: OpList::new(alloc),
         }
     }
@@ -150,7 +155,17 @@ impl ScriptDraft {
         requires { 1 ≤ length self.ops }
         ensures { result ≡ self }
     {
-        let ScriptDraft { number, home, ops } = self;
-        Script { number, home, ops }
+        let ScriptDraft {
+            number,
+            home,
+            session,
+            ops,
+        } = self;
+        Script {
+            number,
+            home,
+            session,
+            ops,
+        }
     }
 }

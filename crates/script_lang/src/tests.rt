@@ -97,6 +97,24 @@ fn refused_lines(rt: HostRuntime) {
     assert!(rt; read_script(rt.alloc(), b"tx 1 n1\nread a\nend\n", 2).is_ok());
 }
 
+// a script of its own has this session
+fn has_session(alloc: Global, text: &[u8], session: u16) -> bool {
+    match read_script(alloc, text, 1) {
+        Ok(script) => match script.copy() {
+            Ok(copy) => copy.session == session,
+            Err(_) => false,
+        },
+        Err(_) => false,
+    }
+}
+
+#[test]
+fn session_words(rt: HostRuntime) {
+    assert!(rt; has_session(rt.alloc(), b"tx 1 n1 session 5\nread a\nend\n", 5));
+    assert!(rt; has_session(rt.alloc(), b"tx 1 n1\nread a\nend\n", 0));
+    assert!(rt; is_refused(rt.alloc(), b"tx 1 n1 session 0\n", 1, 9));
+}
+
 #[test]
 fn refused_expressions(rt: HostRuntime) {
     assert!(rt; is_refused(rt.alloc(), b"tx 1 n1\nwrite a\n", 2, 10));

@@ -1,8 +1,8 @@
 //! What a home decided, and what of it isn't closed.
-ghost use Rattle.std.specs.Prelude.{◌≡◌, ◌∷◌, List, reverse};
+ghost use Rattle.std.specs.Prelude.{◌≡◌, ◌+◌, ◌∷◌, List, reverse, if◌then◌else◌};
 ghost use Rattle.std.specs.Option.{option_map};
 ghost use Rattle.score_base.specs.declared.records.Record.{Record};
-ghost use Rattle.journal_words.specs.Journals.{decision, is_closed, undone};
+ghost use Rattle.journal_words.specs.Journals.{decision, is_closed, undone, times_decided, later_decision, times_over};
 
 use score_base::{Ident, NodeList, Record, TxId};
 use std::marker::Model;
@@ -35,6 +35,16 @@ fn decision_behind<'a>(rec: &'a Record, t: TxId, before: Option<Decided<'a>>) ->
     }
 }
 
+/// Whether a record is a Decided of t.
+fn is_decided_in(rec: &Record, t: TxId) -> bool
+    ensures { (r : List Record) → times_decided t (rec.now ∷ r) ≡ (if result then times_decided t r + 1 else times_decided t r) }
+{
+    match rec {
+        Record::Decided { t: u, .. } => *u == t,
+        _ => false,
+    }
+}
+
 /// The final identifier and the parts of the last Decided record of t.
 #[tactic(auto, using(crate::proofs::Newest::newest_more))]
 pub fn decision<'a>(records: &'a [Record], t: TxId) -> Option<Decided<'a>>
@@ -47,14 +57,48 @@ pub fn decision<'a>(records: &'a [Record], t: TxId) -> Option<Decided<'a>>
     found
 }
 
-/// The final identifier of the last Decided record of t.
-pub fn decided_final(records: &[Record], t: TxId) -> Option<Ident>
-    ensures { result ≡ option_map (λ d. d.final) (decision t (reverse records.now)) }
+/// How many Decided records of t there are.
+#[tactic(auto, using(crate::proofs::Newest::newest_more))]
+fn times_decided(records: &[Record], t: TxId) -> usize
+    ensures { result ≡ times_decided t (reverse records.now) }
 {
-    match decision(records, t) {
+    let mut times = 0;
+    for rec in records {
+        if is_decided_in(rec, t) {
+            times += 1;
+        }
+    }
+    times
+}
+
+/// The last Decided record of t, where there are more than this many of them.
+pub fn later_decision<'a>(times: usize, records: &'a [Record], t: TxId) -> Option<Decided<'a>>
+    ensures { result ≡ later_decision times t (reverse records.now) }
+{
+    if times < times_decided(records, t) {
+        return decision(records, t);
+    }
+    None
+}
+
+/// The final identifier of the last Decided record of t, where there are more than this many of them.
+pub fn later_final(times: usize, records: &[Record], t: TxId) -> Option<Ident>
+    ensures { result ≡ option_map (λ d. d.final) (later_decision times t (reverse records.now)) }
+{
+    match later_decision(times, records, t) {
         Some(decided) => Some(decided.final_ident),
         None => None,
     }
+}
+
+/// How many Decided records of t are over: all of them, but none where the last is not closed.
+pub fn times_over(records: &[Record], t: TxId) -> usize
+    ensures { result ≡ times_over t (reverse records.now) }
+{
+    if undone(records, t).is_some() {
+        return 0;
+    }
+    times_decided(records, t)
 }
 
 /// Whether t is closed behind one more record.

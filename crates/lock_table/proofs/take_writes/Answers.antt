@@ -31,4 +31,5 @@ loop-write-preserved c =
           ∙ ap (λ xs. writes_in ls u k || (nat_eq u c.args.t && is_written xs k)) (sym more)
           ∙ c.loop-write.invariant.written u k;
       spare = omega (arith, c.take_key.ensures.spare, c.loop-write.invariant.spare);
+      numbered = λ old. c.take_key.ensures.numbered (c.loop-write.invariant.numbered old);
     }

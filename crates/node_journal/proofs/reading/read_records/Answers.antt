@@ -17,8 +17,8 @@ gates-preserved g c = record {
       let high : c.gates.at < length seen = omega (arith, c.gates.invariant.inside, c.requires.len t) in
       let found = rw c.in-Ok-Open.field-0-is at c.in-Ok-Open.ensures.ok in
       let gate : IsGate (drop c.gates.at seen) (Open c.in-Ok-Open.record c.in-Ok-Open.size) = subst (λ f. IsGate (drop c.gates.at f.seen) (Open c.in-Ok-Open.record c.in-Ok-Open.size)) c.gates.invariant.file (found told) in
-      subst (λ rs. Spells (drop 1 (take (c.gates.at + (1 + c.in-Ok-Open.size)) seen)) rs) (sym c.in-Ok.ensures.ok)
-      (next_at seen c.gates.records.items c.in-Ok-Open.record c.gates.at c.in-Ok-Open.size c.gates.invariant.low high (c.gates.invariant.spelled t) gate);
+      subst (λ rs. Spells (drop c.args.first (take (c.gates.at + (1 + c.in-Ok-Open.size)) seen)) rs) (sym c.in-Ok.ensures.ok)
+      (next_at seen c.gates.records.items c.in-Ok-Open.record c.args.first c.gates.at c.in-Ok-Open.size c.gates.invariant.low high (c.gates.invariant.spelled t) gate);
   file = search rules;
   tells = search rules;
   left = search rules;
@@ -28,5 +28,5 @@ gates-preserved g c = record {
 
 pub returns-in-Err-clause-bad : goal.returns-in-Err-clause-bad
 returns-in-Err-clause-bad g c =
-    bad_at c.in-Err.end (g.D.Disk.file c.args.disk.now).seen c.gates.records.items c.gates.at (λ t. omega (arith, c.requires.long, c.requires.len t)) c.requires.version c.gates.invariant.low (λ t. omega (arith, c.gates.invariant.inside, c.requires.len t)) c.gates.invariant.spelled
+    bad_at c.in-Err.end (g.D.Disk.file c.args.disk.now).seen c.gates.records.items c.args.first c.gates.at (λ t. omega (arith, c.requires.long, c.requires.len t)) c.requires.version c.gates.invariant.low (λ t. omega (arith, c.gates.invariant.inside, c.requires.len t)) c.gates.invariant.spelled
     (rw (c.gates.invariant.file, c.gates.invariant.tells) at c.in-Err.ensures.bad)

@@ -4,10 +4,10 @@ use Rattle.node_journal.proofs.reading.read_records.Given as goal
 
 abbrev pub invariant-gates : goal.invariant-gates
 invariant-gates g l = record {
-  low : 1 ≤ l.at;
+  low : l.first ≤ l.at;
   inside : l.at < l.len;
   count : length l.records.items ≤ l.at;
-  spelled : IsTrue (g.D.Disk.tells l.fn.disk) → Spells (drop 1 (take l.at (g.D.Disk.file l.fn.disk).seen)) l.records.items;
+  spelled : IsTrue (g.D.Disk.tells l.fn.disk) → Spells (drop l.first (take l.at (g.D.Disk.file l.fn.disk).seen)) l.records.items;
   file : g.D.Disk.file l.disk ≡ g.D.Disk.file l.fn.disk;
   tells : g.D.Disk.tells l.disk ≡ g.D.Disk.tells l.fn.disk;
   left : g.D.Disk.left l.disk ≡ g.D.Disk.left l.fn.disk;

@@ -10,4 +10,5 @@ returns c = λ d h one l. record {
   causes = c.law_caused.ensures.causes d h l.run;
   asked = c.law_caused.ensures.asked d h l.run;
   accounted = c.law_excused.ensures.begun d h one l.run;
+  sessions = c.law_sessions.ensures d h l.run;
 }
