@@ -26,7 +26,8 @@ KeepsPending proposals r = (t : TxId) → map.get proposals t ≡ pending t r
 
 -- a Prepared is of a transaction that is not in the queue, and there is a place for it
 abbrev pub CanPend : Queue → Record → Type 0
-CanPend queue (record'.Prepared t home parts sid p reads writes) = (map.get queue.proposals t ≡ None) × (1 ≤ queue.spare)
+CanPend queue (record'.Prepared t home parts sid p reads writes) =
+    (map.get queue.proposals t ≡ None) × (1 ≤ queue.spare)
 CanPend queue x = Unit {0}
 
 -- the clock has the floor, and its next proposal is above every proposal and every final identifier
@@ -59,11 +60,13 @@ is_final f (Some (outcome.Commit g)) = g == f
 
 -- each commit that is not applied waits, and nothing else does
 abbrev pub KeepsStable : Commits → List Record → Type 0
-KeepsStable commits r = (f : Ident) (t : TxId) → set.contains commits (f, t) ≡ (is_final f (ended t r) && not (is_clear f r))
+KeepsStable commits r =
+    (f : Ident) (t : TxId) → set.contains commits (f, t) ≡ (is_final f (ended t r) && not (is_clear f r))
 
 -- a commit of a record does not wait yet, and there is room for it
 abbrev pub CanWait : stable_queue.Queue → Record → Type 0
-CanWait stable (record'.Ended t (outcome.Commit f)) = (¬ IsTrue (set.contains stable.commits (f, t))) × (1 ≤ stable.spare)
+CanWait stable (record'.Ended t (outcome.Commit f)) =
+    (¬ IsTrue (set.contains stable.commits (f, t))) × (1 ≤ stable.spare)
 CanWait stable x = Unit {0}
 
 -- the outcome is a commit that waits
@@ -78,28 +81,36 @@ is_holding commits u r = is_some (pending u r) || is_waiting commits u (ended u 
 
 -- top is the greatest final identifier of the commits that do not wait, or 0
 pub record KeepsApplied (commits : Commits) (top : Ident) (r : List Record) : Type 0 where
-  pub most : (f : Ident) (t : TxId) → ended t r ≡ Some (outcome.Commit f) → set.contains commits (f, t) ≡ false → f ≤ top
-  pub one : (top ≡ 0) ⊎ ((t : TxId) × (ended t r ≡ Some (outcome.Commit top)) × (set.contains commits (top, t) ≡ false))
+  pub most : (f : Ident) (t : TxId) → ended t r ≡ Some (outcome.Commit f)
+      → set.contains commits (f, t) ≡ false → f ≤ top
+  pub one : (top ≡ 0)
+      ⊎ ((t : TxId) × (ended t r ≡ Some (outcome.Commit top)) × (set.contains commits (top, t) ≡ false))
 
 -- what stands while applied commits are taken out one by one: what waits is a commit, each commit that
 -- is not applied waits, and who is pending or waits holds the keys of its Prepared
 pub record Settles (commits : Commits) (held : Held) (top : Ident) (r : List Record) : Type 0 where
   pub applied : KeepsApplied commits top r
   pub known : (f : Ident) (t : TxId) → set.contains commits (f, t) ≡ true → ended t r ≡ Some (outcome.Commit f)
-  pub waits : (f : Ident) (t : TxId) → ended t r ≡ Some (outcome.Commit f) → is_clear f r ≡ false → set.contains commits (f, t) ≡ true
+  pub waits : (f : Ident) (t : TxId) → ended t r ≡ Some (outcome.Commit f)
+      → is_clear f r ≡ false → set.contains commits (f, t) ≡ true
   pub keys : (u : TxId) (k : Key) → holds_lock held u k ≡ (is_holding commits u r && names (prepared_of u r) k)
-  pub written : (u : TxId) (k : Key) → writes_key held u k ≡ (is_holding commits u r && writes_to (prepared_of u r) k)
+  pub written : (u : TxId) (k : Key)
+      → writes_key held u k ≡ (is_holding commits u r && writes_to (prepared_of u r) k)
 
 -- a Prepared can take its locks: nobody else conflicts with it, it holds nothing, and there is room
 abbrev pub CanTake : Held → Record → Type 0
-CanTake held (record'.Prepared t home parts sid p reads writes) = ((u : ℕ) → u ≢ t → ¬ Conflicts held reads writes u) × ((k : List ℕ) → ¬ IsTrue (holds_lock held t k)) × (length reads + length writes ≤ held.spare)
+CanTake held (record'.Prepared t home parts sid p reads writes) =
+    ((u : ℕ) → u ≢ t → ¬ Conflicts held reads writes u)
+    × ((k : List ℕ) → ¬ IsTrue (holds_lock held t k))
+    × (length reads + length writes ≤ held.spare)
 CanTake held x = Unit {0}
 
 -- ---- by transaction
 
 -- what a record says, where it is a Prepared
 abbrev pub said_by : Record → Option Prepared
-said_by (record'.Prepared t home parts sid p reads writes) = Some (record { home = home; sid = sid; proposal = p; reads = reads; writes = writes })
+said_by (record'.Prepared t home parts sid p reads writes) =
+    Some (record { home = home; sid = sid; proposal = p; reads = reads; writes = writes })
 said_by x = None
 
 -- what the record at a place says, where there is a place; here the oldest record is the first
@@ -115,7 +126,8 @@ pub record KeepsPlaces (places : List (TxId × ℕ)) (rs : List Record) : Type 0
 
 -- a Prepared is of a transaction that has no place, and there is room for one
 abbrev pub CanPlace : Table TxId ℕ → Record → Type 0
-CanPlace places (record'.Prepared t home parts sid p reads writes) = (map.find nat_cmp t places.pairs ≡ None) × (1 ≤ places.spare)
+CanPlace places (record'.Prepared t home parts sid p reads writes) =
+    (map.find nat_cmp t places.pairs ≡ None) × (1 ≤ places.spare)
 CanPlace places x = Unit {0}
 
 -- the table has how each transaction ended
@@ -130,7 +142,9 @@ CanEnd outcomes x = Unit {0}
 -- ---- all of them
 
 -- each record fits those before it, and each keeper answers for them; here the oldest record is the first
-pub record Keeps (c : ClusterData) (n : NodeId) (rs : List Record) (places : List (TxId × ℕ)) (outcomes : List (TxId × Outcome)) (proposals : Proposals) (clock : Clock) (commits : Commits) (top : Ident) (held : Held) : Type 0 where
+pub record Keeps (c : ClusterData) (n : NodeId) (rs : List Record) (places : List (TxId × ℕ))
+    (outcomes : List (TxId × Outcome)) (proposals : Proposals)
+    (clock : Clock) (commits : Commits) (top : Ident) (held : Held) : Type 0 where
   pub fit : all_fit c n (reverse rs) ≡ true
   pub placed : KeepsPlaces places rs
   pub over : KeepsOutcomes outcomes (reverse rs)

@@ -12,7 +12,8 @@ use score_base::{Outcome, Record};
 
 /// The clock learns the final identifier of a commit.
 fn learn_end(clock: &mut NodeClock<64>, outcome: &Outcome)
-    ensures keeps { (r : List Record) (t : TxId) → KeepsClock clock.old r → KeepsClock clock.new (record'.Ended t outcome.now ∷ r) }
+    ensures keeps { (r : List Record) (t : TxId) →
+        KeepsClock clock.old r → KeepsClock clock.new (record'.Ended t outcome.now ∷ r) }
     ensures next { (t : TxId) → clock.new.next ≡ learnt (Some (record'.Ended t outcome.now)) clock.old.next }
 {
     match outcome {

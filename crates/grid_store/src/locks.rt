@@ -19,7 +19,10 @@ use stable_queue::Stable;
 /// A commit waits, and an abort frees its keys.
 fn end(stable: &mut Stable, locks: &mut Locks, t: TxId, outcome: &Outcome)
     requires { CanWait stable.old (record'.Ended t outcome.now) }
-    ensures { (c : ClusterData) (n : NodeId) (r : List Record) (top : Ident) → all_fit c n (record'.Ended t outcome.now ∷ r) ≡ true → KeepsApplied stable.old.commits top r → KeepsStable stable.old.commits r → KeepsLocks locks.old r → Settles stable.new.commits locks.new top (record'.Ended t outcome.now ∷ r) }
+    ensures { (c : ClusterData) (n : NodeId) (r : List Record) (top : Ident) →
+        all_fit c n (record'.Ended t outcome.now ∷ r) ≡ true →
+        KeepsApplied stable.old.commits top r → KeepsStable stable.old.commits r → KeepsLocks locks.old r →
+        Settles stable.new.commits locks.new top (record'.Ended t outcome.now ∷ r) }
 {
     match outcome {
         Outcome::Commit(f) => stable.add(*f, t),
@@ -31,7 +34,10 @@ fn end(stable: &mut Stable, locks: &mut Locks, t: TxId, outcome: &Outcome)
 pub(crate) fn take(stable: &mut Stable, locks: &mut Locks, rec: &Record)
     requires free { CanTake locks.old rec.now }
     requires new { CanWait stable.old rec.now }
-    ensures { (c : ClusterData) (n : NodeId) (r : List Record) (top : Ident) → all_fit c n (rec.now ∷ r) ≡ true → KeepsApplied stable.old.commits top r → KeepsStable stable.old.commits r → KeepsLocks locks.old r → Settles stable.new.commits locks.new top (rec.now ∷ r) }
+    ensures { (c : ClusterData) (n : NodeId) (r : List Record) (top : Ident) →
+        all_fit c n (rec.now ∷ r) ≡ true →
+        KeepsApplied stable.old.commits top r → KeepsStable stable.old.commits r → KeepsLocks locks.old r →
+        Settles stable.new.commits locks.new top (rec.now ∷ r) }
 {
     match rec {
         Record::Prepared {
@@ -72,7 +78,10 @@ pub(crate) fn make_room(locks: &mut Locks, rec: &Record) -> Result<(), Memory>
 /// Applies each commit below every pending proposal, in order: its keys are free, and the greatest
 /// final identifier that is applied is at least its own.
 pub(crate) fn settle(stable: &mut Stable, locks: &mut Locks, applied: &mut Ident, pending: &Pending)
-    ensures { (c : ClusterData) (n : NodeId) (r : List Record) → all_fit c n r ≡ true → KeepsPending pending.now.proposals r → Settles stable.old.commits locks.old applied.old r → KeepsStable stable.new.commits r × (applied.new ≡ commit_id r) × KeepsLocks locks.new r }
+    ensures { (c : ClusterData) (n : NodeId) (r : List Record) →
+        all_fit c n r ≡ true → KeepsPending pending.now.proposals r →
+        Settles stable.old.commits locks.old applied.old r →
+        KeepsStable stable.new.commits r × (applied.new ≡ commit_id r) × KeepsLocks locks.new r }
 {
     while let Some(first) = stable.pop_below(pending.least()) {
         locks.free(first.1);

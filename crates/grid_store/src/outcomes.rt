@@ -10,7 +10,8 @@ use score_base::{Ordered, Outcome, Record, TxId};
 /// The outcome of an Ended is noted.
 pub(crate) fn end(outcomes: &mut Ordered<TxId, Outcome>, rec: &Record)
     requires { CanEnd outcomes.old rec.now }
-    ensures { (r : List Record) → KeepsOutcomes outcomes.old.pairs r → KeepsOutcomes outcomes.new.pairs (rec.now ∷ r) }
+    ensures { (r : List Record) →
+        KeepsOutcomes outcomes.old.pairs r → KeepsOutcomes outcomes.new.pairs (rec.now ∷ r) }
 {
     if let Record::Ended { t, outcome } = rec {
         give(outcomes, *t, *outcome);

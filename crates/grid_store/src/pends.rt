@@ -10,7 +10,8 @@ use score_base::Record;
 /// A Prepared is pending, until its transaction ends.
 pub(crate) fn pend(pending: &mut Pending, rec: &Record)
     requires { CanPend pending.old rec.now }
-    ensures { (r : List Record) → KeepsPending pending.old.proposals r → KeepsPending pending.new.proposals (rec.now ∷ r) }
+    ensures { (r : List Record) →
+        KeepsPending pending.old.proposals r → KeepsPending pending.new.proposals (rec.now ∷ r) }
 {
     match rec {
         Record::Prepared { t, p, .. } => pending.add(*t, *p),

@@ -54,12 +54,14 @@ impl Model for Store {
       journal = reverse s.records.items;
       next = s.clock.next;
       room = record {
-        records = min (vec_capacity s.records - vec_len s.records) (min s.places.spare (min s.outcomes.spare (min s.pending.spare s.stable.spare)));
+        records = min (vec_capacity s.records - vec_len s.records)
+            (min s.places.spare (min s.outcomes.spare (min s.pending.spare s.stable.spare)));
         keys = s.locks.spare;
       };
     } };
 
-    ghost invariant = { λ s. Keeps s.cluster s.node s.records.items s.places.pairs s.outcomes.pairs s.pending.proposals s.clock s.stable.commits s.applied s.locks };
+    ghost invariant = { λ s. Keeps s.cluster s.node s.records.items s.places.pairs s.outcomes.pairs
+        s.pending.proposals s.clock s.stable.commits s.applied s.locks };
 }
 
 impl Store {

@@ -33,7 +33,8 @@ fn place_of_new<V: Copy>(table: &Ordered<TxId, V>, t: TxId) -> usize
 pub(crate) fn give<V: Copy>(table: &mut Ordered<TxId, V>, t: TxId, value: V)
     requires absent { map.find nat_cmp t table.old.pairs ≡ None }
     requires room { 1 ≤ table.old.spare }
-    ensures pairs { (u : TxId) → map.find nat_cmp u table.new.pairs ≡ (if u == t then Some value else map.find nat_cmp u table.old.pairs) }
+    ensures pairs { (u : TxId) →
+        map.find nat_cmp u table.new.pairs ≡ (if u == t then Some value else map.find nat_cmp u table.old.pairs) }
     ensures spare { table.old.spare ≤ table.new.spare + 1 }
 {
     let i = place_of_new(table, t);
