@@ -14,8 +14,7 @@ use Rattle.grid_model.specs.Sessions.{floor_at, first_at}
 use Rattle.grid_model.specs.Advances.{advance}
 use Rattle.grid_model.specs.Documents.{DocumentData, IsOne}
 use Rattle.grid_model.specs.Histories.{after, sent, sent_at}
-use Rattle.journal_words.specs.Journals.{commit_id}
-use Rattle.grid_model.specs.Nodes.{journal, script_of, node}
+use Rattle.grid_model.specs.Nodes.{script_of, node}
 use Rattle.grid_model.specs.Rows.{answer, begin_outs}
 use Rattle.grid_model.specs.Runs.{IsRun}
 use Rattle.grid_model.specs.Schedules.{kept, next_number, numbered, start_row}

@@ -4,12 +4,13 @@ use Rattle.grid_laws.proofs.Causes.{AllDue, Asked, IsDue, IsIn, MayServe, Prepar
 use Rattle.grid_laws.proofs.DueAnswers.{home-is}
 use Rattle.grid_laws.proofs.Frames.{in-append}
 use Rattle.grid_laws.proofs.Holds.{got-hold, sent-hold}
-use Rattle.grid_laws.proofs.PreparesSay.{PrepareSays, first-prepared, prepare-got, prepared-say}
+use Rattle.grid_laws.proofs.PreparesSay.{PrepareSays, PreparedSays, first-prepared, prepare-got, prepared-say}
+use Rattle.grid_laws.proofs.NodesFit.{AllHold}
 use Rattle.journal_words.proofs.TwoNodes.{a, b}
 use Rattle.grid_model.specs.Documents.{DocumentData, IsOne}
 use Rattle.grid_model.specs.Facts.{parts_at}
 use Rattle.grid_model.specs.Histories.{sent, sent_at}
-use Rattle.journal_words.specs.Journals.{Prepared, home_in, home_of, prepared_of}
+use Rattle.journal_words.specs.Journals.{Prepared, home_in, home_of, names_part, prepared_of}
 use Rattle.grid_model.specs.Nodes.{got, held_by, is_home, journal, parts_in, parts_of, with_held}
 use Rattle.grid_model.specs.Stories.{asked}
 use Rattle.grid_model.specs.declared.acts.Act.TheVariants as act
@@ -26,6 +27,10 @@ use Rattle.score_base.specs.declared.causes.Ballot.TheVariants as ballot
 use Rattle.score_base.specs.declared.ids.Ident.{Ident}
 use Rattle.score_base.specs.declared.ids.NodeId.{NodeId}
 use Rattle.score_base.specs.declared.ids.TxId.{TxId}
+use Rattle.score_base.specs.declared.ids.Value.{Value}
+use Rattle.score_base.specs.declared.records.Record.TheVariants as record'
+use Rattle.score_base.specs.declared.records.Record.{Record}
+use Rattle.std.proofs.lemmas.Bool.{cases_eq}
 use Rattle.score_base.specs.declared.keys.Key.{Key}
 use Rattle.std.proofs.Common.{Bool, List, None, Option, Some, [], ap, arith, false, inl, inr, refl, subst, sym, true, ℕ, ◌∷◌, ◌≡◌}
 use Rattle.std.proofs.lemmas.Bool.Decides.{nat_tests}
@@ -36,7 +41,12 @@ pub record HomeAndPart (d : DocumentData) (t : TxId) (x y : NodeId) : Type 0 whe
   pub home : is_home d t x ≡ true
   pub part : is_among y (parts_at d t) ≡ true
 
--- a home requests reads and votes, and is answered
+-- both hold a key of t
+pub record BothParts (d : DocumentData) (t : TxId) (x y : NodeId) : Type 0 where
+  pub asker : is_among x (parts_at d t) ≡ true
+  pub asked : is_among y (parts_at d t) ≡ true
+
+-- a home requests reads and votes, and is answered; a part asks its home or another part
 abbrev pub HasEnds : DocumentData → NodeId → NodeId → Message → Type 0
 HasEnds d x y (message.ReadReq q) = HomeAndPart d q.t x y
 HasEnds d x y (message.ReadRep q) = HomeAndPart d q.t y x
@@ -45,6 +55,7 @@ HasEnds d x y (message.Vote t b) = HomeAndPart d t y x
 HasEnds d x y (message.Tell t o) = Unit {0}
 HasEnds d x y (message.Ack t) = HomeAndPart d t y x
 HasEnds d x y (message.Ask t) = HomeAndPart d t y x
+HasEnds d x y (message.AskPeer t) = BothParts d t x y
 
 same-ends : (d : DocumentData) (t u : TxId) (x y : NodeId) → t ≡ u → HomeAndPart d u x y → HomeAndPart d t x y
 same-ends d t u x y same h = let P : TxId → Type 0 = λ z. HomeAndPart d z x y in subst P (sym same) h
@@ -138,9 +149,31 @@ named-ends d past n y t all e = go (prepared_of t (journal d past n)) refl e
         let P : NodeId → Type 0 = λ k. HomeAndPart d t k n in
         subst P home (same-ends d t f.prepare.t x.home n f.t (says-ends d past x.home n f.prepare f.says))
 
+-- the parts that a Prepared names are those of the document
+named-here : (d : DocumentData) (past : List Act) (n y : NodeId) (t u : TxId) (home : NodeId) (parts : List NodeId) (sid p : Ident) (reads : List Key) (writes : List (Key × Value)) → u ≡ t → PreparedSays d past n (record'.Prepared u home parts sid p reads writes) → is_among y parts ≡ true → BothParts d t n y
+named-here d past n y t u home parts sid p reads writes same s i =
+    let is : record'.Prepared u home parts sid p reads writes ≡ record'.Prepared s.prepare.t home s.prepare.parts s.prepare.sid p s.prepare.reads s.prepare.writes = s.is in
+    let told : parts ≡ s.prepare.parts = cc in
+    let q : s.prepare.parts ≡ parts_of d s.says.script = ap (λ (z : Prepare). z.parts) s.says.is in
+    let at : parts_at d s.prepare.t ≡ parts_of d s.says.script = ap (parts_in d) s.says.full.at.script in
+    let P : TxId → Type 0 = λ w. BothParts d w n y in
+    let Q : List NodeId → Type 0 = λ ns. is_among y ns ≡ true in
+    subst P same (subst P (sym s.t) (record { asker = rw at s.says.part; asked = rw at (subst Q q (subst Q told i)) }))
+
+named-parts : (d : DocumentData) (past : List Act) (n y : NodeId) (t : TxId) (r : List Record) → AllHold (PreparedSays d past n) r → names_part t y r ≡ true → BothParts d t n y
+named-parts d past n y t [] says e = cc
+named-parts d past n y t (record'.Prepared u home parts sid p reads writes ∷ r) says e = elim (cases_eq u t) [
+  | inl same ↦ named-here d past n y t u home parts sid p reads writes same says.0 (grind (arith, nat_tests, e))
+  | inr other ↦ named-parts d past n y t r says.1 (grind (arith, nat_tests, e))
+]
+named-parts d past n y t (record'.Ended u o ∷ r) says e = named-parts d past n y t r says.1 e
+named-parts d past n y t (record'.Ceiling c ∷ r) says e = named-parts d past n y t r says.1 e
+named-parts d past n y t (record'.Decided u f parts ∷ r) says e = named-parts d past n y t r says.1 e
+named-parts d past n y t (record'.Closed u ∷ r) says e = named-parts d past n y t r says.1 e
+
 -- ---- every message
 
--- a message that is due goes between home and part
+-- a message that is due goes between home and part, or between parts
 pub ends-due : (d : DocumentData) (past : List Act) (n y : NodeId) (said : Message) → IsOne d → AllDue d past → SendDue d past n y said → HasEnds d n y said
 ends-due d past n y (message.ReadReq q) one all due = request-ends d past n y q one due
 ends-due d past n y (message.ReadRep q) one all due = reply-ends d past n y q one all due
@@ -150,6 +183,7 @@ ends-due d past n y (message.Vote t (ballot.No why)) one all due = asked-ends d 
 ends-due d past n y (message.Tell t o) one all due = tt
 ends-due d past n y (message.Ack t) one all due = named-ends d past n y t all due.1
 ends-due d past n y (message.Ask t) one all due = named-ends d past n y t all due.1
+ends-due d past n y (message.AskPeer t) one all due = named-parts d past n y t (journal d past n) (prepared-say d past all n).journal due.1
 
 -- each message that was sent
 pub sent-ends : (d : DocumentData) (past : List Act) → IsOne d → AllDue d past → (m : ℕ) (e : Envelope) → sent_at m (sent past) ≡ Some e → HasEnds d e.from e.to e.message

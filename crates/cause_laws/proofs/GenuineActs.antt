@@ -39,6 +39,7 @@ genuine-sent d m x y (message.Vote t b) h well = part-end d t x y h
 genuine-sent d m x y (message.Tell t o) h well = well
 genuine-sent d m x y (message.Ack t) h well = part-end d t x y h
 genuine-sent d m x y (message.Ask t) h well = part-end d t x y h
+genuine-sent d m x y (message.AskPeer t) h well = and_from (is_end d t x) (is_end d t y) (or_right (is_home d t x) (is_among x (parts_at d t)) h.asker) (or_right (is_home d t y) (is_among y (parts_at d t)) h.asked)
 
 genuine-act : (d : DocumentData) (past : List Act) (a : Act) → IsOne d → AllDue d past → IsDue d past a → is_well_act d a ≡ true → IsGenuineAct d a
 genuine-act d past (act.Sent m x y said) one all due well = genuine-sent d m x y said (ends-due d past x y said one all due) well

@@ -57,6 +57,7 @@ got-row d past g m k x (message.Prepare q) b at fit up h = unheld-row d (act.Got
 got-row d past g m k x (message.Vote t a) b at fit up h = unheld-row d (act.Got g ∷ past) m k b (answer k (view d past k) x (message.Vote t a)) (unheld-answer k (view d past k) x (message.Vote t a) refl) h
 got-row d past g m k x (message.Ack t) b at fit up h = unheld-row d (act.Got g ∷ past) m k b (answer k (view d past k) x (message.Ack t)) (unheld-answer k (view d past k) x (message.Ack t) refl) h
 got-row d past g m k x (message.Ask t) b at fit up h = unheld-row d (act.Got g ∷ past) m k b (answer k (view d past k) x (message.Ask t)) (unheld-answer k (view d past k) x (message.Ask t) refl) h
+got-row d past g m k x (message.AskPeer t) b at fit up h = unheld-row d (act.Got g ∷ past) m k b (answer k (view d past k) x (message.AskPeer t)) (unheld-answer k (view d past k) x (message.AskPeer t) refl) h
 
 -- ---- what an event leaves
 

@@ -87,6 +87,7 @@ mild-prepared (Some e) t p = from e.from e.message
     from x (message.Tell u o) = refl
     from x (message.Ack u) = refl
     from x (message.Ask u) = refl
+    from x (message.AskPeer u) = refl
 
 mild-change : (d : DocumentData) (e : Option Envelope) (a : Act) (n : NodeId) → is_unheld a ≡ true → is_mild (change d e a n) ≡ true
 mild-change d e (act.Prepared m t p) n h = mild-where (m == n) (Writes (prepared_by e t p)) (mild-prepared e t p)

@@ -1,6 +1,6 @@
 -- A home tells outcomes to the parts of its transaction alone, so each row tells them to the two ends.
-use Rattle.cause_laws.proofs.Ends.{HasEnds, HomeAndPart}
-use Rattle.grid_model.proofs.EventShapes.{IsAgain, asks, retries}
+use Rattle.cause_laws.proofs.Ends.{BothParts, HasEnds, HomeAndPart}
+use Rattle.grid_model.proofs.EventShapes.{IsAgain, asks, asks_peer, retries}
 use Rattle.cause_laws.proofs.OutsToEnds.{AreWell, is_well_out, well-acks, well-if, well-prepare, well-prepares, well-read, well-reply, well-request, well-tell, well-to_node}
 use Rattle.grid_laws.proofs.Causes.{AllDue}
 use Rattle.grid_laws.proofs.DueAnswers.{home-is}
@@ -13,12 +13,13 @@ use Rattle.grid_model.specs.Claims.{is_end}
 use Rattle.grid_model.specs.Documents.{DocumentData}
 use Rattle.grid_model.specs.Facts.{parts_at}
 use Rattle.grid_model.specs.Fitness.{is_fit_at, tx_in}
-use Rattle.journal_words.specs.Journals.{Decision, home_of, pending}
+use Rattle.journal_words.specs.Journals.{Decision, ended, home_of, names_part, pending}
 use Rattle.grid_model.specs.Nodes.{is_home, journal, node, parts_in, parts_of}
-use Rattle.grid_model.specs.Rows.{answer, asked_outs, ballot_outs, decides, full_outs, greatest_vote, have_voted, not_among, not_voted, retry_outs, message_outs, tells, vote_outs}
+use Rattle.grid_model.specs.Rows.{answer, asked_outs, ballot_outs, decides, full_outs, greatest_vote, have_voted, not_among, not_voted, retry_outs, message_outs, peer_outs, tells, vote_outs}
 use Rattle.grid_model.specs.Stories.{has_voted}
 use Rattle.grid_model.specs.Views.{Apart, Collects, Commits, Open, Reads, Stage, stage, view, participant}
 use Rattle.grid_model.specs.declared.acts.Act.{Act}
+use Rattle.grid_model.specs.declared.events.Out.TheVariants as out
 use Rattle.grid_model.specs.declared.events.Out.{Out}
 use Rattle.grid_model.specs.declared.messages.Message.TheVariants as message
 use Rattle.grid_model.specs.declared.messages.Message.{Message}
@@ -30,7 +31,7 @@ use Rattle.score_base.specs.declared.causes.Outcome.TheVariants as outcome
 use Rattle.score_base.specs.declared.causes.Outcome.{Outcome}
 use Rattle.score_base.specs.declared.ids.NodeId.{NodeId}
 use Rattle.score_base.specs.declared.ids.TxId.{TxId}
-use Rattle.std.proofs.Common.{Bool, List, [], ap, refl, subst, sym, true, ◌++◌, ◌∙◌, ◌∷◌, ◌≡◌}
+use Rattle.std.proofs.Common.{Bool, List, None, Option, Some, [], ap, refl, subst, sym, true, ◌++◌, ◌∙◌, ◌∷◌, ◌≡◌}
 use Rattle.std.proofs.lemmas.Bool.{and_from, or_left, or_right}
 use Rattle.std.specs.List.{list_all}
 use Rattle.std.specs.Prelude.{filter, is_some, not, ◌&&◌, ◌==◌}
@@ -85,6 +86,12 @@ well-asked d n t x g h = go g
     go (Commits y acks) = and_from (is_end d t n && is_end d t x) true both refl
     go Apart = and_from (is_end d t n && is_end d t x) true both refl
 
+well-peer : (d : DocumentData) (n : NodeId) (t : TxId) (x : NodeId) (o : Option Outcome) → BothParts d t x n → AreWell d n (peer_outs t x o)
+well-peer d n t x None h = refl
+well-peer d n t x (Some o) h =
+    and_from (is_end d t n && is_end d t x) true
+    (and_from (is_end d t n) (is_end d t x) (or_right (is_home d t n) (is_among n (parts_at d t)) h.asked) (or_right (is_home d t x) (is_among x (parts_at d t)) h.asker)) refl
+
 -- ---- each row
 
 well-row_of : (d : DocumentData) (past : List Act) (n x : NodeId) (said : Message) → HasEnds d x n said → AreWell d n (message_outs n (participant (view d past n)) (view d past n).held (stage (view d past n) (tx_in said)) x said)
@@ -95,6 +102,7 @@ well-row_of d past n x (message.Vote t b) h = well-vote d past n t x b _ refl
 well-row_of d past n x (message.Tell t o) h = well-tell d n (view d past n) t o
 well-row_of d past n x (message.Ack t) h = well-acks d n t x _
 well-row_of d past n x (message.Ask t) h = well-asked d n t x _ h
+well-row_of d past n x (message.AskPeer t) h = well-peer d n t x (ended t (journal d past n)) h
 
 pub well-answer : (d : DocumentData) (past : List Act) (n x : NodeId) (said : Message) → HasEnds d x n said → AreWell d n (answer n (view d past n) x said)
 well-answer d past n x said h = well-if d n (is_fit_at n (participant (view d past n)) (stage (view d past n) (tx_in said)) x said) _ [] (well-row_of d past n x said h) refl
@@ -108,3 +116,4 @@ well-retry d past n t Apart all e = refl
 pub well-again : (d : DocumentData) (past : List Act) (n : NodeId) (os : List Out) → AllDue d past → IsAgain d past n os → AreWell d n os
 well-again d past n os all (retries t e) = rw e (well-retry d past n t (stage (view d past n) t) all refl)
 well-again d past n os all (asks t e) = rw e (well-if d n (is_some (pending t (journal d past n))) (to_node (home_of t (journal d past n)) (message.Ask t)) [] (well-to_node d n (home_of t (journal d past n)) (message.Ask t) (λ y. refl)) refl)
+well-again d past n os all (asks_peer t m e) = rw e (well-if d n (is_some (pending t (journal d past n)) && names_part t m (journal d past n)) (out.Send m (message.AskPeer t) ∷ []) [] refl refl)

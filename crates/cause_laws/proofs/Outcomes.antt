@@ -11,8 +11,7 @@ use Rattle.grid_laws.proofs.Causes.{AllDue}
 use Rattle.grid_model.specs.Sessions.{floor_at, first_at}
 use Rattle.grid_model.specs.Documents.{DocumentData, IsOne, number_order, script_numbers}
 use Rattle.grid_model.specs.Histories.{after, sent, sent_at}
-use Rattle.journal_words.specs.Journals.{commit_id}
-use Rattle.grid_model.specs.Nodes.{journal, node}
+use Rattle.grid_model.specs.Nodes.{node}
 use Rattle.grid_model.specs.Rows.{answer, begin_outs, begun_at}
 use Rattle.grid_model.specs.Runs.{IsRun}
 use Rattle.grid_model.specs.Schedules.{Choice, flag_of, kept, next_number, numbered, opened_row}

@@ -17,14 +17,12 @@ use Rattle.grid_model.specs.declared.acts.Act.{Act}
 use Rattle.grid_model.specs.declared.messages.Message.TheVariants as message
 use Rattle.grid_model.specs.declared.messages.Message.{Message}
 use Rattle.grid_model.specs.declared.stories.Story.{Story}
-use Rattle.placement.specs.Places.{parts}
 use Rattle.score_base.specs.declared.ids.TxId.{TxId}
-use Rattle.score_base.specs.declared.records.Record.TheVariants as record'
 use Rattle.score_base.specs.declared.records.Record.{Record}
 use Rattle.script_lang.specs.Reads.{is_update}
 use Rattle.script_lang.specs.Scripts.{ScriptData}
 use Rattle.script_lang.specs.declared.scripts.Op.{Op}
-use Rattle.std.proofs.Common.{arith, Bool, List, None, Option, Some, [], ap, false, inl, inr, refl, subst, sym, true, ℕ, ◌++◌, ◌||◌, ◌∙◌, ◌∷◌, ◌≡◌}
+use Rattle.std.proofs.Common.{Bool, List, None, Option, Some, [], ap, false, inl, inr, refl, subst, sym, true, ℕ, ◌||◌, ◌∙◌, ◌∷◌, ◌≡◌}
 use Rattle.std.proofs.lemmas.Bool.{or_cases, or_left, or_right}
 use Rattle.std.specs.Prelude.{if◌then◌else◌, is_none, is_some, not, ◌&&◌, ◌==◌}
 

@@ -91,7 +91,11 @@ init_line_again d k v new room is low =
 pub tx_line_again : (d : Draft) (s : ScriptData) → length d.scripts < MAX_SCRIPTS → is_taken d.numbers s.number ≡ false
     → is_tx s.number ≡ true → nat_le s.home d.nodes ≡ true → is_node s.home ≡ true → nat_le s.session MAX_SESSION ≡ true
     → tx_line d (decimal s.number ∷ node_word s.home ∷ session_words s.session)
-    ≡ Ok (record d { script = Some (record s { ops = [] }); numbers = with_number d.numbers s.number; part = part.Scripts })
+    ≡ Ok (record d {
+      script = Some (record s { ops = [] });
+      numbers = with_number d.numbers s.number;
+      part = part.Scripts;
+    })
 unfolding tx_line
 tx_line_again d s room new is low node few =
     let less : nat_le MAX_SCRIPTS (length d.scripts) ≡ false = grind (arith, nat_tests, room) in

@@ -138,6 +138,10 @@ item_line (item.Retry t) h = rw (plain_tx t h) refl
 item_line (item.Ask n t) h =
     let both = and_parts (is_node n) (is_tx t) h in
     rw (plain_node n both.0, plain_tx t both.1) refl
+item_line (item.AskPeer n t m) h =
+    let both = and_parts (is_node n && is_tx t) (is_node m) h in
+    let first = and_parts (is_node n) (is_tx t) both.0 in
+    rw (plain_node n first.0, plain_tx t first.1, plain_node m both.1) refl
 item_line (item.Crash n how) h =
     let both = and_parts (is_node n) (nat_lt how (2 ^ 64)) h in
     rw (plain_node n both.0, plain_long how both.1) refl

@@ -53,6 +53,7 @@ module _ (n : ℕ) (ps : List (List NodeId)) (xs : List (Key × Value)) where
       next_line_again (running n ps xs ss items events) c room both.0 both.1
   item_words_again ss items events (item.Retry t) room is short built = cc
   item_words_again ss items events (item.Ask m t) room is short built = cc
+  item_words_again ss items events (item.AskPeer m t y) room is short built = cc
   item_words_again ss items events (item.Crash m how) room is short built = cc
   item_words_again ss items events (item.Fuse m k how) room is short built = cc
   item_words_again ss items events (item.Restart m) room is short built = cc

@@ -38,7 +38,8 @@ abbrev reading : ℕ → List (List NodeId) → List (Key × Value) → List Scr
 reading n ps xs ss s = record { part = part.Scripts; nodes = n; places = ps; inits = xs; scripts = ss; script = Some s; items = []; events = 0; known = record { keys = key_order (keys_of_document xs (ss ++ s ∷ [])) }; numbers = record { keys = number_order (script_numbers (ss ++ s ∷ [])) } }
 
 module _ (n : ℕ) (ps : List (List NodeId)) (xs : List (Key × Value)) where
-  tx_words_again : (p : Part) (ss : List ScriptData) (s : ScriptData) (more : List ScriptData) → IsOpen p → are_numbers_distinct (script_numbers (ss ++ s ∷ more)) ≡ true
+  tx_words_again : (p : Part) (ss : List ScriptData) (s : ScriptData) (more : List ScriptData)
+      → IsOpen p → are_numbers_distinct (script_numbers (ss ++ s ∷ more)) ≡ true
       → length ss < MAX_SCRIPTS → nat_le s.home n ≡ true → HasRanges s
       → words_line (scripted p n ps xs ss) (tx_words s) ≡ Ok (reading n ps xs ss (record s { ops = [] }))
   tx_words_again p ss s more may distinct room low r =

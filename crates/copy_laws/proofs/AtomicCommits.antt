@@ -11,7 +11,7 @@ use Rattle.journal_words.specs.Journals.{ended}
 use Rattle.grid_model.specs.Nodes.{journal}
 use Rattle.grid_model.specs.Copies.{order}
 use Rattle.grid_model.specs.Facts.{IsDecided, is_given_up}
-use Rattle.grid_laws.proofs.EndsMeant.{commit-decided}
+use Rattle.grid_laws.proofs.MessagesBacked.{commit-decided}
 use Rattle.grid_laws.proofs.DecidedNotGivenUp.{decided-commits, given-up-undecided}
 use Rattle.grid_laws.proofs.DecisionsOnce.{decided-same}
 use Rattle.grid_model.specs.Claims.{AtomicOf, IsFirm}

@@ -30,10 +30,10 @@ use Rattle.journal_words.proofs.Pendings.{clear-below, clear-ended}
 use Rattle.journal_words.proofs.Readable.{IsVersion}
 use Rattle.grid_model.proofs.SerialCopies.{falling-rest, last_map, members-rest, script_write, write_by}
 use Rattle.journal_words.proofs.Stands.{has_prepared-says}
+use Rattle.grid_laws.proofs.MessagesBacked.{commit-decided}
 use Rattle.grid_laws.proofs.DecisionsRest.{decisions-rest}
 use Rattle.grid_laws.proofs.NodesFitActs.{nodes-fit}
 use Rattle.grid_laws.proofs.Promises.{served-promised}
-use Rattle.grid_laws.proofs.EndsMeant.{commit-decided}
 use Rattle.grid_laws.proofs.DecidedNotGivenUp.{decided-commits}
 use Rattle.grid_laws.proofs.DecisionsOnce.{decided-same}
 use Rattle.copy_laws.proofs.Footing.{IsServed, Rests, values_in}

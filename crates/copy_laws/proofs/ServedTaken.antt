@@ -22,7 +22,6 @@ use Rattle.grid_laws.proofs.EachActs.{each-act-more}
 use Rattle.grid_laws.proofs.Causes.{AllDue, TakenDue}
 use Rattle.grid_laws.proofs.Holds.{got-hold}
 use Rattle.grid_laws.proofs.MessagesBacked.{says-more, says-due}
-use Rattle.grid_laws.proofs.NodesFitActs.{nodes-fit}
 use Rattle.grid_laws.proofs.Snapshots.{OfStory, of-more}
 use Rattle.copy_laws.proofs.Footing.{IsServed}
 use Rattle.copy_laws.proofs.ServedOwn.{IsOwn, served-own}
@@ -64,7 +63,7 @@ served-more d past a t j sid v s = record { n = s.n; key = s.key; vn = s.vn; lat
 
 taken-due : (d : DocumentData) (past : List Act) (t : TxId) (j : ℕ) (sid : Ident) (v : Value) → AllDue d past → TakenDue d past t j sid v → IsServed d past t j sid v
 taken-due d past t j sid v all due =
-    let says : has_served due.from t j sid v past ≡ true = got-hold (λ now n y said. Says d now n said) d past (λ now a n y said all h. says-more d now a n said h) (λ now n y said all h. says-due d now n y said (nodes-fit d now all n) h) all (record { from = due.from; to = due.n; message = message.ReadRep (record { t = t; op = j; sid = sid; value = v }) }) due.got in
+    let says : has_served due.from t j sid v past ≡ true = got-hold (λ now n y said. Says d now n said) d past (λ now a n y said all h. says-more d now a n said h) (λ now n y said all h. says-due d now n y said all h) all (record { from = due.from; to = due.n; message = message.ReadRep (record { t = t; op = j; sid = sid; value = v }) }) due.got in
     has-served d past due.from t j sid v all says
 
 -- an act that takes a value takes one that was served

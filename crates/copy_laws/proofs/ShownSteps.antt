@@ -15,9 +15,9 @@ use Rattle.grid_model.specs.declared.acts.Act.TheVariants as act
 use Rattle.grid_model.specs.declared.messages.Message.{Message}
 use Rattle.grid_model.specs.declared.stories.Story.{Story}
 use Rattle.grid_model.specs.Documents.{DocumentData}
-use Rattle.grid_model.specs.Histories.{after, sent, sent_at}
-use Rattle.grid_model.specs.Nodes.{script_of, Node, node, parts_of, is_home}
-use Rattle.grid_model.specs.Stories.{story, if_told, with_value, progressed, Phase, asked, heard, heard_at, with_vote, with_ack}
+use Rattle.grid_model.specs.Histories.{after}
+use Rattle.grid_model.specs.Nodes.{script_of}
+use Rattle.grid_model.specs.Stories.{story, if_told, with_value, progressed}
 use Rattle.script_runs.specs.Waits.{waiting}
 use Rattle.grid_model.specs.Copies.{shown}
 use Rattle.script_runs.proofs.RemoteReads.{InOrder, remote_numbers, order-first, order-left, order-more}

@@ -20,9 +20,9 @@ use Rattle.journal_words.proofs.KeyLists.{conflict-read}
 use Rattle.journal_words.proofs.Conflicts.{IsBefore, aborted, committed, conflicts-ordered}
 use Rattle.journal_words.proofs.Stands.{has_prepared-says}
 use Rattle.grid_model.proofs.Written.{with_values-keys, among-filter}
+use Rattle.grid_laws.proofs.MessagesBacked.{commit-decided}
 use Rattle.grid_laws.proofs.NodesFitActs.{nodes-fit}
 use Rattle.grid_laws.proofs.DecisionsRest.{decisions-rest}
-use Rattle.grid_laws.proofs.EndsMeant.{commit-decided}
 use Rattle.grid_laws.proofs.DecidedNotGivenUp.{decided-commits}
 use Rattle.grid_laws.proofs.DecisionsOnce.{decided-same}
 use Rattle.copy_laws.proofs.Footing.{Rests, values_in}

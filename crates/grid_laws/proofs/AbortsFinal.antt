@@ -19,15 +19,14 @@ use Rattle.grid_model.specs.declared.messages.Prepare.{Prepare}
 use Rattle.grid_model.specs.declared.stories.Story.{Story}
 use Rattle.grid_model.specs.Documents.{DocumentData}
 use Rattle.grid_model.specs.Histories.{sent, sent_at}
-use Rattle.journal_words.specs.Journals.{Decision, Prepared, decision, home_in, is_closed, prepared_of, undone}
+use Rattle.journal_words.specs.Journals.{Decision, Prepared, decision, ended, home_in, is_closed, prepared_of, undone}
 use Rattle.grid_model.specs.Nodes.{Node, got, journal, node, script_of, is_home}
-use Rattle.grid_model.specs.Stories.{story, phase_at, is_open, begun_in, asked, heard, heard_at, if_told, with_vote, with_ack, Phase, progressed}
+use Rattle.grid_model.specs.Stories.{story, phase_at, is_open, begun_in}
 use Rattle.script_runs.specs.Waits.{waiting}
 use Rattle.grid_model.specs.Views.{Open, Apart, acks_at, open_at, open_of, open_stage, stage, stage_by, view}
-use Rattle.grid_model.specs.Facts.{is_given_up, is_over, MeansNever, AbortsFinal}
+use Rattle.grid_model.specs.Facts.{is_given_up, is_over, MeansNever}
 use Rattle.grid_model.proofs.Undecided.{script-number}
-use Rattle.grid_laws.proofs.Causes.{AllDue, IsGot, AbortDue, given_up, apart, SendDue}
-use Rattle.grid_laws.proofs.MessagesBacked.{each-sent}
+use Rattle.grid_laws.proofs.Causes.{AllDue, IsGot, AbortDue, ended_so, given_up, apart, SendDue}
 use Rattle.grid_laws.proofs.Holds.{got-hold}
 use Rattle.grid_laws.proofs.PreparesSay.{PrepareSays, prepare-more, prepared-say, first-prepared}
 use Rattle.grid_laws.proofs.ClosedSay.{over-more, closed-say, closed-stands}
@@ -176,13 +175,12 @@ pub means-more : (d : DocumentData) (past : List Act) (a : Act) (n : NodeId) (sa
 means-more d past a n (message.Tell t outcome.Abort) h = never-more d past a t (is_given_up t past) (is_over d past t) refl refl h
 means-more d past a n said h = tt
 
-abort-never : (d : DocumentData) (past : List Act) (n y : NodeId) (t : TxId) → AllDue d past → AbortDue d past n y t → (is_given_up t past || is_over d past t) ≡ true
-abort-never d past n y t all (given_up h) = or_left (is_given_up t past) (is_over d past t) h
-abort-never d past n y t all (apart got is) = apart-never d past n y t all got is
+abort-never : (d : DocumentData) (past : List Act) (n y : NodeId) (t : TxId) → AllDue d past → (ended t (journal d past n) ≡ Some outcome.Abort → is_given_up t past ≡ true) → AbortDue d past n y t → (is_given_up t past || is_over d past t) ≡ true
+abort-never d past n y t all ends (ended_so got is) = or_left (is_given_up t past) (is_over d past t) (ends is)
+abort-never d past n y t all ends (given_up h) = or_left (is_given_up t past) (is_over d past t) h
+abort-never d past n y t all ends (apart got is) = apart-never d past n y t all got is
 
-pub means-due : (d : DocumentData) (past : List Act) (n y : NodeId) (said : Message) → AllDue d past → SendDue d past n y said → MeansNever d past n said
-means-due d past n y (message.Tell t outcome.Abort) all due = abort-never d past n y t all due
-means-due d past n y said all due = tt
-
-pub aborts-final : (d : DocumentData) (past : List Act) → AllDue d past → AbortsFinal d past
-aborts-final d past due = each-sent (λ now n said. MeansNever d now n said) d past (λ now a n said all h. means-more d now a n said h) (λ now n y said all h. means-due d now n y said all h) due
+-- where what a node ended with abort was given up, each abort that it tells is final
+pub means-due : (d : DocumentData) (past : List Act) (n y : NodeId) (said : Message) → AllDue d past → ((t : TxId) → ended t (journal d past n) ≡ Some outcome.Abort → is_given_up t past ≡ true) → SendDue d past n y said → MeansNever d past n said
+means-due d past n y (message.Tell t outcome.Abort) all ends due = abort-never d past n y t all (ends t) due
+means-due d past n y said all ends due = tt

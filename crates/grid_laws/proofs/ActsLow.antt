@@ -33,14 +33,15 @@ use Rattle.grid_model.specs.Fitness.{date_ident}
 use Rattle.grid_model.specs.Acts.{EachAct}
 use Rattle.grid_model.specs.Facts.{IsAtMost, act_ident, cause_ident, head_ident, message_ident, outcome_ident}
 use Rattle.grid_model.specs.Rows.{ceiling_of, dated, greatest_vote, version_for}
-use Rattle.grid_laws.proofs.Causes.{AllDue, IsDue, SendDue, RecordDue, StopDue, Requested, MayServe, at_once, held, RefusedFor}
+use Rattle.grid_laws.proofs.Causes.{CommitDue, by_home, by_part, AllDue, IsDue, SendDue, RecordDue, StopDue, Requested, MayServe, at_once, held, RefusedFor}
 use Rattle.journal_words.proofs.Floors.{pending-floor}
 use Rattle.journal_words.proofs.Applied.{commit_id-floor}
 use Rattle.grid_laws.proofs.NodesFitActs.{undone-decision}
 use Rattle.grid_laws.proofs.Promises.{ever-covered}
 use Rattle.grid_model.specs.Sessions.{first_at}
 use Rattle.grid_laws.proofs.FloorsLow.{floor_at-low}
-use Rattle.grid_laws.proofs.LowWords.{IsLowStory, floor-low, nodes-low, decision-low, got-low, stories-low, snapshot-low}
+use Rattle.grid_laws.proofs.Holds.{ended-holds}
+use Rattle.grid_laws.proofs.LowWords.{IsLowRecord, IsLowStory, floor-low, nodes-low, decision-low, got-low, stories-low, snapshot-low}
 
 -- ---- versions
 
@@ -111,6 +112,12 @@ story-low m d past t x low is = let P : Option Story → Type 0 = λ o. IsLowSto
 
 -- ---- messages
 
+commit-low : (m : ℕ) (d : DocumentData) (past : List Act) (n y : NodeId) (t : TxId) (f : Ident) → EachAct (IsAtMost m) past → CommitDue d past n y t f → f ≤ m
+commit-low m d past n y t f low (by_home x is final) =
+    let P : Ident → Type 0 = λ g. g ≤ m in
+    subst P final (decision-low m t x (journal d past n) (nodes-low m d past low n).journal (undone-decision t x (journal d past n) is))
+commit-low m d past n y t f low (by_part got is) = ended-holds (IsLowRecord m) t (outcome.Commit f) (journal d past n) (nodes-low m d past low n).journal is
+
 send-low : (m : ℕ) (d : DocumentData) (past : List Act) (n y : NodeId) (said : Message) → EachAct (IsAtMost m) past → SendDue d past n y said → message_ident said ≤ m
 send-low m d past n y (message.ReadReq q) low due = date-low m due.story q.date (story-low m d past q.t due.story low due.at.story) due.date
 send-low m d past n y (message.ReadRep q) low due =
@@ -120,9 +127,7 @@ send-low m d past n y (message.ReadRep q) low due =
 send-low m d past n y (message.Prepare q) low due = let is = due.is in rw is (snapshot-low m due.story (story-low m d past q.t due.story low due.at.story))
 send-low m d past n y (message.Vote t (ballot.Yes p)) low due = omega (arith, pending-floor t p (journal d past n) due.1, node-floor m d past n low)
 send-low m d past n y (message.Vote t (ballot.No why)) low due = (let P : List Act → Type 0 = λ p. EachAct (IsAtMost m) p in (subst P due.2 low).0)
-send-low m d past n y (message.Tell t (outcome.Commit f)) low due =
-    let P : Ident → Type 0 = λ g. g ≤ m in
-    subst P due.2 (decision-low m t due.0 (journal d past n) (nodes-low m d past low n).journal (undone-decision t due.0 (journal d past n) due.1))
+send-low m d past n y (message.Tell t (outcome.Commit f)) low due = commit-low m d past n y t f low due
 send-low m d past n y said low due = omega arith
 
 -- ---- acts

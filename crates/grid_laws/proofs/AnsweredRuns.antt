@@ -19,8 +19,7 @@ use Rattle.grid_model.specs.declared.messages.ReadRep.{ReadRep}
 use Rattle.grid_model.specs.Sessions.{floor_at, first_at}
 use Rattle.grid_model.specs.Documents.{DocumentData, number_order, script_numbers}
 use Rattle.grid_model.specs.Histories.{after, sent, sent_at}
-use Rattle.journal_words.specs.Journals.{commit_id}
-use Rattle.grid_model.specs.Nodes.{node, journal, script_of}
+use Rattle.grid_model.specs.Nodes.{node, script_of}
 use Rattle.grid_model.specs.Stories.{begun_in, story, with_value, progressed}
 use Rattle.grid_model.specs.Views.{view, stage, Stage, View, Open, Reads, open_of, participant}
 use Rattle.grid_model.specs.Advances.{advance}

@@ -21,7 +21,14 @@ BeginsAt i None = ⊥
 BeginsAt i (Some x) = x.progress.sid0 ≡ i
 
 begins-stays : (i : Ident) → Stays (BeginsAt i)
-begins-stays i = record { votes = λ vs x k. k; acks = λ ns x k. k; turn = λ j x k. k; finished = λ x k. k; aborted = λ x k. k; lost = λ x k. k }
+begins-stays i = record {
+  votes = λ vs x k. k;
+  acks = λ ns x k. k;
+  turn = λ j x k. k;
+  finished = λ x k. k;
+  aborted = λ x k. k;
+  lost = λ x k. k;
+}
 
 began-once : (d : DocumentData) (past : List Act) (u t : TxId) (n : NodeId) (sid0 i : Ident) → BeganDue d past u n sid0
     → BeginsAt i (story d past t) → (u == t) ≡ true → ⊥
@@ -43,7 +50,7 @@ pub begin-told : (d : DocumentData) (past : List Act) (t : TxId) (x : Story) →
     → BeginsAt x.progress.sid0 (story d past t)
 begin-told d past t x told = let P : Option Story → Type 0 = λ o. BeginsAt x.progress.sid0 o in subst P (sym told) refl
 
--- that of its Began
+-- it is that of its Began
 pub begin-now : (d : DocumentData) (past : List Act) (t : TxId) (n : NodeId) (sid0 : Ident)
     → BeginsAt sid0 (story d (act.Began t n sid0 ∷ past) t)
 begin-now d past t n sid0 = go (t == t) (same-number t)
@@ -62,8 +69,10 @@ pub record BeganBelow (d : DocumentData) (past : List Act) (t : TxId) (sid : Ide
 
 pub below-more : (d : DocumentData) (past : List Act) (a : Act) (t : TxId) (sid : Ident) → AllDue d (a ∷ past)
     → BeganBelow d past t sid → BeganBelow d (a ∷ past) t sid
-below-more d past a t sid due h = record { first = h.first; began = begin-more d past a t h.first due h.began; below = h.below }
+below-more d past a t sid due h =
+    record { first = h.first; began = begin-more d past a t h.first due h.began; below = h.below }
 
 pub below-now : (d : DocumentData) (past : List Act) (t : TxId) (x : Story) (sid : Ident) → story d past t ≡ Some x
     → x.progress.sid0 ≤ sid → BeganBelow d past t sid
-below-now d past t x sid told below = record { first = x.progress.sid0; began = begin-told d past t x told; below = below }
+below-now d past t x sid told below =
+    record { first = x.progress.sid0; began = begin-told d past t x told; below = below }

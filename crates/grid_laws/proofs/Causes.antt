@@ -24,7 +24,7 @@ use Rattle.grid_model.specs.declared.stories.HeldRead.{HeldRead}
 use Rattle.grid_model.specs.declared.stories.Story.{Story}
 use Rattle.grid_model.specs.Documents.{DocumentData}
 use Rattle.grid_model.specs.Histories.{sent, sent_at}
-use Rattle.journal_words.specs.Journals.{decision, Decision, commit_id, ended, floor, holder, is_clear, newer, pending, undone, fits_outcome}
+use Rattle.journal_words.specs.Journals.{decision, Decision, ended, floor, holder, is_clear, newer, pending, undone, fits_outcome}
 use Rattle.grid_model.specs.Nodes.{node, journal, script_of, parts_of}
 use Rattle.grid_model.specs.Sessions.{first_at, is_busy_at}
 use Rattle.grid_model.specs.Stories.{phase, is_open, story}
@@ -33,7 +33,7 @@ use Rattle.grid_model.specs.Views.{Commits, view, stage}
 use Rattle.grid_model.specs.Fitness.{is_same_ident}
 use Rattle.grid_model.specs.Rows.{are_all_among, ceiling_of, greatest_vote, have_voted}
 use Rattle.grid_model.specs.Claims.{was_open}
-pub use Rattle.grid_laws.proofs.MessageCauses.{IsGot, IsUp, AtHome, RequestDue, PrepareDue, Asked, held_ever, IsIn, Requested, Covered, MayServe, at_once, held, ServeDue, ReplyDue, AbortDue, given_up, apart, SendDue}
+pub use Rattle.grid_laws.proofs.MessageCauses.{IsGot, IsUp, AtHome, RequestDue, PrepareDue, Asked, held_ever, IsIn, Requested, Covered, MayServe, at_once, held, ServeDue, ReplyDue, CommitDue, by_home, by_part, AbortDue, ended_so, given_up, apart, SendDue}
 
 -- ---- the records
 

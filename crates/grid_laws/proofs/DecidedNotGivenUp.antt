@@ -17,7 +17,7 @@ use Rattle.grid_model.specs.Documents.{DocumentData}
 use Rattle.journal_words.specs.Journals.{decision, ended}
 use Rattle.grid_model.specs.Nodes.{Node, change, got, is_home, is_home_in, journal, node, script_of, written}
 use Rattle.journal_words.specs.Orders.{decisions}
-use Rattle.grid_model.specs.Stories.{is_open, phase, story}
+use Rattle.grid_model.specs.Stories.{is_open, phase}
 use Rattle.grid_model.specs.Facts.{IsDecided, is_given_up}
 use Rattle.grid_model.proofs.Undecided.{script-number}
 use Rattle.grid_laws.proofs.Causes.{AbortedDue, AllDue, IsDue, IsUp, LostDue}

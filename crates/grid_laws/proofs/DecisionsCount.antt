@@ -1,5 +1,5 @@
 -- In a run each Decided counts: nothing of a transaction that begins was decided before.
-use Rattle.std.proofs.Common.{◌≡◌, ℕ, true, List, [], ◌∷◌, Some, None, refl, sym, subst, ◌∙◌, arith}
+use Rattle.std.proofs.Common.{◌≡◌, ℕ, true, List, [], ◌∷◌, None, refl, sym, subst, ◌∙◌, arith}
 use Rattle.std.proofs.lemmas.Bool.Decides.{nat_tests}
 use Rattle.score_base.specs.declared.ids.TxId.{TxId}
 use Rattle.score_base.specs.declared.ids.NodeId.{NodeId}
@@ -11,8 +11,8 @@ use Rattle.grid_model.specs.declared.acts.Act.TheVariants as act
 use Rattle.grid_model.specs.Documents.{DocumentData}
 use Rattle.grid_model.specs.Nodes.{node, journal, script_of}
 use Rattle.grid_model.specs.Stories.{phase, is_open, story, skipped_in, over_at}
-use Rattle.grid_model.proofs.Undecided.{begins, skipped-told, script-number}
-use Rattle.grid_laws.proofs.Causes.{IsDue, AllDue, BeganDue}
+use Rattle.grid_model.proofs.Undecided.{begins, skipped-told}
+use Rattle.grid_laws.proofs.Causes.{IsDue, AllDue}
 use Rattle.grid_laws.proofs.OpenPhases.{open-undecided}
 
 begun-counts : (d : DocumentData) (past : List Act) (a : Act) (t : TxId) → IsDue d past a → begins t a ≡ true → over_at (node d past) (script_of t d.scripts) ≡ 0

@@ -46,6 +46,7 @@ content-fit d past one due m x y (message.Tell t (outcome.Commit f)) is small = 
 content-fit d past one due m x y (message.Tell t outcome.Abort) is small = refl
 content-fit d past one due m x y (message.Ack t) is small = ack-fit d past due m x y t is
 content-fit d past one due m x y (message.Ask t) is small = refl
+content-fit d past one due m x y (message.AskPeer t) is small = refl
 
 sent-fit : (d : DocumentData) (past : List Act) → IsOne d → AllDue d past → IsLow past → (m : ℕ) (e : Envelope) → sent_at m (sent past) ≡ Some e → is_fit e.to (view d past e.to) e.from e.message ≡ true
 sent-fit d past one due low m e is =

@@ -1,5 +1,5 @@
 -- What a node gives where a message comes is due.
-use Rattle.std.proofs.Common.{◌≡◌, ℕ, ◌+◌, ◌≤◌, Bool, true, false, List, [], ◌∷◌, ◌++◌, Some, None, refl, sym, ap, subst, ◌∙◌, arith}
+use Rattle.std.proofs.Common.{Option, ◌≡◌, ℕ, ◌+◌, ◌≤◌, Bool, true, false, List, [], ◌∷◌, ◌++◌, Some, None, refl, sym, ap, subst, ◌∙◌, arith}
 use Rattle.std.proofs.lemmas.Bool.{and_parts}
 use Rattle.std.proofs.lemmas.Bool.Decides.{nat_tests}
 use Rattle.std.specs.Prelude.{IsTrue, ◌==◌, ◌&&◌, if◌then◌else◌}
@@ -8,6 +8,7 @@ use Rattle.score_base.specs.declared.ids.NodeId.{NodeId}
 use Rattle.score_base.specs.declared.ids.Ident.{Ident}
 use Rattle.score_base.specs.declared.causes.Ballot.{Ballot}
 use Rattle.score_base.specs.declared.causes.Ballot.TheVariants as ballot
+use Rattle.score_base.specs.declared.causes.Outcome.{Outcome}
 use Rattle.score_base.specs.declared.causes.Outcome.TheVariants as outcome
 use Rattle.score_base.specs.declared.records.Record.{Record}
 use Rattle.score_base.specs.declared.records.Record.TheVariants as record'
@@ -25,17 +26,17 @@ use Rattle.grid_model.specs.declared.stories.Story.{Story}
 use Rattle.grid_model.specs.declared.stories.Voted.{Voted}
 use Rattle.grid_model.specs.Documents.{DocumentData}
 use Rattle.grid_model.specs.Histories.{sent, sent_at}
-use Rattle.journal_words.specs.Journals.{Decision, commit_id, undone}
+use Rattle.journal_words.specs.Journals.{ended, Decision, commit_id, undone}
 use Rattle.grid_model.specs.Nodes.{node, journal, script_of, parts_of, parts_in, is_home}
 use Rattle.grid_model.specs.Stories.{Collecting, phase_at, is_open, is_fit_ballot, is_small_node, story, has_voted, heard_at, with_value, progressed}
 use Rattle.script_runs.specs.Waits.{waiting}
 use Rattle.grid_model.specs.Views.{Open, Stage, Apart, Reads, Collects, Commits, stage, stage_at, view, View, participant}
 use Rattle.grid_model.specs.Advances.{advance, parts_now}
 use Rattle.grid_model.specs.Fitness.{is_fit_at, is_same_ident, tx_in}
-use Rattle.grid_model.specs.Rows.{answer, message_outs, reply_outs, vote_outs, ballot_outs, decides, tells, ack_outs, asked_outs, greatest_vote, have_voted, are_all_among, dated}
+use Rattle.grid_model.specs.Rows.{peer_outs, answer, message_outs, reply_outs, vote_outs, ballot_outs, decides, tells, ack_outs, asked_outs, greatest_vote, have_voted, are_all_among, dated}
 use Rattle.grid_model.proofs.Undecided.{script-number}
 use Rattle.grid_model.specs.Facts.{is_given_up}
-use Rattle.grid_laws.proofs.Causes.{IsUp, IsGot, AtHome, DecidedDue, given_up, apart, by_decision}
+use Rattle.grid_laws.proofs.Causes.{by_home, by_part, ended_so, IsUp, IsGot, AtHome, DecidedDue, given_up, apart, by_decision}
 use Rattle.grid_laws.proofs.Frames.{same-number}
 use Rattle.grid_laws.proofs.OpenPhases.{open-valued}
 use Rattle.grid_laws.proofs.Stages.{Opens, opens-reads, opens-collects, stage-commits, is_counted, story-quiet}
@@ -189,8 +190,13 @@ due-acked d before n k m t x w e up got = tt
 due-asked : (d : DocumentData) (past : List Act) (n : NodeId) (m : ℕ) (t : TxId) (x : NodeId) (g : Stage) → stage (view d past n) t ≡ g → IsGot past n x (message.Ask t) → OutsDue d past n m (asked_outs t x g)
 due-asked d past n m t x (Reads o j) e got = tt
 due-asked d past n m t x (Collects o) e got = tt
-due-asked d past n m t x (Commits y acks) e got = ((y, stage-commits d past n t y acks e, refl), tt)
+due-asked d past n m t x (Commits y acks) e got = (by_home y (stage-commits d past n t y acks e) refl, tt)
 due-asked d past n m t x Apart e got = (apart got e, tt)
+
+due-told : (d : DocumentData) (past : List Act) (n : NodeId) (m : ℕ) (t : TxId) (x : NodeId) (o : Option Outcome) → ended t (journal d past n) ≡ o → IsGot past n x (message.AskPeer t) → OutsDue d past n m (peer_outs t x o)
+due-told d past n m t x None e got = tt
+due-told d past n m t x (Some (outcome.Commit f)) e got = (by_part got e, tt)
+due-told d past n m t x (Some outcome.Abort) e got = (ended_so got e, tt)
 
 -- ---- any message
 
@@ -212,6 +218,7 @@ due-row_of d before n k m x (message.Ack t) told up got fit = due-acked d before
 due-row_of d before n k m x (message.Ask t) told up got fit =
     let same : stage (view d (act.Got k ∷ before) n) t ≡ stage (view d before n) t = stage-quiet d before k x n (message.Ask t) t got refl in
     due-asked d (act.Got k ∷ before) n m t x (stage (view d before n) t) same got
+due-row_of d before n k m x (message.AskPeer t) told up got fit = due-told d (act.Got k ∷ before) n m t x (ended t (journal d before n)) refl got
 
 due-if_fit : (d : DocumentData) (past : List Act) (n : NodeId) (m : ℕ) (os : List Out) (b : Bool) → (b ≡ true → OutsDue d past n m os) → OutsDue d past n m (if b then os else [])
 due-if_fit d past n m os true go = go refl

@@ -20,7 +20,7 @@ use Rattle.grid_model.specs.declared.messages.Message.TheVariants as message
 use Rattle.grid_model.specs.declared.stories.Story.{Story}
 use Rattle.grid_model.specs.Sessions.{floor_at, first_at, is_busy_at}
 use Rattle.grid_model.specs.Documents.{DocumentData}
-use Rattle.journal_words.specs.Journals.{Decision, commit_id, decision, undone}
+use Rattle.journal_words.specs.Journals.{Decision, decision, undone}
 use Rattle.grid_model.specs.Nodes.{node, journal, script_of, parts_of}
 use Rattle.grid_model.specs.Stories.{phase_at, is_open, story, begun_in, over_at}
 use Rattle.script_runs.specs.Waits.{waiting}
@@ -29,7 +29,7 @@ use Rattle.grid_model.specs.Advances.{advance, advance_end, prepare_for, prepare
 use Rattle.script_runs.specs.Walks.{op_at, own_reads, unread}
 use Rattle.grid_model.specs.Rows.{begin_outs, not_voted, not_among, retry_outs, tells}
 use Rattle.grid_model.proofs.Undecided.{script-number}
-use Rattle.grid_laws.proofs.Causes.{IsUp, AtHome, SendDue, by_reads}
+use Rattle.grid_laws.proofs.Causes.{by_home, IsUp, AtHome, SendDue, by_reads}
 use Rattle.grid_laws.proofs.Frames.{same-number}
 use Rattle.grid_laws.proofs.OpenPhases.{open-begun}
 use Rattle.grid_laws.proofs.Stages.{Opens, among-get, among-filter, holds-preferred, opens-reads, opens-collects, stage-commits}
@@ -114,7 +114,7 @@ at-number d past n t s x at = let P : TxId → Type 0 = λ u. AtHome d past n u 
 
 pub due-tells : (d : DocumentData) (past : List Act) (n : NodeId) (m : ℕ) (t : TxId) (y : Decision) (ns : List NodeId) → undone t (journal d past n) ≡ Some y → OutsDue d past n m (tells t (outcome.Commit y.final) ns)
 due-tells d past n m t y [] is = tt
-due-tells d past n m t y (x ∷ ns) is = ((y, is, refl), due-tells d (act.Sent m n x (message.Tell t (outcome.Commit y.final)) ∷ past) n (m + 1) t y ns is)
+due-tells d past n m t y (x ∷ ns) is = (by_home y is refl, due-tells d (act.Sent m n x (message.Tell t (outcome.Commit y.final)) ∷ past) n (m + 1) t y ns is)
 
 pub due-retry : (d : DocumentData) (past : List Act) (n : NodeId) (m : ℕ) (t : TxId) (g : Stage) → ReadersAnswered d past → stage (view d past n) t ≡ g → OutsDue d past n m (retry_outs d.cluster t g)
 due-retry d past n m t (Reads x j) answered e =

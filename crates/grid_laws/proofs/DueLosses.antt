@@ -19,7 +19,7 @@ use Rattle.grid_model.specs.Documents.{DocumentData, number_order, script_number
 use Rattle.journal_words.specs.Journals.{later_decision}
 use Rattle.journal_words.proofs.Later.{later-more}
 use Rattle.grid_model.proofs.Growing.{journal-before}
-use Rattle.grid_model.specs.Nodes.{Node, node, script_of, got, change}
+use Rattle.grid_model.specs.Nodes.{Node, node, script_of}
 use Rattle.grid_model.specs.Stories.{story, phase, is_open, if_told, skipped_in}
 use Rattle.grid_model.specs.Schedules.{lost_at, losses}
 use Rattle.grid_model.specs.Claims.{was_open}

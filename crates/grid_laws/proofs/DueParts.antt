@@ -1,6 +1,6 @@
 -- The rows of a part, where a Prepare or an end is told: what they give is due.
 use Rattle.std.proofs.Common.{◌≡◌, ℕ, ◌+◌, Bool, true, false, List, [], ◌∷◌, ◌++◌, Option, Some, None, refl, sym, ap, ◌∙◌, arith}
-use Rattle.std.specs.Prelude.{max, is_some, if◌then◌else◌}
+use Rattle.std.specs.Prelude.{max, ◌&&◌, is_some, if◌then◌else◌}
 use Rattle.score_base.specs.declared.ids.TxId.{TxId}
 use Rattle.score_base.specs.declared.ids.NodeId.{NodeId}
 use Rattle.score_base.specs.declared.ids.Ident.{Ident}
@@ -13,12 +13,13 @@ use Rattle.grid_model.specs.declared.acts.Act.TheVariants as act
 use Rattle.grid_model.specs.declared.messages.Message.TheVariants as message
 use Rattle.grid_model.specs.declared.messages.Prepare.{Prepare}
 use Rattle.grid_model.specs.Documents.{DocumentData}
-use Rattle.journal_words.specs.Journals.{ended, holder, home_of, is_commit, newer, pending}
+use Rattle.journal_words.specs.Journals.{ended, holder, home_of, is_commit, names_part, newer, pending}
 use Rattle.grid_model.specs.Nodes.{node, journal}
-use Rattle.grid_model.specs.Views.{View, participant}
+use Rattle.grid_model.specs.declared.events.Out.TheVariants as out
+use Rattle.grid_model.specs.Views.{View, participant, view}
 use Rattle.grid_model.specs.Advances.{to_node}
 use Rattle.grid_model.specs.Fitness.{is_fit_outcome, is_at_least, is_fit_prepare}
-use Rattle.grid_model.specs.Rows.{prepared_outs, prepare_outs, judged, commit_outs, abort_outs, tell_outs, ask_outs, freed_by, if_pending}
+use Rattle.grid_model.specs.Rows.{prepared_outs, prepare_outs, judged, commit_outs, abort_outs, tell_outs, ask_outs, ask_peer_outs, freed_by, if_pending}
 use Rattle.grid_laws.proofs.Causes.{IsUp, IsGot, Asked}
 use Rattle.grid_laws.proofs.Frames.{up-stays, same-number, in-held}
 use Rattle.grid_laws.proofs.DueActs.{OutsDue}
@@ -97,3 +98,11 @@ due-asks d past n m t false w pends home = tt
 
 pub due-ask : (d : DocumentData) (past : List Act) (n : NodeId) (m : ℕ) (v : View) (t : TxId) → v.journal ≡ journal d past n → OutsDue d past n m (ask_outs (participant v) t)
 due-ask d past n m v t is = rw is (due-asks d past n m t (is_some (pending t (journal d past n))) (home_of t (journal d past n)) refl refl)
+
+due-ask_peers : (d : DocumentData) (past : List Act) (n : NodeId) (m : ℕ) (t : TxId) (y : NodeId) (b c : Bool) → is_some (pending t (journal d past n)) ≡ b → names_part t y (journal d past n) ≡ c → OutsDue d past n m (if b && c then out.Send y (message.AskPeer t) ∷ [] else [])
+due-ask_peers d past n m t y true true pends part = ((pends, part), tt)
+due-ask_peers d past n m t y true false pends part = tt
+due-ask_peers d past n m t y false c pends part = tt
+
+pub due-ask_peer : (d : DocumentData) (past : List Act) (n : NodeId) (m : ℕ) (t : TxId) (y : NodeId) → OutsDue d past n m (ask_peer_outs (participant (view d past n)) t y)
+due-ask_peer d past n m t y = due-ask_peers d past n m t y (is_some (pending t (journal d past n))) (names_part t y (journal d past n)) refl refl

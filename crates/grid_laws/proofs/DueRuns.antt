@@ -18,10 +18,10 @@ use Rattle.grid_model.specs.Stories.{story}
 use Rattle.grid_model.specs.Views.{view, stage, participant}
 use Rattle.grid_model.specs.Rows.{answer, begin_outs}
 use Rattle.grid_model.specs.Schedules.{Choice, acts_of, flag_of, next_number, opened_row, row, start_act, start_row}
-use Rattle.grid_model.proofs.EventShapes.{Shape, idle, arms, crashes, restarts, begins, delivers, again, IsAgain, retries, asks, acts_by, by-shape, is_idle}
+use Rattle.grid_model.proofs.EventShapes.{Shape, idle, arms, crashes, restarts, begins, delivers, again, IsAgain, retries, asks, asks_peer, acts_by, by-shape, is_idle}
 use Rattle.grid_laws.proofs.Causes.{IsDue, AreDue}
 use Rattle.grid_laws.proofs.DueActs.{OutsDue, acts-due}
-use Rattle.grid_laws.proofs.DueParts.{due-ask}
+use Rattle.grid_laws.proofs.DueParts.{due-ask_peer, due-ask}
 use Rattle.grid_laws.proofs.DueHomes.{ReadersAnswered, due-begin, due-retry}
 use Rattle.grid_laws.proofs.DueAnswers.{due-answer}
 use Rattle.grid_laws.proofs.DueLosses.{due-losses}
@@ -41,6 +41,7 @@ due-again : (d : DocumentData) (past : List Act) (n : NodeId) (os : List Out) �
 due-again d past n os answered (retries t is) =
     rw is (due-retry d past n (next_number past) t (stage (view d past n) t) answered refl)
 due-again d past n os answered (asks t is) = rw is (due-ask d past n (next_number past) (view d past n) t refl)
+due-again d past n os answered (asks_peer t y is) = rw is (due-ask_peer d past n (next_number past) t y)
 
 due-idle : (d : DocumentData) (past acts : List Act) → list_all is_idle acts ≡ true → AreDue d past acts
 due-idle d past [] is = tt

@@ -19,11 +19,11 @@ use Rattle.script_runs.specs.Waits.{waiting}
 use Rattle.grid_model.specs.Copies.{is_finished}
 use Rattle.grid_model.specs.Facts.{IsDecided}
 use Rattle.journal_words.specs.Journals.{has_decided}
+use Rattle.grid_laws.proofs.MessagesBacked.{is_decided-more}
 use Rattle.grid_laws.proofs.Frames.{same-number}
 use Rattle.grid_laws.proofs.Causes.{AllDue, FinishedDue, RecordDue, by_decision, by_reads}
 use Rattle.grid_laws.proofs.DueAnswers.{home-is, journal-decided}
 use Rattle.grid_laws.proofs.FullStories.{Full, full-more}
-use Rattle.grid_laws.proofs.EndsMeant.{is_decided-more}
 use Rattle.grid_laws.proofs.OpenNotGivenUp.{given-either}
 
 -- t is a decided update, or a read-only transaction with all its values

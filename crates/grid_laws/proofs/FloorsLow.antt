@@ -2,7 +2,6 @@
 use Rattle.std.proofs.Common.{◌≡◌, ℕ, ◌≤◌, Bool, true, false, ◌&&◌, not, max, List, [], ◌∷◌, Option, Some, None, refl, arith, if◌then◌else◌}
 use Rattle.std.specs.Prelude.{nat_lt}
 use Rattle.score_base.specs.declared.ids.TxId.{TxId}
-use Rattle.score_base.specs.declared.ids.Ident.{Ident}
 use Rattle.score_base.specs.declared.records.Record.{Record}
 use Rattle.script_lang.specs.declared.scripts.Op.{Op}
 use Rattle.script_lang.specs.Scripts.{ScriptData}
@@ -12,10 +11,10 @@ use Rattle.journal_words.specs.Journals.{Decision, decision, is_closed, times_de
 use Rattle.grid_model.specs.declared.acts.Act.{Act}
 use Rattle.grid_model.specs.declared.stories.Story.{Story}
 use Rattle.grid_model.specs.Documents.{DocumentData}
-use Rattle.grid_model.specs.Nodes.{Node, node, journal}
-use Rattle.grid_model.specs.Stories.{Lost, Aborted, Answered, open_phase, undecided_phase, decided_phase, phase_at, skipped_in, story}
+use Rattle.grid_model.specs.Nodes.{Node, node}
+use Rattle.grid_model.specs.Stories.{Lost, Aborted, Answered, open_phase, undecided_phase, decided_phase, phase_at, story}
 use Rattle.grid_model.specs.States.{state_of}
-use Rattle.grid_model.specs.Sessions.{is_of, left_by, left_on, floor_among, floor_at, first_at}
+use Rattle.grid_model.specs.Sessions.{is_of, left_by, left_on, floor_among, floor_at}
 use Rattle.grid_model.specs.Acts.{EachAct}
 use Rattle.grid_model.specs.Facts.{IsAtMost}
 use Rattle.grid_laws.proofs.LowWords.{IsLowRecord, IsLowStory, decision-low, nodes-low, snapshot-low, stories-low}

@@ -12,7 +12,7 @@ use Rattle.grid_model.specs.declared.acts.Act.TheVariants as act
 use Rattle.grid_model.specs.declared.messages.Envelope.{Envelope}
 use Rattle.grid_model.specs.declared.stories.HeldRead.{HeldRead}
 use Rattle.grid_model.specs.Documents.{DocumentData}
-use Rattle.grid_model.specs.Nodes.{got, held_by, with_held, node, journal, Node, is_request, said_by, freed, Change, Nothing, Writes, Raises, Holds, Frees, Stops, Starts, Stays, where_at, change, changed, found, without_read, is_read}
+use Rattle.grid_model.specs.Nodes.{got, held_by, with_held, node, journal, Node, is_request, said_by, freed, Change, Holds, Stops, where_at, change, changed, without_read, is_read}
 use Rattle.grid_laws.proofs.Causes.{held_ever, IsIn}
 
 pub same-number : (n : ℕ) → (n == n) ≡ true

@@ -1,10 +1,14 @@
 -- Claims on messages and on records: what holds where they come, and stays true, holds of all.
-use Rattle.std.proofs.Common.{◌≡◌, ℕ, ◌-◌, ◌⊎◌, inl, inr, Bool, true, false, List, [], ◌∷◌, ◌++◌, Option, Some, None, subst, zero, suc}
+use Rattle.std.proofs.Common.{◌≡◌, ℕ, ◌-◌, ◌⊎◌, inl, inr, Bool, true, false, List, [], ◌∷◌, ◌++◌, Option, Some, None, subst, arith, zero, suc}
 use Rattle.std.specs.Prelude.{◌==◌, if◌then◌else◌, slice_get}
 use Rattle.score_base.specs.declared.ids.TxId.{TxId}
 use Rattle.score_base.specs.declared.ids.NodeId.{NodeId}
 use Rattle.score_base.specs.declared.ids.Ident.{Ident}
 use Rattle.score_base.specs.declared.keys.Key.{Key}
+use Rattle.std.proofs.lemmas.Bool.{cases_eq}
+use Rattle.std.proofs.lemmas.Bool.Decides.{nat_tests}
+use Rattle.score_base.specs.declared.causes.Outcome.{Outcome}
+use Rattle.journal_words.specs.Journals.{ended}
 use Rattle.score_base.specs.declared.records.Record.{Record}
 use Rattle.score_base.specs.declared.records.Record.TheVariants as record'
 use Rattle.grid_model.specs.declared.acts.Act.{Act}
@@ -114,4 +118,72 @@ records-hold C d (a ∷ past) more new due n =
     record {
       journal = all-hold-more (C past n) (C (a ∷ past) n) (node d (a ∷ past) n).journal (λ y h. more past a n y due h) now.journal;
       doubt = holds-in-more (C past n) (C (a ∷ past) n) (node d (a ∷ past) n).doubt (λ y h. more past a n y due h) now.doubt;
+    }
+
+-- what holds of each record holds of how a transaction ended
+pub ended-holds : (C : Record → Type 0) (t : TxId) (o : Outcome) (r : List Record) → AllHold C r → ended t r ≡ Some o → C (record'.Ended t o)
+ended-holds C t o [] says e = cc
+ended-holds C t o (record'.Ended u w ∷ r) says e = elim (cases_eq u t) [
+  | inl same ↦
+      let now : Some w ≡ Some o = grind (arith, nat_tests, e) in
+      let is : w ≡ o = cc in
+      let P : TxId → Type 0 = λ v. C (record'.Ended v w) in
+      let Q : Outcome → Type 0 = λ z. C (record'.Ended t z) in
+      subst Q is (subst P same says.0)
+  | inr other ↦ ended-holds C t o r says.1 (grind (arith, nat_tests, e))
+]
+ended-holds C t o (record'.Prepared u home parts sid p reads writes ∷ r) says e = ended-holds C t o r says.1 e
+ended-holds C t o (record'.Ceiling c ∷ r) says e = ended-holds C t o r says.1 e
+ended-holds C t o (record'.Decided u f parts ∷ r) says e = ended-holds C t o r says.1 e
+ended-holds C t o (record'.Closed u ∷ r) says e = ended-holds C t o r says.1 e
+
+-- ---- messages and records together
+
+-- a claim on each message that was sent, on the one that was got last, and on each record of each node
+pub record BothHold (C : NodeId → NodeId → Message → Type 0) (E : NodeId → Record → Type 0) (d : DocumentData) (past : List Act) : Type 0 where
+  pub of_sent : (m : ℕ) (e : Envelope) → sent_at m (sent past) ≡ Some e → C e.from e.to e.message
+  pub of_got : (e : Envelope) → got past ≡ Some e → C e.from e.to e.message
+  pub of_records : (n : NodeId) → NodeHolds (E n) (node d past n)
+
+both-sent : (C : List Act → NodeId → NodeId → Message → Type 0) (d : DocumentData) (past : List Act) (a : Act)
+    → ((n y : NodeId) (said : Message) → C past n y said → C (a ∷ past) n y said)
+    → ((n y : NodeId) (said : Message) → SendDue d past n y said → C past n y said)
+    → IsDue d past a
+    → ((m : ℕ) (e : Envelope) → sent_at m (sent past) ≡ Some e → C past e.from e.to e.message)
+    → (m : ℕ) (e : Envelope) → sent_at m (sent (a ∷ past)) ≡ Some e → C (a ∷ past) e.from e.to e.message
+both-sent C d past (act.Sent k x y said) more new due before m e is = elim (sent-last m (m == 0) (sent past) (record { from = x; to = y; message = said }) e is) [
+  | inl old ↦ more e.from e.to e.message (before m e old)
+  | inr same ↦ more e.from e.to e.message (let P : Envelope → Type 0 = λ z. C past z.from z.to z.message in subst P same (new x y said due))
+]
+both-sent C d past a more new due before m e is = more e.from e.to e.message (before m e is)
+
+both-got : (C : List Act → NodeId → NodeId → Message → Type 0) (E : NodeId → Record → Type 0) (d : DocumentData) (past : List Act) (a : Act)
+    → ((n y : NodeId) (said : Message) → C past n y said → C (a ∷ past) n y said)
+    → BothHold (C past) E d past
+    → (e : Envelope) → got (a ∷ past) ≡ Some e → C (a ∷ past) e.from e.to e.message
+both-got C E d past (act.Got m) more before e is = more e.from e.to e.message (before.of_sent m e is)
+both-got C E d past a more before e is = more e.from e.to e.message (before.of_got e is)
+
+-- what each message says by the records behind it, and each record by the message behind it
+pub both-hold : (C : List Act → NodeId → NodeId → Message → Type 0) (E : List Act → NodeId → Record → Type 0) (d : DocumentData) (past : List Act)
+    → ((now : List Act) (a : Act) (n y : NodeId) (said : Message) → AllDue d (a ∷ now) → C now n y said → C (a ∷ now) n y said)
+    → ((now : List Act) (a : Act) (n : NodeId) (y : Record) → AllDue d (a ∷ now) → E now n y → E (a ∷ now) n y)
+    → ((now : List Act) (n y : NodeId) (said : Message) → AllDue d now → BothHold (C now) (E now) d now → SendDue d now n y said → C now n y said)
+    → ((now : List Act) (n : NodeId) (h : Head) → AllDue d now → BothHold (C now) (E now) d now → RecordDue d now n h → HoldsIn (E now n) (record_of d (got now) h))
+    → AllDue d past → BothHold (C past) (E past) d past
+both-hold C E d [] more_said more_kept said kept due = record {
+  of_sent = λ m e is. absurd (sent-none m (m == 0) e is);
+  of_got = λ e is. cc;
+  of_records = λ n. record { journal = tt; doubt = tt };
+}
+both-hold C E d (a ∷ past) more_said more_kept said kept due =
+    let before : BothHold (C past) (E past) d past = both-hold C E d past more_said more_kept said kept due.1 in
+    let changed_now : (n : NodeId) → NodeHolds (E past n) (node d (a ∷ past) n) = λ n. hold-changed (E past n) (node d past n) (change d (got past) a n) (before.of_records n) (hold-change (E past) d past a n due.1 (λ k h r. kept past k h due.1 before r) due.0) in
+    record {
+      of_sent = both-sent C d past a (λ n y w h. more_said past a n y w due h) (λ n y w h. said past n y w due.1 before h) due.0 before.of_sent;
+      of_got = both-got C (E past) d past a (λ n y w h. more_said past a n y w due h) before;
+      of_records = λ n. record {
+        journal = all-hold-more (E past n) (E (a ∷ past) n) (node d (a ∷ past) n).journal (λ y h. more_kept past a n y due h) (changed_now n).journal;
+        doubt = holds-in-more (E past n) (E (a ∷ past) n) (node d (a ∷ past) n).doubt (λ y h. more_kept past a n y due h) (changed_now n).doubt;
+      };
     }

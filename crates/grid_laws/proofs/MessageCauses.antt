@@ -21,7 +21,7 @@ use Rattle.grid_model.specs.declared.messages.ReadReq.{ReadReq}
 use Rattle.grid_model.specs.declared.stories.HeldRead.{HeldRead}
 use Rattle.grid_model.specs.declared.stories.Story.{Story}
 use Rattle.grid_model.specs.Documents.{DocumentData}
-use Rattle.journal_words.specs.Journals.{Decision, commit_id, ended, floor, home_of, is_clear, is_commit, pending, undone}
+use Rattle.journal_words.specs.Journals.{names_part, Decision, commit_id, ended, floor, home_of, is_clear, is_commit, pending, undone}
 use Rattle.grid_model.specs.Nodes.{got, held_by, with_held, node, journal, script_of, parts_of}
 use Rattle.grid_model.specs.Stories.{story}
 use Rattle.script_runs.specs.Waits.{waiting}
@@ -122,8 +122,15 @@ pub record ReplyDue (d : DocumentData) (past : List Act) (n y : NodeId) (t : TxI
   pub is : past ≡ act.Served n t op key sid vn v ∷ before
   pub may : MayServe d before n (record { t = t; op = op; sid = sid; key = key; from = y })
 
--- an abort is told where t was given up, or where its home, which was asked, knows no more of it
+-- a commit is told by the home that decided it, or by a part that has ended so and was asked
+pub data CommitDue (d : DocumentData) (past : List Act) (n y : NodeId) (t : TxId) (f : Ident) : Type 0 where
+  by_home : (x : Decision) → undone t (journal d past n) ≡ Some x → x.final ≡ f → CommitDue d past n y t f
+  by_part : IsGot past n y (message.AskPeer t) → ended t (journal d past n) ≡ Some (outcome.Commit f) → CommitDue d past n y t f
+
+-- an abort is told where t was given up, where its home, which was asked, knows no more of it, or by a part
+-- that has ended so and was asked
 pub data AbortDue (d : DocumentData) (past : List Act) (n y : NodeId) (t : TxId) : Type 0 where
+  ended_so : IsGot past n y (message.AskPeer t) → ended t (journal d past n) ≡ Some outcome.Abort → AbortDue d past n y t
   given_up : IsTrue (is_given_up t past) → AbortDue d past n y t
   apart : IsGot past n y (message.Ask t) → stage (view d past n) t ≡ Apart → AbortDue d past n y t
 
@@ -134,7 +141,8 @@ SendDue d past n y (message.ReadRep q) = ReplyDue d past n y q.t q.op q.sid q.va
 SendDue d past n y (message.Prepare q) = PrepareDue d past n y q
 SendDue d past n y (message.Vote t (ballot.Yes p)) = Asked d past n y t × (pending t (journal d past n) ≡ Some p)
 SendDue d past n y (message.Vote t (ballot.No why)) = Asked d past n y t × (before : List Act) × (past ≡ act.Refused n t why ∷ before)
-SendDue d past n y (message.Tell t (outcome.Commit f)) = (x : Decision) × (undone t (journal d past n) ≡ Some x) × (x.final ≡ f)
+SendDue d past n y (message.Tell t (outcome.Commit f)) = CommitDue d past n y t f
 SendDue d past n y (message.Tell t outcome.Abort) = AbortDue d past n y t
 SendDue d past n y (message.Ack t) = (is_commit (ended t (journal d past n)) ≡ true) × (home_of t (journal d past n) ≡ Some y)
 SendDue d past n y (message.Ask t) = (is_some (pending t (journal d past n)) ≡ true) × (home_of t (journal d past n) ≡ Some y)
+SendDue d past n y (message.AskPeer t) = (is_some (pending t (journal d past n)) ≡ true) × (names_part t y (journal d past n) ≡ true)

@@ -16,22 +16,26 @@ use Rattle.score_base.specs.declared.records.Record.{Record}
 use Rattle.score_base.specs.declared.records.Record.TheVariants as record'
 use Rattle.grid_model.specs.declared.acts.Act.{Act}
 use Rattle.grid_model.specs.declared.acts.Act.TheVariants as act
+use Rattle.grid_model.specs.declared.acts.Head.{Head}
+use Rattle.grid_model.specs.declared.acts.Head.TheVariants as head
+use Rattle.grid_model.specs.declared.messages.Envelope.{Envelope}
 use Rattle.grid_model.specs.declared.messages.Message.{Message}
 use Rattle.grid_model.specs.declared.messages.Message.TheVariants as message
 use Rattle.grid_model.specs.Documents.{DocumentData}
-use Rattle.journal_words.specs.Journals.{decision, pending, has_prepared, has_decided, has_commit}
-use Rattle.grid_model.specs.Nodes.{node, journal, found}
+use Rattle.journal_words.specs.Journals.{decision, ended, pending, has_prepared, has_decided, has_commit}
+use Rattle.grid_model.specs.Nodes.{got, node, journal, found, record_of}
 use Rattle.grid_model.specs.Acts.{EachSent, has_refused, is_same_cause}
-use Rattle.grid_model.specs.Facts.{has_served, Says, MessagesBacked, SaysIn, records_at}
+use Rattle.grid_model.specs.Facts.{IsDecided, has_served, Says, MessagesBacked, SaysIn, records_at}
 use Rattle.grid_laws.proofs.MessageCauses.{SendDue}
-use Rattle.grid_laws.proofs.Causes.{AllDue}
+use Rattle.grid_laws.proofs.Causes.{AllDue, RecordDue, CommitDue, by_home, by_part}
+use Rattle.grid_laws.proofs.Holds.{BothHold, both-hold, ended-holds}
 use Rattle.grid_laws.proofs.Frames.{same-number}
 use Rattle.grid_model.proofs.Growing.{journal-more}
 use Rattle.script_lang.proofs.KeyLists.{same_key-self}
 use Rattle.journal_words.proofs.Decisions.{has_decided-grows, decision-has}
 use Rattle.journal_words.proofs.Stands.{has_prepared-grows, has_commit-grows, has_commit-is}
-use Rattle.grid_laws.proofs.NodesFit.{IsFitNode}
-use Rattle.grid_laws.proofs.NodesFitActs.{decision-home, undone-decision, nodes-fit}
+use Rattle.grid_laws.proofs.NodesFit.{IsFitNode, AllHold, HoldsIn}
+use Rattle.grid_laws.proofs.NodesFitActs.{prepared-is, decision-home, undone-decision, nodes-fit}
 
 -- ---- what was backed stays backed
 
@@ -81,15 +85,70 @@ refused-now n t why past = rw (same-number n, same-number t, same-cause why) ref
 served-now : (n : NodeId) (t : TxId) (j : ℕ) (k : Key) (sid vn : Ident) (v : Value) (past : List Act) → has_served n t j sid v (act.Served n t j k sid vn v ∷ past) ≡ true
 served-now n t j k sid vn v past = rw (same-number n, same-number t, same-number j, same-number sid, same-number v) refl
 
-pub says-due : (d : DocumentData) (past : List Act) (n y : NodeId) (said : Message) → IsFitNode d n (node d past n) → SendDue d past n y said → Says d past n said
+-- ---- a commit that was told or ended was decided
+
+-- a decision that stands stays
+pub is_decided-more : (d : DocumentData) (past : List Act) (a : Act) (t : TxId) (f : Ident) → IsDecided d past t f → IsDecided d (a ∷ past) t f
+is_decided-more d past a t f h = (h.0, h.1, decided-more d past a h.0 t f h.2)
+
+abbrev CommitSays : DocumentData → List Act → Message → Type 0
+CommitSays d past (message.Tell t (outcome.Commit f)) = IsDecided d past t f
+CommitSays d past said = Unit {0}
+
+abbrev CommittedSays : DocumentData → List Act → Record → Type 0
+CommittedSays d past (record'.Ended t (outcome.Commit f)) = IsDecided d past t f
+CommittedSays d past y = Unit {0}
+
+commit_says-more : (d : DocumentData) (past : List Act) (a : Act) (said : Message) → CommitSays d past said → CommitSays d (a ∷ past) said
+commit_says-more d past a (message.Tell t (outcome.Commit f)) h = is_decided-more d past a t f h
+commit_says-more d past a (message.Tell t outcome.Abort) h = tt
+commit_says-more d past a said h = tt
+
+committed-more : (d : DocumentData) (past : List Act) (a : Act) (y : Record) → CommittedSays d past y → CommittedSays d (a ∷ past) y
+committed-more d past a (record'.Ended t (outcome.Commit f)) h = is_decided-more d past a t f h
+committed-more d past a (record'.Ended t outcome.Abort) h = tt
+committed-more d past a y h = tt
+
+commit-by : (d : DocumentData) (past : List Act) (n y : NodeId) (t : TxId) (f : Ident) → AllDue d past → AllHold (CommittedSays d past) (journal d past n) → CommitDue d past n y t f → IsDecided d past t f
+commit-by d past n y t f all ends (by_home x is final) =
+    let s : IsFitNode d n (node d past n) = nodes-fit d past all n in
+    let decided : decision t (journal d past n) ≡ Some x = undone-decision t x (journal d past n) is in
+    let P : Ident → Type 0 = λ g. has_decided t g (journal d past n) ≡ true in
+    (n, (decision-home d n t x (journal d past n) s.homes decided).home, subst P final (decision-has t x (journal d past n) decided))
+commit-by d past n y t f all ends (by_part got is) = ended-holds (CommittedSays d past) t (outcome.Commit f) (journal d past n) ends is
+
+commit-said : (d : DocumentData) (past : List Act) (n y : NodeId) (said : Message) → AllDue d past → AllHold (CommittedSays d past) (journal d past n) → SendDue d past n y said → CommitSays d past said
+commit-said d past n y (message.Tell t (outcome.Commit f)) all ends due = commit-by d past n y t f all ends due
+commit-said d past n y (message.Tell t outcome.Abort) all ends due = tt
+commit-said d past n y said all ends due = tt
+
+commit-kept : (d : DocumentData) (past : List Act) (n : NodeId) (h : Head) → ((e : Envelope) → got past ≡ Some e → CommitSays d past e.message) → RecordDue d past n h → HoldsIn (CommittedSays d past) (record_of d (got past) h)
+commit-kept d past n (head.Ended t (outcome.Commit f)) says due = says (record { from = due.1.from; to = n; message = message.Tell t (outcome.Commit f) }) due.1.got
+commit-kept d past n (head.Ended t outcome.Abort) says due = tt
+commit-kept d past n (head.Prepared t p) says due = let P : Option Record → Type 0 = λ o. HoldsIn (CommittedSays d past) o in subst P (sym (prepared-is d past n t p due.1)) tt
+commit-kept d past n h says due = tt
+
+commits-told : (d : DocumentData) (past : List Act) → AllDue d past → BothHold (λ n y said. CommitSays d past said) (λ n r. CommittedSays d past r) d past
+commits-told d past due =
+    both-hold (λ now n y said. CommitSays d now said) (λ now n r. CommittedSays d now r) d past
+    (λ now a n y said all h. commit_says-more d now a said h)
+    (λ now a n y all h. committed-more d now a y h)
+    (λ now n y said all b h. commit-said d now n y said all (b.of_records n).journal h)
+    (λ now n h all b r. commit-kept d now n h b.of_got r)
+    due
+
+-- what ended with commit was decided, with this final identifier
+pub commit-decided : (d : DocumentData) (past : List Act) → AllDue d past → (n : NodeId) (t : TxId) (f : Ident) → ended t (journal d past n) ≡ Some (outcome.Commit f) → IsDecided d past t f
+commit-decided d past all n t f e = ended-holds (CommittedSays d past) t (outcome.Commit f) (journal d past n) ((commits-told d past all).of_records n).journal e
+
+-- ---- what is sent says so
+
+pub says-due : (d : DocumentData) (past : List Act) (n y : NodeId) (said : Message) → AllDue d past → SendDue d past n y said → Says d past n said
 says-due d past n y (message.Vote t (ballot.Yes p)) s due = pending-has t p (journal d past n) due.1
 says-due d past n y (message.Vote t (ballot.No why)) s due = (let P : List Act → Type 0 = λ p. has_refused n t why p ≡ true in subst P (sym due.2) (refused-now n t why due.1))
-says-due d past n y (message.Tell t (outcome.Commit f)) s due =
-    let is : decision t (journal d past n) ≡ Some due.0 = undone-decision t due.0 (journal d past n) due.1 in
-    let P : Ident → Type 0 = λ g. has_decided t g (journal d past n) ≡ true in
-    (n, (decision-home d n t due.0 (journal d past n) s.homes is).home, subst P due.2 (decision-has t due.0 (journal d past n) is))
+says-due d past n y (message.Tell t (outcome.Commit f)) all due = commit-by d past n y t f all ((commits-told d past all).of_records n).journal due
 says-due d past n y (message.Tell t outcome.Abort) s due = tt
-says-due d past n y (message.Ack t) s due = has_commit-is d.cluster n t (journal d past n) s.fits ∙ due.0
+says-due d past n y (message.Ack t) all due = has_commit-is d.cluster n t (journal d past n) (nodes-fit d past all n).fits ∙ due.0
 says-due d past n y (message.ReadRep q) s due = (let P : List Act → Type 0 = λ p. has_served n q.t q.op q.sid q.value p ≡ true in subst P (sym due.is) (served-now n q.t q.op due.key q.sid due.vn q.value due.before))
 says-due d past n y said s due = tt
 
@@ -124,4 +183,4 @@ says-kept d past kept n (message.Ack t) h =
 says-kept d past kept n said h = h
 
 pub messages-backed : (d : DocumentData) (past : List Act) → AllDue d past → MessagesBacked d past
-messages-backed d past due kept = each-more (Says d past) (SaysIn d past (records_at d past kept)) past (says-kept d past kept) (each-sent (λ now n said. Says d now n said) d past (λ now a n said all h. says-more d now a n said h) (λ now n y said all h. says-due d now n y said (nodes-fit d now all n) h) due)
+messages-backed d past due kept = each-more (Says d past) (SaysIn d past (records_at d past kept)) past (says-kept d past kept) (each-sent (λ now n said. Says d now n said) d past (λ now a n said all h. says-more d now a n said h) (λ now n y said all h. says-due d now n y said all h) due)

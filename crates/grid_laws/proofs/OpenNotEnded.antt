@@ -1,5 +1,5 @@
 -- An open transaction has ended nowhere, and nobody was told that it ended.
-use Rattle.std.proofs.Common.{◌≡◌, ◌⊎◌, ℕ, true, List, ◌∷◌, Option, Some, None, inl, inr, refl, subst}
+use Rattle.std.proofs.Common.{◌≡◌, ◌⊎◌, true, List, ◌∷◌, Option, Some, None, inl, inr, refl, subst}
 use Rattle.score_base.specs.declared.ids.TxId.{TxId}
 use Rattle.score_base.specs.declared.ids.NodeId.{NodeId}
 use Rattle.score_base.specs.declared.ids.Ident.{Ident}
@@ -10,20 +10,17 @@ use Rattle.grid_model.specs.declared.acts.Act.{Act}
 use Rattle.grid_model.specs.declared.messages.Message.{Message}
 use Rattle.grid_model.specs.declared.messages.Message.TheVariants as message
 use Rattle.grid_model.specs.Documents.{DocumentData}
-use Rattle.grid_model.specs.Histories.{sent, sent_at}
-use Rattle.journal_words.specs.Journals.{decision, ended, is_closed}
-use Rattle.grid_model.specs.Nodes.{journal, node, script_of}
-use Rattle.grid_model.specs.Stories.{is_open, phase, story}
+use Rattle.journal_words.specs.Journals.{decision, ended}
+use Rattle.grid_model.specs.Nodes.{journal, script_of}
+use Rattle.grid_model.specs.Stories.{is_open, phase}
 use Rattle.grid_model.specs.Facts.{IsDecided, is_given_up}
-use Rattle.journal_words.proofs.Decisions.{closed-decided, decision-has, has_decided-says}
+use Rattle.journal_words.proofs.Decisions.{has_decided-says}
 use Rattle.grid_model.proofs.Undecided.{script-number}
-use Rattle.grid_laws.proofs.MessageCauses.{AbortDue, SendDue, apart, given_up}
+use Rattle.grid_laws.proofs.MessagesBacked.{commit-decided, is_decided-more}
 use Rattle.grid_laws.proofs.Causes.{AllDue}
-use Rattle.grid_laws.proofs.NodesFitActs.{decision-home, nodes-fit}
 use Rattle.grid_laws.proofs.DecisionsCount.{open-decided-never}
-use Rattle.grid_laws.proofs.Holds.{sent-hold}
-use Rattle.grid_laws.proofs.AbortsFinal.{apart-gone, given-more}
-use Rattle.grid_laws.proofs.EndsMeant.{abort-given-up, commit-decided, is_decided-more}
+use Rattle.grid_laws.proofs.AbortsFinal.{given-more}
+use Rattle.grid_laws.proofs.EndsMeant.{abort-given-up}
 use Rattle.grid_laws.proofs.OpenNotGivenUp.{open-not-given-up}
 use Rattle.grid_laws.proofs.DecidedNotGivenUp.{home-at}
 

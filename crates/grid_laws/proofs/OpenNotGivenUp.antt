@@ -12,9 +12,8 @@ use Rattle.grid_model.specs.declared.acts.Act.{Act}
 use Rattle.grid_model.specs.declared.acts.Act.TheVariants as act
 use Rattle.grid_model.specs.declared.stories.Story.{Story}
 use Rattle.grid_model.specs.Documents.{DocumentData}
-use Rattle.grid_model.specs.Nodes.{node, script_of, Node, is_home}
-use Rattle.grid_model.specs.Stories.{story, phase, phase_at, begun_in, if_told, is_open, Phase, asked, heard, heard_at, with_vote, with_ack, progressed}
-use Rattle.grid_model.specs.Histories.{sent, sent_at}
+use Rattle.grid_model.specs.Nodes.{node, script_of}
+use Rattle.grid_model.specs.Stories.{story, phase, phase_at, begun_in, if_told, is_open}
 use Rattle.grid_model.specs.Facts.{is_given_up}
 use Rattle.grid_model.proofs.Undecided.{script-number}
 use Rattle.grid_laws.proofs.Frames.{same-number}

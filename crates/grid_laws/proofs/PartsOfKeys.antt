@@ -1,6 +1,6 @@
 -- Each key has a holder, and a holder of a key that a script names is a part of the script.
 use Rattle.grid_laws.proofs.ScriptKeys.{any-among}
-use Rattle.std.proofs.Common.{◌≡◌, ℕ, ◌+◌, ◌-◌, ◌≤◌, ◌<◌, inl, inr, Bool, true, false, List, [], ◌∷◌, Some, refl, sym, ap, subst, ◌∙◌, arith, zero, suc, length, ◌%◌}
+use Rattle.std.proofs.Common.{◌≡◌, ℕ, ◌+◌, ◌≤◌, ◌<◌, inl, inr, Bool, true, false, List, [], ◌∷◌, Some, refl, sym, ap, subst, ◌∙◌, arith, zero, suc, length, ◌%◌}
 use Rattle.std.proofs.lemmas.Bool.Decides.{nat_tests}
 use Rattle.std.proofs.lemmas.Bool.{and_parts, or_left, or_right, or_cases, cases_eq}
 use Rattle.std.specs.Prelude.{◌==◌, ◌||◌, IsTrue, filter, slice_get, slice_index_or, if◌then◌else◌}

@@ -54,9 +54,11 @@ request-due : (d : DocumentData) (past : List Act) (n y : NodeId) (q : ReadReq) 
 request-due d past n y q all due c = elim (story-step d past q.t due.script due.story all due.at.script due.at.story) [
   | inl none ↦
       let reads : waiting due.script.ops [] ≡ Some q.op = ap (waiting due.script.ops) (sym none.1) ∙ due.reads in
-      let date : dated q.date c ≡ max due.story.progress.sid0 c = ap (λ z. dated z c) due.date ∙ ap (λ o. dated (date_by due.story.progress.sid0 o) c) none.0 in
-      let above : due.story.progress.sid0 ≤ dated q.date c = rw date (le-max_left due.story.progress.sid0 c) in
-      record { script = due.script; is = due.at.script; dated = inl (reads, below-now d past q.t due.story (dated q.date c) due.at.story above) }
+      let sid0 : Ident = due.story.progress.sid0 in
+      let is : dated q.date c ≡ max sid0 c = ap (λ z. dated z c) due.date ∙ ap (λ o. dated (date_by sid0 o) c) none.0 in
+      let above : sid0 ≤ dated q.date c = rw is (le-max_left sid0 c) in
+      let below = below-now d past q.t due.story (dated q.date c) due.at.story above in
+      record { script = due.script; is = due.at.script; dated = inl (reads, below) }
   | inr some ↦
       let date : dated q.date c ≡ some.sid = ap (λ z. dated z c) due.date ∙ ap (λ o. dated (date_by due.story.progress.sid0 o) c) some.is in
       record { script = due.script; is = due.at.script; dated = inr (snapshot-told d past q.t due.story (dated q.date c) due.at.story (some.is ∙ ap (λ z. Some z) (sym date))) }
@@ -154,5 +156,11 @@ pub reply-dated : (d : DocumentData) (past : List Act) (m : ℕ) (x y : NodeId) 
 reply-dated d past m x y q due is = sent-hold (RepliesDated d) d past (λ now a n y said all h. replies-more d now a n y said all h) (λ now n y said all h. replies-due d now n y said all h) due m (record { from = x; to = y; message = message.ReadRep q }) is
 
 -- the reply that was got last
-pub reply-got : (d : DocumentData) (past : List Act) (x n : NodeId) (q : ReadRep) → AllDue d past → got past ≡ Some (record { from = x; to = n; message = message.ReadRep q }) → IsDated d past q.t q.op q.sid
-reply-got d past x n q due is = got-hold (RepliesDated d) d past (λ now a n y said all h. replies-more d now a n y said all h) (λ now n y said all h. replies-due d now n y said all h) due (record { from = x; to = n; message = message.ReadRep q }) is
+pub reply-got : (d : DocumentData) (past : List Act) (x n : NodeId) (q : ReadRep) → AllDue d past
+    → got past ≡ Some (record { from = x; to = n; message = message.ReadRep q })
+    → IsDated d past q.t q.op q.sid
+reply-got d past x n q due is =
+    got-hold (RepliesDated d) d past
+    (λ now a n y said all h. replies-more d now a n y said all h)
+    (λ now n y said all h. replies-due d now n y said all h)
+    due (record { from = x; to = n; message = message.ReadRep q }) is

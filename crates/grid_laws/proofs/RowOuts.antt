@@ -21,7 +21,7 @@ use Rattle.script_lang.specs.Reads.{is_update}
 use Rattle.placement.specs.Places.{is_among, others}
 use Rattle.placement.specs.Clusters.{ClusterData}
 use Rattle.journal_words.specs.declared.versions.Version.{Version}
-use Rattle.journal_words.specs.Journals.{commit_id, ended, floor, home_of, is_clear, is_commit, pending}
+use Rattle.journal_words.specs.Journals.{names_part, ended, floor, home_of, is_clear, is_commit, pending}
 use Rattle.script_runs.specs.Walks.{op_at, own_reads, unread}
 use Rattle.script_runs.specs.Waits.{waiting}
 use Rattle.grid_model.specs.declared.acts.Act.{Act}
@@ -43,9 +43,9 @@ use Rattle.grid_model.specs.Stories.{has_voted, is_open, phase, with_value}
 use Rattle.grid_model.specs.Views.{Apart, Collects, Commits, Open, Participant, Reads, Stage, View, participant, stage, view}
 use Rattle.grid_model.specs.Advances.{advance, advance_end, owns, parts_now, prepares, request_of, to_node}
 use Rattle.grid_model.specs.Fitness.{is_fit_at, tx_in}
-use Rattle.grid_model.specs.Rows.{first_ident, abort_outs, ack_outs, answer, answered, are_all_among, asked_outs, ballot_outs, begin_outs, begun_at, ceiling_of, ceilings, closed_outs, commit_outs, decides, freed_by, greatest_vote, have_voted, if_pending, judged, not_among, not_voted, prepared_outs, raises, read_outs, release, reply_outs, retry_outs, message_outs, served, tell_outs, tells, version_for, vote_outs}
+use Rattle.grid_model.specs.Rows.{peer_outs, first_ident, abort_outs, ack_outs, answer, answered, are_all_among, asked_outs, ballot_outs, begin_outs, begun_at, ceiling_of, ceilings, closed_outs, commit_outs, decides, freed_by, greatest_vote, have_voted, if_pending, judged, not_among, not_voted, prepared_outs, raises, read_outs, release, reply_outs, retry_outs, message_outs, served, tell_outs, tells, version_for, vote_outs}
 use Rattle.grid_model.specs.Schedules.{broken, head_at, head_of, kept, lost_at, numbered, start_act, stopped}
-use Rattle.grid_model.proofs.EventShapes.{IsAgain, asks, retries}
+use Rattle.grid_model.proofs.EventShapes.{IsAgain, asks, asks_peer, retries}
 use Rattle.grid_laws.proofs.Frames.{same-number}
 
 -- ---- a test on acts
@@ -157,6 +157,11 @@ pass-again f d past n os (asks t is) =
     let p : Participant = participant (view d past n) in
     rw is
     (pass-if f (is_some (pending t p.journal)) (to_node (home_of t p.journal) (message.Ask t)) [] (pass-to_node f (home_of t p.journal) (message.Ask t)) refl)
+
+pass-again f d past n os (asks_peer t m is) =
+    let p : Participant = participant (view d past n) in
+    rw is
+    (pass-if f (is_some (pending t p.journal) && names_part t m p.journal) (out.Send m (message.AskPeer t) ∷ []) [] refl refl)
 
 -- ---- Advance
 
@@ -313,6 +318,10 @@ ask-row n t x (Collects o) = refl
 ask-row n t x (Commits y acks) = refl
 ask-row n t x Apart = refl
 
+peer-row : (n : NodeId) (t : TxId) (x : NodeId) (o : Option Outcome) → OfRow n (message.AskPeer t) (peer_outs t x o)
+peer-row n t x None = refl
+peer-row n t x (Some o) = refl
+
 release-row : (n : NodeId) (t : TxId) (o : Outcome) (c : ClusterData) (r : List Record) (hs : List HeldRead)
     → OfRow n (message.Tell t o) (release c r n hs)
 release-row n t o c r [] = refl
@@ -359,6 +368,7 @@ each-row n p held g x (message.Vote t b) = vote-row n p.cluster t x b g
 each-row n p held g x (message.Tell t o) = tell-row n p held t o
 each-row n p held g x (message.Ack t) = ack-row n t x g
 each-row n p held g x (message.Ask t) = ask-row n t x g
+each-row n p held g x (message.AskPeer t) = peer-row n t x (ended t p.journal)
 
 -- the answer to a message passes a test that each act of its row passes
 pub pass-answer : (f : Act → Bool) (n : NodeId) (v : View) (x : NodeId) (said : Message)

@@ -13,9 +13,8 @@ use Rattle.grid_model.specs.declared.acts.Act.{Act}
 use Rattle.grid_model.specs.declared.acts.Act.TheVariants as act
 use Rattle.grid_model.specs.declared.stories.Story.{Story}
 use Rattle.grid_model.specs.Documents.{DocumentData}
-use Rattle.grid_model.specs.Nodes.{script_of, Node, node, parts_of, is_home}
-use Rattle.grid_model.specs.Stories.{story, if_told, first_sid, with_value, begun_in, progressed, Phase, asked, heard, heard_at, phase_at, with_vote, with_ack}
-use Rattle.grid_model.specs.Histories.{sent, sent_at}
+use Rattle.grid_model.specs.Nodes.{script_of, node}
+use Rattle.grid_model.specs.Stories.{story, if_told, first_sid, with_value, begun_in, progressed}
 use Rattle.script_runs.specs.Waits.{value_taken, waiting}
 use Rattle.script_runs.proofs.Walks.{taken-stays, taken-new, waiting-open}
 use Rattle.grid_laws.proofs.Causes.{AllDue, BeganDue, TakenDue}

@@ -7,6 +7,7 @@ use Rattle.score_base.specs.declared.ids.Ident.{Ident}
 use Rattle.score_base.specs.declared.ids.Value.{Value}
 use Rattle.grid_model.specs.declared.acts.Act.{Act}
 use Rattle.grid_model.specs.declared.acts.Act.TheVariants as act
+use Rattle.grid_model.specs.declared.messages.ReadRep.{ReadRep}
 use Rattle.grid_model.specs.declared.stories.Story.{Story}
 use Rattle.grid_model.specs.Documents.{DocumentData}
 use Rattle.grid_model.specs.Copies.{snapshot, snapshot_in}
@@ -24,7 +25,14 @@ IsAbove None = Unit {0}
 IsAbove (Some x) = x.progress.sid0 ≤ first_sid x.progress.sid x.progress.sid0
 
 above-stays : Stays IsAbove
-above-stays = record { votes = λ vs x k. k; acks = λ ns x k. k; turn = λ j x k. k; finished = λ x k. k; aborted = λ x k. k; lost = λ x k. k }
+above-stays = record {
+  votes = λ vs x k. k;
+  acks = λ ns x k. k;
+  turn = λ j x k. k;
+  finished = λ x k. k;
+  aborted = λ x k. k;
+  lost = λ x k. k;
+}
 
 -- a first reply is at or above it
 first-above : (d : DocumentData) (past : List Act) (t : TxId) (op : ℕ) (sid : Ident) (x : Story)
@@ -41,7 +49,8 @@ first-above d past t op sid x told none h = elim h.dated [
     none-some : (i : Ident) → None ≡ Some i → ⊥
     none-some i e = cc
 
-taken-above : (d : DocumentData) (past : List Act) (u t : TxId) (op : ℕ) (sid : Ident) (v : Value) (b : Bool) (o : Option Story)
+taken-above : (d : DocumentData) (past : List Act) (u t : TxId) (op : ℕ) (sid : Ident) (v : Value) (b : Bool)
+    (o : Option Story)
     → (u == t) ≡ b → story d past t ≡ o → AllDue d past → TakenDue d past u op sid v → IsAbove o
     → IsAbove (if_told b (progressed (with_value op sid v)) o)
 taken-above d past u t op sid v b None e told all due k = k
@@ -49,7 +58,8 @@ taken-above d past u t op sid v false (Some x) e told all due k = k
 taken-above d past u t op sid v true (Some x) e told all due k =
     let P : TxId → Type 0 = λ z. TakenDue d past z op sid v in
     let w : TakenDue d past t op sid v = subst P (eqb-true u t e) due in
-    let h : IsDated d past t op sid = reply-got d past w.from w.n (record { t = t; op = op; sid = sid; value = v }) all w.got in
+    let q : ReadRep = record { t = t; op = op; sid = sid; value = v } in
+    let h : IsDated d past t op sid = reply-got d past w.from w.n q all w.got in
     go x.progress.sid refl k (λ none. first-above d past t op sid x told none h)
   where
     go : (i : Option Ident) → x.progress.sid ≡ i → x.progress.sid0 ≤ first_sid i x.progress.sid0
@@ -61,13 +71,15 @@ above-more : (d : DocumentData) (past : List Act) (a : Act) (t : TxId) → AllDu
     → IsAbove (story d (a ∷ past) t)
 above-more d past (act.Began u n sid0) t due k =
     else-claim IsAbove (u == t) (Some (begun_in d (node d past) t sid0)) (story d past t) (λ e. grind arith) k
-above-more d past (act.Taken u op sid v) t due k = taken-above d past u t op sid v (u == t) (story d past t) refl refl due.1 due.0 k
+above-more d past (act.Taken u op sid v) t due k =
+    taken-above d past u t op sid v (u == t) (story d past t) refl refl due.1 due.0 k
 above-more d past a t due k = untaking-claim IsAbove above-stays d past a t refl k
 
 stories-above : (d : DocumentData) (past : List Act) → AllDue d past → (t : TxId) → IsAbove (story d past t)
 stories-above d [] due t = tt
 stories-above d (a ∷ past) due t = above-more d past a t due (stories-above d past due.1 t)
 
+-- of each transaction that began
 pub snapshot-above : (d : DocumentData) (past : List Act) → AllDue d past → (t : TxId) (i : Ident)
     → BeginsAt i (story d past t) → i ≤ snapshot d past t
 snapshot-above d past due t i began = go (story d past t) began (stories-above d past due t)

@@ -27,12 +27,11 @@ use Rattle.grid_model.specs.Rows.{greatest_vote, have_voted, are_all_among}
 use Rattle.grid_model.proofs.Undecided.{script-number}
 use Rattle.grid_laws.proofs.Causes.{AllDue}
 use Rattle.grid_laws.proofs.Holds.{sent-hold}
-use Rattle.grid_laws.proofs.NodesFitActs.{nodes-fit}
 use Rattle.grid_laws.proofs.MessagesBacked.{says-more, says-due, prepared-more, commit-more}
 
 -- each message that was sent, with its sender
 pub says-sent : (d : DocumentData) (past : List Act) → AllDue d past → (m : ℕ) (e : Envelope) → sent_at m (sent past) ≡ Some e → Says d past e.from e.message
-says-sent d past due = sent-hold (λ now n y said. Says d now n said) d past (λ now a n y said all h. says-more d now a n said h) (λ now n y said all h. says-due d now n y said (nodes-fit d now all n) h) due
+says-sent d past due = sent-hold (λ now n y said. Says d now n said) d past (λ now a n y said all h. says-more d now a n said h) (λ now n y said all h. says-due d now n y said all h) due
 
 -- ---- what a story has
 

@@ -1,6 +1,6 @@
 -- A transaction that its home has decided and closed begins once more at that home: it reads, takes its
 -- reply, collects its votes and is decided, as the first time.
-use Rattle.std.proofs.Common.{List, [], ◌∷◌, ◌++◌, Some, None, ◌≡◌, refl}
+use Rattle.std.proofs.Common.{List, [], ◌∷◌, Some, None, ◌≡◌, refl}
 use Rattle.score_base.specs.declared.causes.Ballot.TheVariants as ballot
 use Rattle.score_base.specs.declared.causes.Date.TheVariants as date
 use Rattle.score_base.specs.declared.causes.Outcome.TheVariants as outcome
@@ -12,7 +12,7 @@ use Rattle.grid_model.specs.declared.messages.Message.TheVariants as message
 use Rattle.grid_model.specs.Histories.{after}
 use Rattle.grid_model.specs.Rows.{outs_of}
 use Rattle.grid_model.specs.Stories.{Closed, Decided, Reading, Collecting}
-use Rattle.grid_model.specs.Views.{Open, Apart, Reads, Collects, View, stage, view}
+use Rattle.grid_model.specs.Views.{Open, Apart, Reads, Collects, stage, view}
 use Rattle.journal_words.proofs.TwoNodes.{a, b}
 use Rattle.grid_model.proofs.Plays.{phases, prepare, reply, request}
 use Rattle.grid_model.proofs.TransferActs.{copy_script}

@@ -1,6 +1,6 @@
 -- The seven shapes of an event: what the row of each item is behind a past, by what the disks choose.
 -- What holds of each shape holds of each row, so that an item more opens this file alone.
-use Rattle.std.proofs.Common.{not, ◌≡◌, ℕ, Bool, true, false, List, [], ◌∷◌, ◌++◌, Option, Some, None, refl, sym, subst, if◌then◌else◌}
+use Rattle.std.proofs.Common.{is_some, not, ◌≡◌, ℕ, Bool, true, false, List, [], ◌∷◌, ◌++◌, Option, Some, None, refl, sym, subst, if◌then◌else◌}
 use Rattle.std.specs.List.{list_all}
 use Rattle.score_base.specs.declared.ids.TxId.{TxId}
 use Rattle.score_base.specs.declared.ids.NodeId.{NodeId}
@@ -17,7 +17,8 @@ use Rattle.grid_model.specs.Histories.{after, sent, sent_at}
 use Rattle.grid_model.specs.Nodes.{node, script_of}
 use Rattle.grid_model.specs.Stories.{story}
 use Rattle.grid_model.specs.Views.{participant, view, stage}
-use Rattle.grid_model.specs.Rows.{answer, begin_outs, retry_outs, ask_outs}
+use Rattle.grid_model.specs.Rows.{ask_peer_outs, answer, begin_outs, retry_outs, ask_outs}
+use Rattle.journal_words.specs.Journals.{pending}
 use Rattle.grid_model.specs.Sessions.{floor_at, is_busy_at}
 use Rattle.grid_model.specs.Schedules.{Choice, acts_of, begin_row, deliver_row, drop_row, flag_of, next_left, next_row, opened_row, or_void, retry_row, row}
 use Rattle.grid_model.proofs.Undecided.{script-number}
@@ -42,6 +43,7 @@ idle-pass f void missed dropped (a ∷ acts) is = cc
 pub data IsAgain (d : DocumentData) (past : List Act) (n : NodeId) (os : List Out) : Type 0 where
   retries : (t : TxId) → os ≡ retry_outs d.cluster t (stage (view d past n) t) → IsAgain d past n os
   asks : (t : TxId) → os ≡ ask_outs (participant (view d past n)) t → IsAgain d past n os
+  asks_peer : (t : TxId) (m : NodeId) → os ≡ ask_peer_outs (participant (view d past n)) t m → IsAgain d past n os
 
 -- an item is an event of one of these shapes behind a past
 pub data Shape (d : DocumentData) (past : List Act) (i : Item) : Type 0 where
@@ -126,6 +128,17 @@ again-shaped d past i n [] code down true up is = alone d past i (act.Void code)
 again-shaped d past i n (o ∷ os) code down true up is = record { shape = again n (o ∷ os) up is; same = λ c. refl }
 again-shaped d past i n os code down false up is = alone d past i (act.Void down) refl
 
+peer-shaped : (d : DocumentData) (past : List Act) (i : Item) (n : NodeId) (t : TxId) (m : NodeId) (b pending_there : Bool)
+    → (node d past n).up ≡ b
+    → IsShaped d past i (λ c. if not b then act.Void 6 ∷ [] else (if not pending_there then act.Void 6 ∷ [] else or_void 10 (ask_peer_outs (participant (view d past n)) t m) (acts_of past c n (ask_peer_outs (participant (view d past n)) t m))))
+peer-shaped d past i n t m false pending_there up = alone d past i (act.Void 6) refl
+peer-shaped d past i n t m true false up = alone d past i (act.Void 6) refl
+peer-shaped d past i n t m true true up = go (ask_peer_outs (participant (view d past n)) t m) refl
+  where
+    go : (os : List Out) → os ≡ ask_peer_outs (participant (view d past n)) t m → IsShaped d past i (λ c. or_void 10 os (acts_of past c n os))
+    go [] is = alone d past i (act.Void 10) refl
+    go (o ∷ os) is = record { shape = again n (o ∷ os) up (asks_peer t m is); same = λ c. refl }
+
 retry_at-shaped : (d : DocumentData) (past : List Act) (i : Item) (t : TxId) (o : Option ScriptData)
     → IsShaped d past i (λ c. retry_row d past c t o)
 retry_at-shaped d past i t None = none d past i
@@ -151,6 +164,8 @@ row-shaped d past (item.Next k) = next_row-shaped d past (item.Next k) (next_lef
 row-shaped d past (item.Retry t) = retry_at-shaped d past (item.Retry t) t (script_of t d.scripts)
 row-shaped d past (item.Ask n t) =
     again-shaped d past (item.Ask n t) n (ask_outs (participant (view d past n)) t) 6 6 (node d past n).up refl (asks t refl)
+row-shaped d past (item.AskPeer n t m) =
+    peer-shaped d past (item.AskPeer n t m) n t m (node d past n).up (is_some (pending t (node d past n).journal)) refl
 row-shaped d past (item.Crash n how) = crash_row-shaped d past (item.Crash n how) n (node d past n).up refl
 row-shaped d past (item.Fuse n k how) = record { shape = arms n k how refl; same = λ c. refl }
 row-shaped d past (item.Restart n) = restart_row-shaped d past (item.Restart n) n (node d past n).up refl

@@ -1,5 +1,5 @@
 -- A journal only grows: what a further record leaves true stays true.
-use Rattle.std.proofs.Common.{Bool, true, false, List, [], ◌∷◌, Option, Some, None}
+use Rattle.std.proofs.Common.{Bool, true, false, List, ◌∷◌, Option, Some, None}
 use Rattle.score_base.specs.declared.ids.NodeId.{NodeId}
 use Rattle.score_base.specs.declared.records.Record.{Record}
 use Rattle.grid_model.specs.declared.acts.Act.{Act}

@@ -6,6 +6,7 @@ pub mod RunsOnThreeNodes
 pub mod RunsWithConflicts
 pub mod RunsWithReads
 pub mod RunsThatStop
+pub mod RunsThatAsk
 pub mod Unarmed
 pub mod LawfulStops
 pub mod ViewsOnTheWay

@@ -1,5 +1,5 @@
 -- The view of a node behind an event is the next view: the outs of each row are those that it takes.
-use Rattle.std.proofs.Common.{ℕ, ◌+◌, max, Bool, true, false, ◌&&◌, ◌||◌, ◌==◌, nat_lt, IsTrue, filter, slice_get, List, [], ◌∷◌, ◌++◌, Option, None, Some, is_some, is_none, ◌≡◌, refl, ap, subst, sym, ◌∙◌, arith, ◌⊎◌, inl, inr, if◌then◌else◌, ◌-◌}
+use Rattle.std.proofs.Common.{ℕ, ◌+◌, max, Bool, true, false, ◌&&◌, ◌||◌, ◌==◌, nat_lt, IsTrue, filter, slice_get, List, [], ◌∷◌, ◌++◌, Option, None, Some, is_some, is_none, ◌≡◌, refl, ap, subst, sym, ◌∙◌, arith, ◌⊎◌, inl, inr, if◌then◌else◌}
 use Rattle.std.proofs.lemmas.Bool.Decides.{nat_tests}
 use Rattle.score_base.specs.declared.ids.TxId.{TxId}
 use Rattle.score_base.specs.declared.ids.NodeId.{NodeId}
@@ -29,15 +29,15 @@ use Rattle.grid_model.specs.declared.messages.ReadRep.{ReadRep}
 use Rattle.grid_model.specs.declared.stories.HeldRead.{HeldRead}
 use Rattle.grid_model.specs.Documents.{DocumentData}
 use Rattle.grid_model.specs.Histories.{after, sent, sent_at}
-use Rattle.journal_words.specs.Journals.{Decision, commit_id, floor, is_clear, undone, pending, ended, is_commit, home_of, holder, newer}
+use Rattle.journal_words.specs.Journals.{names_part, Decision, commit_id, floor, is_clear, undone, pending, ended, is_commit, home_of, holder, newer}
 use Rattle.grid_model.specs.Nodes.{node, is_home, journal, script_of}
 use Rattle.grid_model.specs.Stories.{is_small, story, has_voted, with_value, with_vote}
 use Rattle.script_runs.specs.Waits.{waiting}
 use Rattle.grid_model.specs.Views.{View, Open, Stage, Apart, Reads, Collects, Commits, view, stage, stage_by, open_stage, participant}
 use Rattle.grid_model.specs.Advances.{advance, advance_end, request_of, to_node, prepares, prepare_for, date_by, owns, parts_now}
 use Rattle.script_runs.specs.Walks.{op_at, own_reads, unread}
-use Rattle.grid_model.specs.Fitness.{is_fit, is_fit_at, tx_in, counts_vote}
-use Rattle.grid_model.specs.Rows.{first_ident, release, served, ceiling_of, ceilings, raises, answered, read_outs, version_for, dated, reply_outs, prepared_outs, tells, have_voted, decides, greatest_vote, ballot_outs, vote_outs, are_all_among, ack_outs, asked_outs, commit_outs, abort_outs, tell_outs, freed_by, message_outs, answer, begin_outs, begun_at, retry_outs, not_voted, not_among, ask_outs, if_pending, outs_of}
+use Rattle.grid_model.specs.Fitness.{is_fit_at, tx_in, counts_vote}
+use Rattle.grid_model.specs.Rows.{peer_outs, ask_peer_outs, first_ident, release, served, ceiling_of, ceilings, raises, answered, read_outs, version_for, dated, reply_outs, prepared_outs, tells, have_voted, decides, greatest_vote, ballot_outs, vote_outs, are_all_among, ack_outs, asked_outs, commit_outs, abort_outs, tell_outs, freed_by, message_outs, answer, begin_outs, begun_at, retry_outs, not_voted, not_among, ask_outs, if_pending, outs_of}
 use Rattle.grid_model.specs.Schedules.{numbered}
 use Rattle.grid_model.specs.NextViews.{is_running, OwnDecisions, Comes, brought, behind, behind_all, heard_view, next_view, changed_open, desk_heard}
 use Rattle.grid_model.proofs.ViewSteps.{here, step-began, step-decided}
@@ -90,6 +90,10 @@ ask-plain d n t x (Reads o j) = refl
 ask-plain d n t x (Collects o) = refl
 ask-plain d n t x (Commits y acks) = refl
 ask-plain d n t x Apart = refl
+
+peer-plain : (d : DocumentData) (n : NodeId) (t : TxId) (x : NodeId) (o : Option Outcome) → IsTrue (are_plain d n true (peer_outs t x o))
+peer-plain d n t x None = refl
+peer-plain d n t x (Some o) = refl
 
 pub retry-plain : (d : DocumentData) (n : NodeId) (c : ClusterData) (t : TxId) (s : Stage) → IsTrue (are_plain d n false (retry_outs c t s))
 retry-plain d n c t (Reads x j) = request-plain d n false c x j x.progress.turn (op_at x.script.ops j)
@@ -214,6 +218,7 @@ row-given d past n x (message.Vote t b) own = vote-given d n (view d past n) d.c
 row-given d past n x (message.Tell t o) own = inl (tell-plain d n (view d past n) t o)
 row-given d past n x (message.Ack t) own = inl (ack-plain d n t x (stage (view d past n) t) (own-home d past n t own))
 row-given d past n x (message.Ask t) own = inl (ask-plain d n t x (stage (view d past n) t))
+row-given d past n x (message.AskPeer t) own = inl (peer-plain d n t x (ended t (journal d past n)))
 
 pub answer-given : (d : DocumentData) (past : List Act) (n x : NodeId) (said : Message) → OwnDecisions d past n → Given d n (view d past n) (answer n (view d past n) x said)
 answer-given d past n x said own = go (is_fit_at n (participant (view d past n)) (stage (view d past n) (tx_in said)) x said)
@@ -273,6 +278,17 @@ asks-plain d n v t = go (is_some (pending t v.journal))
 ask-view : (d : DocumentData) (past : List Act) (n : NodeId) (k : ℕ) (t : TxId) → view d (after past (numbered k n (ask_outs (participant (view d past n)) t))) n ≡ next_view n (view d past n) (event.Ask t) (ask_outs (participant (view d past n)) t)
 ask-view d past n k t = plain-view d past n false None None k (ask_outs (participant (view d past n)) t) (asks-plain d n (view d past n) t) (λ is. never is)
 
+pub peers-plain : (d : DocumentData) (n : NodeId) (v : View) (t : TxId) (m : NodeId) → IsTrue (are_plain d n false (ask_peer_outs (participant v) t m))
+peers-plain d n v t m = go (is_some (pending t v.journal) && names_part t m v.journal)
+  where
+    go : (b : Bool) → IsTrue (are_plain d n false (if b then out.Send m (message.AskPeer t) ∷ [] else []))
+    go true = refl
+    go false = refl
+
+-- a participant asks another
+ask_peer-view : (d : DocumentData) (past : List Act) (n : NodeId) (k : ℕ) (t : TxId) (m : NodeId) → view d (after past (numbered k n (ask_peer_outs (participant (view d past n)) t m))) n ≡ next_view n (view d past n) (event.AskPeer t m) (ask_peer_outs (participant (view d past n)) t m)
+ask_peer-view d past n k t m = plain-view d past n false None None k (ask_peer_outs (participant (view d past n)) t m) (peers-plain d n (view d past n) t m) (λ is. never is)
+
 -- ---- an event
 
 -- an event comes
@@ -289,3 +305,4 @@ event-view d past n m k (event.Begin s floor) script = go (s.home == n) refl (is
 event-view d past n m k (event.Deliver x said) (is, own) = deliver-view d past n x m k said is own
 event-view d past n m k (event.Retry t) comes = retry-view d past n k t
 event-view d past n m k (event.Ask t) comes = ask-view d past n k t
+event-view d past n m k (event.AskPeer t y) comes = ask_peer-view d past n k t y

@@ -20,11 +20,11 @@ use Rattle.grid_model.specs.declared.items.Item.{Item}
 use Rattle.grid_model.specs.declared.stories.Story.{Story}
 use Rattle.grid_model.specs.Documents.{DocumentData, number_order, script_numbers}
 use Rattle.grid_model.specs.Histories.{after}
-use Rattle.journal_words.specs.Journals.{Decision, commit_id, decision, is_closed, later_decision}
+use Rattle.journal_words.specs.Journals.{Decision, decision, is_closed, later_decision}
 use Rattle.journal_words.proofs.Later.{later-all, fresh-times}
-use Rattle.grid_model.specs.Nodes.{Node, node, journal, script_of, is_home}
+use Rattle.grid_model.specs.Nodes.{Node, node, script_of, is_home}
 use Rattle.grid_model.specs.Stories.{story, phase, phase_by, is_open, skipped_in, over_at}
-use Rattle.grid_model.specs.Views.{View, Open, open_at, view, stage, participant}
+use Rattle.grid_model.specs.Views.{Open, open_at, view, stage, participant}
 use Rattle.grid_model.specs.Advances.{advance}
 use Rattle.grid_model.specs.Rows.{first_ident, answer, begin_outs, begun_at}
 use Rattle.grid_model.specs.Sessions.{floor_at}
@@ -32,10 +32,10 @@ use Rattle.grid_model.specs.Schedules.{Choice, numbered, kept, broken, next_numb
 use Rattle.grid_model.specs.Runs.{Rows, IsRun}
 use Rattle.grid_model.specs.NextViews.{OwnDecisions, is_running}
 use Rattle.grid_model.proofs.Undecided.{script-number}
-use Rattle.grid_model.proofs.EventShapes.{Shape, idle, arms, crashes, restarts, begins, delivers, again, IsAgain, retries, asks, acts_by, by-shape, idle-pass, after-append}
+use Rattle.grid_model.proofs.EventShapes.{Shape, idle, arms, crashes, restarts, begins, delivers, again, IsAgain, retries, asks, asks_peer, acts_by, by-shape, idle-pass, after-append}
 use Rattle.grid_model.proofs.ViewSteps.{here, at-desk, entry}
 use Rattle.grid_model.proofs.PlainOuts.{both, is_plain, are_plain}
-use Rattle.grid_model.proofs.NextSteps.{Given, answer-given, advance-plain, retry-plain, asks-plain}
+use Rattle.grid_model.proofs.NextSteps.{Given, answer-given, advance-plain, retry-plain, asks-plain, peers-plain}
 use Rattle.grid_model.proofs.DecisionsKept.{knows, has_decided, is_decided_in, no-decided, Keeps, Owes, OweAll, kept-step, kept-after, kept-start, kept-own, runs-on}
 
 -- ---- acts that owe nothing
@@ -146,6 +146,7 @@ begin-owes d past s floor kept_now script new k false = (begun-owed d past s kep
 again-plain : (d : DocumentData) (past : List Act) (n : NodeId) (os : List Out) → IsAgain d past n os → IsTrue (are_plain d n false os)
 again-plain d past n os (retries t is) = rw is (retry-plain d n d.cluster t (stage (view d past n) t))
 again-plain d past n os (asks t is) = rw is (asks-plain d n (view d past n) t)
+again-plain d past n os (asks_peer t m is) = rw is (peers-plain d n (view d past n) t m)
 
 -- ---- a restart
 

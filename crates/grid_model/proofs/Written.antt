@@ -4,7 +4,7 @@ use Rattle.std.specs.Prelude.{filter}
 use Rattle.score_base.specs.declared.ids.Value.{Value}
 use Rattle.score_base.specs.declared.keys.Key.{Key}
 use Rattle.score_base.specs.Keys.{same_key}
-use Rattle.script_lang.specs.Reads.{is_key_among, remote_keys, written_keys}
+use Rattle.script_lang.specs.Reads.{is_key_among, written_keys}
 use Rattle.script_runs.specs.Serials.{Map}
 use Rattle.script_runs.specs.Walks.{own_map}
 use Rattle.score_base.specs.declared.ids.NodeId.{NodeId}

@@ -1,17 +1,13 @@
 -- Advance: what a home does once a transaction has begun or has taken a reply.
-use Rattle.std.specs.Prelude.{ℕ, ◌+◌, ◌-◌, nat_lt, filter, map, List, [], ◌∷◌, ◌++◌, Option, Some, None, slice_get, if◌then◌else◌}
+use Rattle.std.specs.Prelude.{ℕ, nat_lt, filter, map, List, [], ◌∷◌, ◌++◌, Option, Some, None, slice_get, if◌then◌else◌}
 use Rattle.score_base.specs.declared.ids.TxId.{TxId}
 use Rattle.score_base.specs.declared.ids.NodeId.{NodeId}
 use Rattle.score_base.specs.declared.ids.Ident.{Ident}
 use Rattle.score_base.specs.declared.ids.Value.{Value}
-use Rattle.score_base.specs.declared.keys.Key.{Key}
 use Rattle.score_base.specs.declared.causes.Date.{Date}
 use Rattle.score_base.specs.declared.causes.Date.TheVariants as date
-use Rattle.script_lang.specs.declared.exprs.Expr.{Expr}
 use Rattle.script_lang.specs.declared.scripts.Op.{Op}
-use Rattle.script_lang.specs.declared.scripts.Op.TheVariants as op
-use Rattle.script_lang.specs.Exprs.{expr_value}
-use Rattle.script_lang.specs.Reads.{is_key_among, keys_of, key_of, remote_keys, written_keys, is_update}
+use Rattle.script_lang.specs.Reads.{keys_of, key_of, remote_keys, written_keys, is_update}
 use Rattle.placement.specs.Places.{holds, parts, preferred}
 use Rattle.placement.specs.Clusters.{ClusterData}
 use Rattle.grid_model.specs.declared.acts.Act.TheVariants as act
@@ -20,8 +16,7 @@ use Rattle.grid_model.specs.declared.events.Out.TheVariants as out
 use Rattle.grid_model.specs.declared.messages.Message.{Message}
 use Rattle.grid_model.specs.declared.messages.Message.TheVariants as message
 use Rattle.grid_model.specs.declared.messages.Prepare.{Prepare}
-use Rattle.script_runs.specs.Serials.{Map, put, zeros}
-use Rattle.script_runs.specs.Waits.{value_taken, waiting}
+use Rattle.script_runs.specs.Waits.{waiting}
 use Rattle.grid_model.specs.Stories.{first_sid}
 use Rattle.grid_model.specs.Views.{Open}
 use Rattle.script_runs.specs.Walks.{unread, own_reads, own_map, op_at}

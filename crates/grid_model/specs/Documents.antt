@@ -38,6 +38,7 @@ events_of (item.Deliver m) = 1
 events_of (item.Drop m) = 1
 events_of (item.Retry t) = 1
 events_of (item.Ask n t) = 1
+events_of (item.AskPeer n t m) = 1
 events_of (item.Crash n how) = 1
 events_of (item.Fuse n k how) = 1
 events_of (item.Restart n) = 1
@@ -62,6 +63,7 @@ is_item nodes ts (item.Drop m) = nat_le 1 m
 is_item nodes ts (item.Next c) = nat_le 1 c && nat_le c 50000
 is_item nodes ts (item.Retry t) = list_any (λ u. u == t) ts
 is_item nodes ts (item.Ask n t) = nat_le n nodes && list_any (λ u. u == t) ts
+is_item nodes ts (item.AskPeer n t m) = nat_le n nodes && (nat_le m nodes && list_any (λ u. u == t) ts)
 is_item nodes ts (item.Crash n how) = nat_le n nodes && nat_le how 4294967295
 is_item nodes ts (item.Fuse n k how) = nat_le n nodes && nat_le 1 k && nat_le k 1000 && nat_le how 4294967295
 is_item nodes ts (item.Restart n) = nat_le n nodes

@@ -24,7 +24,7 @@ use Rattle.grid_model.specs.declared.messages.Prepare.{Prepare}
 use Rattle.grid_model.specs.declared.messages.Message.TheVariants as message
 use Rattle.grid_model.specs.Documents.{DocumentData}
 use Rattle.grid_model.specs.Histories.{after, sent, sent_at}
-use Rattle.journal_words.specs.Journals.{Prepared, prepared_of, floor, is_clear, is_locking, commit_id, has_prepared, has_decided, has_commit, are_apart, all_fit}
+use Rattle.journal_words.specs.Journals.{prepared_of, floor, is_clear, is_locking, commit_id, has_prepared, has_decided, has_commit, are_apart, all_fit}
 use Rattle.grid_model.specs.Nodes.{journal, is_home, script_of, parts_in, node, found}
 use Rattle.grid_model.specs.Views.{view}
 use Rattle.grid_model.specs.Fitness.{is_fit, is_fit_begin, date_ident}

@@ -17,7 +17,7 @@ use Rattle.grid_model.specs.declared.messages.ReadReq.{ReadReq}
 use Rattle.grid_model.specs.declared.messages.ReadRep.{ReadRep}
 use Rattle.journal_words.specs.Journals.{are_own_keys, keys_of_writes, pending}
 use Rattle.grid_model.specs.Stories.{is_small, is_small_node, is_fit_ballot, is_part, is_counted_vote, is_counted_ack}
-use Rattle.grid_model.specs.Views.{Participant, View, participant, Stage, Reads, Collects, Commits, stage, phase_in}
+use Rattle.grid_model.specs.Views.{Participant, View, participant, Stage, Reads, Collects, stage, phase_in}
 use Rattle.grid_model.specs.Advances.{parts_now}
 
 -- the number of a date
@@ -90,6 +90,7 @@ is_fit_content n p s x (message.Vote t b) = is_fit_ballot b && is_part_at p.clus
 is_fit_content n p s x (message.Tell t o) = is_fit_outcome (pending t p.journal) o
 is_fit_content n p s x (message.Ack t) = is_part_at p.cluster s x
 is_fit_content n p s x (message.Ask t) = true
+is_fit_content n p s x (message.AskPeer t) = true
 
 -- the transaction of a message
 abbrev pub tx_in : Message → TxId
@@ -100,6 +101,7 @@ tx_in (message.Vote t b) = t
 tx_in (message.Tell t o) = t
 tx_in (message.Ack t) = t
 tx_in (message.Ask t) = t
+tx_in (message.AskPeer t) = t
 
 -- the message is fit where its transaction stands so
 abbrev pub is_fit_at : NodeId → Participant → Stage → NodeId → Message → Bool

@@ -1,6 +1,6 @@
 -- The rule table: what a node gives where a message comes, by what it knows. Outs are acts and messages
 -- without a number. Each row is stated on the words that decide it.
-use Rattle.std.specs.Prelude.{max, ℕ, ◌+◌, ◌*◌, ◌/◌, max, Bool, true, false, ◌==◌, not, nat_lt, filter, map, List, [], ◌∷◌, ◌++◌, Option, Some, None, is_some, if◌then◌else◌}
+use Rattle.std.specs.Prelude.{ℕ, ◌+◌, ◌*◌, ◌/◌, max, Bool, true, false, ◌&&◌, ◌==◌, not, nat_lt, filter, map, List, [], ◌∷◌, ◌++◌, Option, Some, None, is_some, if◌then◌else◌}
 use Rattle.std.specs.List.{list_all}
 use Rattle.score_base.specs.declared.ids.TxId.{TxId}
 use Rattle.score_base.specs.declared.ids.NodeId.{NodeId}
@@ -32,7 +32,7 @@ use Rattle.grid_model.specs.declared.messages.ReadRep.{ReadRep}
 use Rattle.grid_model.specs.declared.stories.HeldRead.{HeldRead}
 use Rattle.grid_model.specs.declared.stories.Voted.{Voted}
 use Rattle.journal_words.specs.declared.versions.Version.{Version}
-use Rattle.journal_words.specs.Journals.{commit_id, floor, is_clear, version_at, ended, is_commit, pending, holder, newer, home_of}
+use Rattle.journal_words.specs.Journals.{names_part, commit_id, floor, is_clear, version_at, ended, is_commit, pending, holder, newer, home_of}
 use Rattle.grid_model.specs.Stories.{has_voted, at_begin, with_value}
 use Rattle.grid_model.specs.Views.{Participant, View, participant, Open, Stage, Apart, Reads, Collects, Commits, stage}
 use Rattle.grid_model.specs.Advances.{advance, request, prepares, parts_now, to_node}
@@ -164,6 +164,11 @@ asked_outs t x (Collects o) = []
 asked_outs t x (Commits y acks) = out.Send x (message.Tell t (outcome.Commit y.final)) ∷ []
 asked_outs t x Apart = out.Send x (message.Tell t outcome.Abort) ∷ []
 
+-- a question of x at another part: how t ended there, where it ended
+abbrev pub peer_outs : TxId → NodeId → Option Outcome → List Out
+peer_outs t x None = []
+peer_outs t x (Some o) = out.Send x (message.Tell t o) ∷ []
+
 -- ---- ends
 
 -- a commit that is told at n, by the proposal that t has there and by whether it ended so before
@@ -207,6 +212,7 @@ message_outs n p held s x (message.Vote t b) = vote_outs p.cluster t x b s
 message_outs n p held s x (message.Tell t o) = tell_outs n p held t o
 message_outs n p held s x (message.Ack t) = ack_outs t x s
 message_outs n p held s x (message.Ask t) = asked_outs t x s
+message_outs n p held s x (message.AskPeer t) = peer_outs t x (ended t p.journal)
 
 -- what n gives where a message comes from x, whose transaction stands so
 abbrev pub answer_at : NodeId → Participant → List HeldRead → Stage → NodeId → Message → List Out
@@ -248,6 +254,10 @@ retry_outs c t Apart = []
 abbrev pub ask_outs : Participant → TxId → List Out
 ask_outs p t = if is_some (pending t p.journal) then to_node (home_of t p.journal) (message.Ask t) else []
 
+-- what n asks part m of t; nothing where t is not pending at n, or m is no part of it
+abbrev pub ask_peer_outs : Participant → TxId → NodeId → List Out
+ask_peer_outs p t m = if is_some (pending t p.journal) && names_part t m p.journal then out.Send m (message.AskPeer t) ∷ [] else []
+
 -- ---- an event
 
 -- what n gives at an event: nothing at a begin that is not fit
@@ -256,3 +266,4 @@ outs_of n v (event.Begin s floor) = if is_fit_begin n v s floor then begin_outs 
 outs_of n v (event.Deliver x said) = answer n v x said
 outs_of n v (event.Retry t) = retry_outs v.cluster t (stage v t)
 outs_of n v (event.Ask t) = ask_outs (participant v) t
+outs_of n v (event.AskPeer t m) = ask_peer_outs (participant v) t m

@@ -1,5 +1,5 @@
 -- The rows of a schedule's items, behind a history: which acts an event has, by what its disks do.
-use Rattle.std.specs.Prelude.{ℕ, ◌+◌, zero, suc, Bool, true, false, ◌&&◌, ◌==◌, not, map, replicate, List, [], ◌∷◌, length, Option, Some, None, if◌then◌else◌}
+use Rattle.std.specs.Prelude.{ℕ, ◌+◌, zero, suc, Bool, true, false, ◌&&◌, ◌==◌, not, map, replicate, List, [], ◌∷◌, length, Option, Some, None, is_some, if◌then◌else◌}
 use Rattle.std.specs.List.{range_with_len, flat_map}
 use Rattle.score_base.specs.declared.ids.TxId.{TxId}
 use Rattle.score_base.specs.declared.ids.NodeId.{NodeId}
@@ -19,10 +19,11 @@ use Rattle.grid_model.specs.declared.messages.Envelope.{Envelope}
 use Rattle.grid_model.specs.declared.stories.Story.{Story}
 use Rattle.grid_model.specs.declared.voids.Void.TheVariants as void
 use Rattle.grid_model.specs.Documents.{DocumentData, number_order, script_numbers}
+use Rattle.journal_words.specs.Journals.{pending}
 use Rattle.grid_model.specs.Histories.{sent, sent_at, is_gone}
 use Rattle.grid_model.specs.Nodes.{script_of}
 use Rattle.grid_model.specs.Stories.{is_open}
-use Rattle.grid_model.specs.Rows.{answer, begin_outs, retry_outs, ask_outs}
+use Rattle.grid_model.specs.Rows.{answer, begin_outs, retry_outs, ask_outs, ask_peer_outs}
 use Rattle.grid_model.specs.Views.{participant, stage}
 use Rattle.grid_model.specs.Voids.{void_code, voided}
 use Rattle.grid_model.specs.Sessions.{session_floor, is_busy}
@@ -147,6 +148,13 @@ ask_on d st c n t =
     then (let os : List Out = ask_outs (participant (view_in d st n)) t in or_void (void_code void.NotPending) os (acts_on st c n os))
     else voided void.NotPending
 
+-- `ask n t m`: code 6 where n is down, or t is not pending at n, code 10 where m is no part of t
+abbrev pub ask_peer_on : DocumentData → State → Choice → NodeId → TxId → NodeId → List Act
+ask_peer_on d st c n t m =
+    if not (st.nodes n).up then voided void.NotPending else
+    (if not (is_some (pending t (st.nodes n).journal)) then voided void.NotPending
+    else (let os : List Out = ask_peer_outs (participant (view_in d st n)) t m in or_void (void_code void.NotPart) os (acts_on st c n os)))
+
 -- `crash n`: code 7 where n is down already
 abbrev pub crash_on : State → NodeId → List Act
 crash_on st n = if (st.nodes n).up then act.Down n None ∷ [] else voided void.IsDown
@@ -184,6 +192,7 @@ row_on d st (item.Drop m) c = drop_row m (sent_at m st.sent)
 row_on d st (item.Next k) c = next_on d st c (left_in st)
 row_on d st (item.Retry t) c = retry_on d st c t (script_of t d.scripts)
 row_on d st (item.Ask n t) c = ask_on d st c n t
+row_on d st (item.AskPeer n t m) c = ask_peer_on d st c n t m
 row_on d st (item.Crash n how) c = crash_on st n
 row_on d st (item.Fuse n k how) c = act.Armed n k how ∷ []
 row_on d st (item.Restart n) c = restart_on d st c n
@@ -219,6 +228,9 @@ retry_row d past c t s = retry_on d (state_of d past) c t s
 
 abbrev pub ask_row : DocumentData → List Act → Choice → NodeId → TxId → List Act
 ask_row d past c n t = ask_on d (state_of d past) c n t
+
+abbrev pub ask_peer_row : DocumentData → List Act → Choice → NodeId → TxId → NodeId → List Act
+ask_peer_row d past c n t m = ask_peer_on d (state_of d past) c n t m
 
 abbrev pub crash_row : DocumentData → List Act → NodeId → List Act
 crash_row d past n = crash_on (state_of d past) n

@@ -5,16 +5,14 @@ use Rattle.score_base.specs.declared.ids.TxId.{TxId}
 use Rattle.score_base.specs.declared.ids.NodeId.{NodeId}
 use Rattle.score_base.specs.declared.ids.Ident.{Ident}
 use Rattle.score_base.specs.declared.ids.Value.{Value}
-use Rattle.score_base.specs.declared.keys.Key.{Key}
 use Rattle.score_base.specs.declared.causes.Ballot.{Ballot}
 use Rattle.score_base.specs.declared.causes.Ballot.TheVariants as ballot
 use Rattle.score_base.specs.declared.causes.Cause.{Cause}
 use Rattle.score_base.specs.declared.causes.Cause.TheVariants as cause
 use Rattle.score_base.specs.declared.records.Record.{Record}
 use Rattle.script_lang.specs.declared.scripts.Op.{Op}
-use Rattle.script_lang.specs.declared.scripts.Op.TheVariants as op
 use Rattle.script_lang.specs.Scripts.{ScriptData}
-use Rattle.script_lang.specs.Reads.{is_key_among, is_update}
+use Rattle.script_lang.specs.Reads.{is_update}
 use Rattle.placement.specs.Places.{is_among, holders}
 use Rattle.grid_model.specs.declared.acts.Act.{Act}
 use Rattle.grid_model.specs.declared.acts.Act.TheVariants as act

@@ -31,6 +31,8 @@ pub enum Event {
     Deliver(NodeId, Message),
     /// The home sends again what the transaction waits for.
     Retry(TxId),
-    /// The participant asks how the transaction ended.
+    /// The participant asks the home how the transaction ended.
     Ask(TxId),
+    /// The participant asks this participant how the transaction ended.
+    AskPeer(TxId, NodeId),
 }

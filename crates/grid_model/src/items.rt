@@ -16,6 +16,8 @@ pub enum Item {
     Retry(TxId),
     /// The participant asks the home of the transaction.
     Ask(NodeId, TxId),
+    /// The participant asks another participant of the transaction.
+    AskPeer(NodeId, TxId, NodeId),
     /// The node stops; its disk takes this image.
     Crash(NodeId, u64),
     /// The node's disk stops at this call from now on, and takes this image.

@@ -71,6 +71,8 @@ pub enum Message {
     Ack { t: TxId },
     /// A pending participant asks the home how the transaction ended.
     Ask { t: TxId },
+    /// A pending participant asks another participant how the transaction ended.
+    AskPeer { t: TxId },
 }
 
 impl TryCopy for Message {
@@ -89,6 +91,7 @@ impl TryCopy for Message {
             }),
             Message::Ack { t } => Ok(Message::Ack { t: *t }),
             Message::Ask { t } => Ok(Message::Ask { t: *t }),
+            Message::AskPeer { t } => Ok(Message::AskPeer { t: *t }),
         }
     }
 }

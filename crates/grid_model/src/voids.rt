@@ -23,6 +23,8 @@ pub enum Void {
     IsUp,
     /// A transaction of the same session is reading or collecting.
     SessionBusy,
+    /// The node that is asked is no part of the transaction.
+    NotPart,
 }
 
 impl Void {
@@ -40,6 +42,7 @@ impl Void {
             Void::IsDown => 7,
             Void::IsUp => 8,
             Void::SessionBusy => 9,
+            Void::NotPart => 10,
         }
     }
 }

@@ -131,6 +131,7 @@ message_words (message.Vote t b) = codes "vote" ∷ decimal t ∷ ballot_words b
 message_words (message.Tell t o) = codes "tell" ∷ decimal t ∷ outcome_words o
 message_words (message.Ack t) = codes "ack" ∷ decimal t ∷ []
 message_words (message.Ask t) = codes "ask" ∷ decimal t ∷ []
+message_words (message.AskPeer t) = codes "askpeer" ∷ decimal t ∷ []
 
 -- ---- acts
 

@@ -156,6 +156,14 @@ fn put_ask(out: &mut Vec<u8>, t: TxId) -> Result<(), Memory>
     put_tx(out, t)
 }
 
+#[tactic(auto, unfolding(crate::specs::Acts::message_words))]
+fn put_ask_peer(out: &mut Vec<u8>, t: TxId) -> Result<(), Memory>
+    ensures { OnOk result (out.new.items ≡ out.old.items ++ spaced (message_words (Message.AskPeer t))) }
+{
+    put_word(out, b"askpeer")?;
+    put_tx(out, t)
+}
+
 /// Appends a message.
 #[tactic(auto, unfolding(crate::specs::Acts::message_words))]
 pub fn put_message(out: &mut Vec<u8>, message: &Message) -> Result<(), Memory>
@@ -169,5 +177,6 @@ pub fn put_message(out: &mut Vec<u8>, message: &Message) -> Result<(), Memory>
         Message::Tell { t, outcome } => put_tell(out, *t, outcome),
         Message::Ack { t } => put_ack(out, *t),
         Message::Ask { t } => put_ask(out, *t),
+        Message::AskPeer { t } => put_ask_peer(out, *t),
     }
 }

@@ -308,6 +308,12 @@ fn messages_of_ends(rt: HostRuntime) -> Result<(), Fail> {
     );
     says(&rt, alloc, Message::Ack { t }, "sent 3 n2 n1 ack 1\n");
     says(&rt, alloc, Message::Ask { t }, "sent 3 n2 n1 ask 1\n");
+    says(
+        &rt,
+        alloc,
+        Message::AskPeer { t },
+        "sent 3 n2 n1 askpeer 1\n",
+    );
     Ok(())
 }
 

@@ -1,5 +1,5 @@
 -- Which commits are applied, and what does the next record add to them?
-use Rattle.std.proofs.Common.{◌≤◌, ◌<◌, ◌≡◌, ◌⊎◌, inl, inr, Bool, true, false, ◌&&◌, ◌||◌, max, List, [], ◌∷◌, ◌++◌, Some, refl, sym, ap, subst, ◌∙◌, arith, if◌then◌else◌}
+use Rattle.std.proofs.Common.{◌≤◌, ◌≡◌, ◌⊎◌, inl, inr, Bool, true, false, ◌&&◌, ◌||◌, max, List, [], ◌∷◌, Some, refl, sym, ap, subst, ◌∙◌, arith, if◌then◌else◌}
 use Rattle.std.proofs.lemmas.Bool.{cases_Bool, and_parts, and_from, or_cases, or_right}
 use Rattle.std.proofs.lemmas.Bool.Decides.{nat_tests}
 use Rattle.std.specs.Prelude.{◌==◌, nat_lt}
@@ -10,11 +10,11 @@ use Rattle.score_base.specs.declared.causes.Outcome.TheVariants as outcome
 use Rattle.score_base.specs.declared.records.Record.{Record}
 use Rattle.score_base.specs.declared.records.Record.TheVariants as record'
 use Rattle.placement.specs.Clusters.{ClusterData}
-use Rattle.journal_words.specs.Journals.{pending, pendings, all_above, is_clear, ended, commits, applied_of, applied, greatest, commit_id, floor, fits, all_fit}
+use Rattle.journal_words.specs.Journals.{pendings, all_above, is_clear, ended, commits, applied_of, applied, greatest, commit_id, floor, fits, all_fit}
 use Rattle.journal_words.proofs.Fits.{prepared-fits, commit-fits, newest-fits, rest-fits}
 use Rattle.journal_words.proofs.Pairs.{has_pair, above-without}
 use Rattle.journal_words.proofs.Once.{ended-stays}
-use Rattle.journal_words.proofs.Pendings.{clear-pending, clear-below, IsHeldBy, not-clear, is_over, clear-more}
+use Rattle.journal_words.proofs.Pendings.{clear-pending, clear-below, is_over, clear-more}
 use Rattle.journal_words.proofs.Floors.{above-commits, commits-floor}
 
 -- ---- the commits

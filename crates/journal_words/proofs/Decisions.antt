@@ -1,5 +1,5 @@
 -- Which records change what is decided, closed and undone, and what does a decision say?
-use Rattle.std.proofs.Common.{◌≤◌, ◌≡◌, inl, inr, Bool, true, false, ◌&&◌, ◌||◌, List, [], ◌∷◌, ◌++◌, Option, Some, None, is_some, refl, subst, arith, if◌then◌else◌}
+use Rattle.std.proofs.Common.{◌≡◌, inl, inr, Bool, true, false, ◌&&◌, ◌||◌, List, [], ◌∷◌, Option, Some, None, is_some, refl, subst, arith, if◌then◌else◌}
 use Rattle.std.proofs.lemmas.Bool.{cases_eq, or_right}
 use Rattle.std.proofs.lemmas.Bool.Decides.{nat_tests}
 use Rattle.std.specs.Prelude.{◌==◌}
@@ -10,7 +10,7 @@ use Rattle.score_base.specs.declared.records.Record.{Record}
 use Rattle.score_base.specs.declared.records.Record.TheVariants as record'
 use Rattle.placement.specs.Clusters.{ClusterData}
 use Rattle.journal_words.specs.Journals.{Decision, decision, is_closed, undone, all_fit, has_decided}
-use Rattle.journal_words.proofs.Fits.{decided-fits, closed-fits, newest-fits, rest-fits}
+use Rattle.journal_words.proofs.Fits.{closed-fits, newest-fits, rest-fits}
 
 -- ---- which records change them
 

@@ -1,5 +1,5 @@
 -- What does a record that fits tell of the records before it?
-use Rattle.std.proofs.Common.{◌≤◌, ◌<◌, ◌≡◌, true, List, [], ◌∷◌, ◌++◌, Option, Some, None, is_some, refl, arith}
+use Rattle.std.proofs.Common.{◌≤◌, ◌<◌, ◌≡◌, true, List, ◌∷◌, Option, Some, None, is_some, refl, arith}
 use Rattle.std.proofs.lemmas.Bool.{and_parts, and_from}
 use Rattle.std.proofs.lemmas.Bool.Decides.{nat_tests}
 use Rattle.std.specs.Prelude.{nat_lt, nat_le, is_none}

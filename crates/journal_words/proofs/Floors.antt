@@ -1,16 +1,12 @@
 -- What is a new proposal above, and what does the floor cover?
-use Rattle.std.proofs.Common.{◌≤◌, ◌<◌, ◌≡◌, Bool, true, false, max, List, [], ◌∷◌, ◌++◌, Option, Some, None, refl, subst, ◌∙◌, arith, if◌then◌else◌}
-use Rattle.std.proofs.lemmas.Bool.{and_parts}
+use Rattle.std.proofs.Common.{◌≤◌, ◌<◌, ◌≡◌, true, List, [], ◌∷◌, Some, refl, arith}
 use Rattle.std.proofs.lemmas.Bool.Decides.{nat_tests}
-use Rattle.std.specs.Prelude.{◌==◌, nat_lt}
 use Rattle.score_base.specs.declared.ids.TxId.{TxId}
-use Rattle.score_base.specs.declared.ids.NodeId.{NodeId}
 use Rattle.score_base.specs.declared.ids.Ident.{Ident}
 use Rattle.score_base.specs.declared.causes.Outcome.TheVariants as outcome
 use Rattle.score_base.specs.declared.records.Record.{Record}
 use Rattle.score_base.specs.declared.records.Record.TheVariants as record'
-use Rattle.placement.specs.Clusters.{ClusterData}
-use Rattle.journal_words.specs.Journals.{Prepared, older, prepared_of, pending, ended, commits, floor, is_above, fits}
+use Rattle.journal_words.specs.Journals.{pending, ended, commits, floor, is_above}
 use Rattle.journal_words.proofs.Pairs.{has_pair}
 
 -- ---- the floor grows

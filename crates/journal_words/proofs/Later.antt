@@ -1,7 +1,6 @@
 -- What do the Decided of a transaction behind the first k of them say of it?
-use Rattle.std.proofs.Common.{ℕ, ◌+◌, ◌≤◌, ◌≡◌, Bool, true, false, List, [], ◌∷◌, Option, Some, None, is_some, refl, sym, subst, ◌∙◌, arith, if◌then◌else◌}
+use Rattle.std.proofs.Common.{ℕ, ◌≤◌, ◌≡◌, Bool, true, false, List, [], ◌∷◌, Option, Some, None, refl, ◌∙◌, arith, if◌then◌else◌}
 use Rattle.std.proofs.lemmas.Bool.Decides.{nat_tests}
-use Rattle.std.specs.Prelude.{◌==◌, nat_lt}
 use Rattle.score_base.specs.declared.ids.TxId.{TxId}
 use Rattle.score_base.specs.declared.records.Record.{Record}
 use Rattle.score_base.specs.declared.records.Record.TheVariants as record'

@@ -25,3 +25,4 @@ pub mod AlikeWords
 pub mod AlikeFits
 pub mod SmallFits
 pub mod Needless
+pub mod SmallLists

@@ -12,13 +12,12 @@ use Rattle.score_base.specs.declared.causes.Outcome.TheVariants as outcome
 use Rattle.score_base.specs.declared.records.Record.{Record}
 use Rattle.placement.specs.Clusters.{ClusterData}
 use Rattle.journal_words.specs.declared.versions.Version.{Version}
-use Rattle.journal_words.specs.Journals.{prepared_of, is_clear, ended, applied, commit_id, wrote_in, up_to, version_at, newest, all_fit}
+use Rattle.journal_words.specs.Journals.{prepared_of, is_clear, ended, applied, wrote_in, up_to, version_at, newest, all_fit}
 use Rattle.journal_words.proofs.Fits.{newest-fits, rest-fits}
 use Rattle.journal_words.proofs.Pairs.{has_pair}
 use Rattle.journal_words.proofs.Once.{prepared-stays, ended-prepared}
-use Rattle.journal_words.proofs.Pendings.{clear-below}
-use Rattle.journal_words.proofs.Applied.{applied-says, applied-grows, applied-below, commit_id-clear}
-use Rattle.journal_words.proofs.Bests.{best_of, writer, best-is, IsAtMost, best-bound, IsOneOf, initial, written, best-one, IsWithin, best-same}
+use Rattle.journal_words.proofs.Applied.{applied-says, applied-grows, applied-below}
+use Rattle.journal_words.proofs.Bests.{best_of, writer, best-is, best-bound, IsWithin, best-same}
 use Rattle.journal_words.proofs.Stands.{final-positive}
 
 -- ---- who wrote

@@ -62,6 +62,12 @@ pending t (record'.Prepared u home parts sid p reads writes ∷ r) = if u == t t
 pending t (record'.Ended u o ∷ r) = if u == t then None else pending t r
 pending t (x ∷ r) = pending t r
 
+-- the newest Prepared of t has m among its parts
+abbrev pub names_part : TxId → NodeId → List Record → Bool
+names_part t m [] = false
+names_part t m (record'.Prepared u home parts sid p reads writes ∷ r) = if u == t then is_among m parts else names_part t m r
+names_part t m (x ∷ r) = names_part t m r
+
 -- the pairs but for those of t
 abbrev pub without : TxId → List (TxId × Ident) → List (TxId × Ident)
 without t [] = []

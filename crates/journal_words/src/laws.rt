@@ -28,8 +28,8 @@ ghost use Rattle.journal_words.specs.Small.{small, small_in_time, is_last_ceilin
 /// Records may be made small before others come behind them. Each word over one journal that a
 /// participant or a home asks answers alike on a journal and on its Small: the floor where no Ceiling is
 /// above the last one, and so where each record fits those before it; then each record of Small fits
-/// too. Of the decisions, those that are not closed are the same; a Decided that is closed is gone, so
-/// `decision` itself is no such word.
+/// too. Of the decisions, those that are not closed are the same. A Decided that is closed is gone, so
+/// `decision`, `is_closed` and `times_decided` are no such words.
 pub fn law_small()
     ensures more { (b r : List Record) → small (b ++ small r) ≡ small (b ++ r) }
     ensures in_time { (a b : List Record) → small_in_time (small_in_time a ++ b) ≡ small_in_time (a ++ b) }

@@ -19,7 +19,7 @@ pub use conflicts::{holder, is_key_among, keys_in, newer};
 pub use decisions::{
     Decided, decision, is_closed, later_decision, later_final, times_over, undone,
 };
-pub use endings::{ended, floor, pending};
+pub use endings::{ended, floor, names_part, pending};
 pub use fitting::{are_own_keys, fits, is_among};
 pub use proposals::{Prepared, home_of, prepared_of};
 pub use smaller::small;

@@ -18,10 +18,17 @@ record Named (test listed : List ℕ → Bool) : Type 0 where
   passes : test key ≡ true
   named : listed key ≡ true
 
-named_more : (test listed : List ℕ → Bool) (x : List ℕ) → Named test listed → Named test (λ k. pointwise nat_eq x k || listed k)
-named_more test listed x h = record { key = h.key; passes = h.passes; named = or_later (pointwise nat_eq x h.key) (listed h.key) h.named }
+named_more : (test listed : List ℕ → Bool) (x : List ℕ) → Named test listed
+    → Named test (λ k. pointwise nat_eq x k || listed k)
+named_more test listed x h = record {
+  key = h.key;
+  passes = h.passes;
+  named = or_later (pointwise nat_eq x h.key)
+      (listed h.key) h.named;
+}
 
-named_write : (test : List ℕ → Bool) (writes : List (List ℕ × ℕ)) → list_any (λ w. test w.0) writes ≡ true → Named test (is_written writes)
+named_write : (test : List ℕ → Bool) (writes : List (List ℕ × ℕ)) → list_any (λ w. test w.0) writes ≡ true
+    → Named test (is_written writes)
 named_write test [] is = absurd (let bad : false ≡ true = is in cc)
 named_write test (w ∷ ws) is = elim (one_of (test w.0) (list_any (λ x. test x.0) ws) is) [
   | inl here ↦ record { key = w.0; passes = here; named = or_first _ (is_written ws w.0) (nat_list_eq_equiv.refl w.0) }
@@ -35,43 +42,50 @@ named_read test (x ∷ xs) is = elim (one_of (test x) (list_any test xs) is) [
   | inr later ↦ named_more test (is_read xs) x (named_read test xs later)
 ]
 
-Conflicts-from : (ls : List Lock) (spare : ℕ) (reads : List (List ℕ)) (writes : List (List ℕ × ℕ)) (u : ℕ) → meets_in ls reads writes u ≡ true → Conflicts (seen ls spare) reads writes u
-Conflicts-from ls spare reads writes u met = elim (one_of (list_any (λ w. holds_in ls u w.0) writes) (list_any (λ k. writes_in ls u k) reads) met) [
-  | inl by_lists ↦
-      let h = named_write (holds_in ls u) writes by_lists in
-      record {
-        key = h.key;
-        held_by = held_is ls u h.key ∙ h.passes;
-        named = or_later (is_read reads h.key) (is_written writes h.key) h.named;
-        written = or_later (writes_key (seen ls spare) u h.key) (is_written writes h.key) h.named;
-      }
-  | inr by_u ↦
-      let h = named_read (writes_in ls u) reads by_u in
-      record {
-        key = h.key;
-        held_by = held_is ls u h.key ∙ written_held ls u h.key h.passes;
-        named = or_first (is_read reads h.key) (is_written writes h.key) h.named;
-        written = or_first (writes_key (seen ls spare) u h.key) (is_written writes h.key) (written_is ls u h.key ∙ h.passes);
-      }
-]
+Conflicts-from : (ls : List Lock) (spare : ℕ) (reads : List (List ℕ)) (writes : List (List ℕ × ℕ)) (u : ℕ)
+    → meets_in ls reads writes u ≡ true → Conflicts (seen ls spare) reads writes u
+Conflicts-from ls spare reads writes u met = elim
+    (one_of (list_any (λ w. holds_in ls u w.0) writes) (list_any (λ k. writes_in ls u k) reads) met) [
+      | inl by_lists ↦
+          let h = named_write (holds_in ls u) writes by_lists in
+          record {
+            key = h.key;
+            held_by = held_is ls u h.key ∙ h.passes;
+            named = or_later (is_read reads h.key) (is_written writes h.key) h.named;
+            written = or_later (writes_key (seen ls spare) u h.key) (is_written writes h.key) h.named;
+          }
+      | inr by_u ↦
+          let h = named_read (writes_in ls u) reads by_u in
+          record {
+            key = h.key;
+            held_by = held_is ls u h.key ∙ written_held ls u h.key h.passes;
+            named = or_first (is_read reads h.key) (is_written writes h.key) h.named;
+            written = or_first (writes_key (seen ls spare) u h.key) (is_written writes h.key)
+                (written_is ls u h.key ∙ h.passes);
+          }
+    ]
 
 -- ---- the other way
 
-any_written : (test : List ℕ → Bool) (writes : List (List ℕ × ℕ)) (k : List ℕ) → test k ≡ true → is_written writes k ≡ true → list_any (λ w. test w.0) writes ≡ true
+any_written : (test : List ℕ → Bool) (writes : List (List ℕ × ℕ)) (k : List ℕ) → test k ≡ true
+    → is_written writes k ≡ true → list_any (λ w. test w.0) writes ≡ true
 any_written test [] k passes is = absurd (let bad : false ≡ true = is in cc)
 any_written test (w ∷ ws) k passes is = elim (one_of (pointwise nat_eq w.0 k) (is_written ws k) is) [
   | inl here ↦ or_first (test w.0) (list_any (λ x. test x.0) ws) (ap test (same_key w.0 k here) ∙ passes)
   | inr later ↦ or_later (test w.0) (list_any (λ x. test x.0) ws) (any_written test ws k passes later)
 ]
 
-any_read : (test : List ℕ → Bool) (reads : List (List ℕ)) (k : List ℕ) → test k ≡ true → is_read reads k ≡ true → list_any test reads ≡ true
+any_read : (test : List ℕ → Bool) (reads : List (List ℕ)) (k : List ℕ) → test k ≡ true → is_read reads k ≡ true
+    → list_any test reads ≡ true
 any_read test [] k passes is = absurd (let bad : false ≡ true = is in cc)
 any_read test (x ∷ xs) k passes is = elim (one_of (pointwise nat_eq x k) (is_read xs k) is) [
   | inl here ↦ or_first (test x) (list_any test xs) (ap test (same_key x k here) ∙ passes)
   | inr later ↦ or_later (test x) (list_any test xs) (any_read test xs k passes later)
 ]
 
-met_by : (ls : List Lock) (reads : List (List ℕ)) (writes : List (List ℕ × ℕ)) (u : ℕ) (k : List ℕ) → holds_in ls u k ≡ true → (is_read reads k || is_written writes k) ≡ true → (writes_in ls u k || is_written writes k) ≡ true → meets_in ls reads writes u ≡ true
+met_by : (ls : List Lock) (reads : List (List ℕ)) (writes : List (List ℕ × ℕ)) (u : ℕ) (k : List ℕ)
+    → holds_in ls u k ≡ true → (is_read reads k || is_written writes k) ≡ true →
+    (writes_in ls u k || is_written writes k) ≡ true → meets_in ls reads writes u ≡ true
 met_by ls reads writes u k held named written =
     let by_w = list_any (λ w. holds_in ls u w.0) writes in
     let by_r = list_any (λ q. writes_in ls u q) reads in
@@ -83,14 +97,16 @@ met_by ls reads writes u k held named written =
       | inr by_lists ↦ or_first by_w by_r (any_written (holds_in ls u) writes k held by_lists)
     ]
 
-met_in_conflict : (ls : List Lock) (spare : ℕ) (reads : List (List ℕ)) (writes : List (List ℕ × ℕ)) (u : ℕ) → Conflicts (seen ls spare) reads writes u → meets_in ls reads writes u ≡ true
+met_in_conflict : (ls : List Lock) (spare : ℕ) (reads : List (List ℕ)) (writes : List (List ℕ × ℕ)) (u : ℕ)
+    → Conflicts (seen ls spare) reads writes u → meets_in ls reads writes u ≡ true
 met_in_conflict ls spare reads writes u h =
     met_by ls reads writes u h.key (sym (held_is ls u h.key) ∙ h.held_by) h.named
     (ap (λ b. b || is_written writes h.key) (sym (written_is ls u h.key)) ∙ h.written)
 
 -- ---- who conflicts least
 
-pub the_holder : (a : Option ℕ) (ls : List Lock) (spare t : ℕ) (reads : List (List ℕ)) (writes : List (List ℕ × ℕ)) → IsLeastOther (meets_in ls reads writes) t a
+pub the_holder : (a : Option ℕ) (ls : List Lock) (spare t : ℕ) (reads : List (List ℕ)) (writes : List (List ℕ × ℕ))
+    → IsLeastOther (meets_in ls reads writes) t a
     → IfSome a (IsHolder (seen ls spare) reads writes t)
 the_holder None ls spare t reads writes is = tt
 the_holder (Some p) ls spare t reads writes is = record {
@@ -99,7 +115,11 @@ the_holder (Some p) ls spare t reads writes is = record {
   least = λ v other h. is.least v other (met_in_conflict ls spare reads writes v h);
 }
 
-pub no_holder : (a : Option ℕ) (ls : List Lock) (spare t : ℕ) (reads : List (List ℕ)) (writes : List (List ℕ × ℕ)) → IsLeastOther (meets_in ls reads writes) t a
-    → (IsNone a → (u : ℕ) → u ≢ t → ¬ Conflicts (seen ls spare) reads writes u) × (((u : ℕ) → u ≢ t → ¬ Conflicts (seen ls spare) reads writes u) → IsNone a)
-no_holder None ls spare t reads writes is = ((λ _ u other h. is u other (met_in_conflict ls spare reads writes u h)), λ _. refl)
-no_holder (Some p) ls spare t reads writes is = ((λ none. cc), λ free. absurd (free p is.other (Conflicts-from ls spare reads writes p is.passes)))
+pub no_holder : (a : Option ℕ) (ls : List Lock) (spare t : ℕ) (reads : List (List ℕ)) (writes : List (List ℕ × ℕ))
+    → IsLeastOther (meets_in ls reads writes) t a
+    → (IsNone a → (u : ℕ) → u ≢ t → ¬ Conflicts (seen ls spare) reads writes u) ×
+    (((u : ℕ) → u ≢ t → ¬ Conflicts (seen ls spare) reads writes u) → IsNone a)
+no_holder None ls spare t reads writes is =
+    ((λ _ u other h. is u other (met_in_conflict ls spare reads writes u h)), λ _. refl)
+no_holder (Some p) ls spare t reads writes is =
+    ((λ none. cc), λ free. absurd (free p is.other (Conflicts-from ls spare reads writes p is.passes)))

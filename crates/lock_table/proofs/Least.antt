@@ -61,7 +61,8 @@ least_of_both f g h t (Some p) None r both is least no_g =
       ];
     }
 least_of_both f g h t (Some p) (Some q) r both is first second =
-    let low : (v : ℕ) → v ≢ t → h v ≡ true → min p q ≤ v = λ v other passes. elim (one_of (f v) (g v) (sym (both v) ∙ passes)) [
+    let low : (v : ℕ) → v ≢ t → h v ≡ true → min p q ≤ v = λ v other passes. elim
+    (one_of (f v) (g v) (sym (both v) ∙ passes)) [
       | inl x ↦ omega (arith, first.least v other x)
       | inr x ↦ omega (arith, second.least v other x)
     ] in
@@ -83,7 +84,8 @@ least_of_both f g h t (Some p) (Some q) r both is first second =
     ]
 
 -- a test that says the same
-pub least_same : (f g : ℕ → Bool) (t : ℕ) (a : Option ℕ) → ((u : ℕ) → f u ≡ g u) → IsLeastOther f t a → IsLeastOther g t a
+pub least_same : (f g : ℕ → Bool) (t : ℕ) (a : Option ℕ) → ((u : ℕ) → f u ≡ g u) → IsLeastOther f t a
+    → IsLeastOther g t a
 least_same f g t None same none = λ u other passes. none u other (same u ∙ passes)
 least_same f g t (Some p) same least = record {
   other = least.other;

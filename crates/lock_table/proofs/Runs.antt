@@ -37,7 +37,8 @@ start_from : (ps : List ((List ℕ × ℕ) × Bool)) (k : List ℕ) (i : ℕ) �
     → IsStart ps k i
 start_from ps k i numbered within below above = record {
   within = within;
-  below = λ j d before. less_then _ _ (not_below_one _ (numbered j d (omega (arith, before, within)))) (below j d before);
+  below = λ j d before. less_then _ _ (not_below_one _ (numbered j d (omega (arith, before, within))))
+      (below j d before);
   above = λ j d from inside is. above j d from inside (then_less _ _ is);
 }
 
@@ -47,14 +48,16 @@ greater_not_less r is = λ less. cc
 equal_not_less : (r : Ordering) → r ≡ Equal → r ≢ Less
 equal_not_less r is = λ less. cc
 
-pub start_at_gap : (ps : List ((List ℕ × ℕ) × Bool)) (k : List ℕ) (i : ℕ) → AreNumbered ps → IsGap by_key ps (k, 1) i → IsStart ps k i
+pub start_at_gap : (ps : List ((List ℕ × ℕ) × Bool)) (k : List ℕ) (i : ℕ) → AreNumbered ps → IsGap by_key ps (k, 1) i
+    → IsStart ps k i
 start_at_gap ps k i numbered gap =
     start_from ps k i numbered gap.within gap.below
     (λ j d from inside. greater_not_less _ (gap.above j d from inside))
 
 module _ {K : Type 0} {cmp : K → K → Ordering} (o : IsTotalOrder cmp) where
   less_tied : (x y z : K) → cmp x y ≡ Less → cmp y z ≡ Equal → cmp x z ≡ Less
-  less_tied x y z less ties = o.antisymm x z ∙ ap ordering_reverse (sym (o.congr y z x ties) ∙ o.antisymm y x ∙ ap ordering_reverse less)
+  less_tied x y z less ties = o.antisymm x z
+      ∙ ap ordering_reverse (sym (o.congr y z x ties) ∙ o.antisymm y x ∙ ap ordering_reverse less)
 
   more_tied : (x y z : K) → cmp y x ≡ Less → cmp y z ≡ Equal → cmp x z ≡ Greater
   more_tied x y z less ties = o.antisymm x z ∙ ap ordering_reverse (sym (o.congr y z x ties) ∙ less)
@@ -67,20 +70,25 @@ module _ {K : Type 0} {cmp : K → K → Ordering} (o : IsTotalOrder cmp) where
       reversed Equal is = refl
       reversed Greater is = cc
 
-pub start_at_place : (ps : List ((List ℕ × ℕ) × Bool)) (k : List ℕ) (i : ℕ) → AreNumbered ps → IsRising by_key ps → i < length ps
+pub start_at_place : (ps : List ((List ℕ × ℕ) × Bool)) (k : List ℕ) (i : ℕ) → AreNumbered ps → IsRising by_key ps
+    → i < length ps
     → ((d : (List ℕ × ℕ) × Bool) → by_key (slice_index_or ps i d).0 (k, 1) ≡ Equal) → IsStart ps k i
 start_at_place ps k i numbered rising within here =
     start_from ps k i numbered (omega (arith, within))
-    (λ j d before. less_tied by_key_total (slice_index_or ps j d).0 (slice_index_or ps i d).0 (k, 1) (rising j i d before within) (here d))
+    (λ j d before. less_tied by_key_total (slice_index_or ps j d).0 (slice_index_or ps i d).0 (k, 1)
+    (rising j i d before within) (here d))
     (λ j d from inside. elim (cases_lt i j) [
-      | inl more ↦ greater_not_less _ (more_tied by_key_total (slice_index_or ps j d).0 (slice_index_or ps i d).0 (k, 1) (rising i j d more inside) (here d))
+      | inl more ↦ greater_not_less _
+          (more_tied by_key_total (slice_index_or ps j d).0 (slice_index_or ps i d).0 (k, 1)
+          (rising i j d more inside) (here d))
       | inr same ↦ let at : j ≡ i = omega (arith, from, same) in rw at (equal_not_less _ (here d))
     ])
 
 -- ---- along the locks on a key
 
 blocks_more : (writes : Bool) (p : (List ℕ × ℕ) × Bool) (ps : List ((List ℕ × ℕ) × Bool)) (u : ℕ) (k : List ℕ)
-    → blocks_in writes (locks_of (p ∷ ps)) u k ≡ ((is_at (lock_of p) u k && (writes || p.1)) || blocks_in writes (locks_of ps) u k)
+    → blocks_in writes (locks_of (p ∷ ps)) u k
+    ≡ ((is_at (lock_of p) u k && (writes || p.1)) || blocks_in writes (locks_of ps) u k)
 blocks_more true p ps u k = ap (λ b. b || holds_in (locks_of ps) u k) (and_true (is_at (lock_of p) u k))
 blocks_more false p ps u k = refl
 
@@ -98,20 +106,25 @@ pub blocks_from : (writes : Bool) (ps : List ((List ℕ × ℕ) × Bool)) (i u :
 blocks_from writes ps zero u k within below = refl
 blocks_from writes [] (suc i) u k within below = absurd (omega (arith, within))
 blocks_from writes (p ∷ ps) (suc i) u k within below =
-    let off : is_at (lock_of p) u k ≡ false = not_both (nat_eq u p.0.1) (pointwise nat_eq p.0.0 k) (texts_ties p.0.0 k ∙ ap is_eq (below 0 p (omega arith))) in
+    let off : is_at (lock_of p) u k ≡ false = not_both (nat_eq u p.0.1) (pointwise nat_eq p.0.0 k)
+    (texts_ties p.0.0 k ∙ ap is_eq (below 0 p (omega arith))) in
     blocks_from writes ps i u k (omega (arith, within)) (λ j d before. below (suc j) d (omega (arith, before)))
-    ∙ sym (blocks_more writes p ps u k ∙ ap (λ b. b || blocks_in writes (locks_of ps) u k) (not_first (is_at (lock_of p) u k) (writes || p.1) off))
+    ∙ sym (blocks_more writes p ps u k ∙ ap (λ b. b || blocks_in writes (locks_of ps) u k)
+    (not_first (is_at (lock_of p) u k) (writes || p.1) off))
 
 -- a lock on the key that does not block
-pub blocks_next : (writes : Bool) (ps : List ((List ℕ × ℕ) × Bool)) (i : ℕ) (p : (List ℕ × ℕ) × Bool) (u : ℕ) (k : List ℕ)
+pub blocks_next : (writes : Bool) (ps : List ((List ℕ × ℕ) × Bool)) (i : ℕ) (p : (List ℕ × ℕ) × Bool) (u : ℕ)
+    (k : List ℕ)
     → i < length ps → p ≡ slice_index_or ps i p → (is_at (lock_of p) u k && (writes || p.1)) ≡ false
     → blocks_in writes (locks_of (drop (i + 1) ps)) u k ≡ blocks_in writes (locks_of (drop i ps)) u k
 blocks_next writes ps i p u k within read off =
-    sym (ap (λ qs. blocks_in writes (locks_of qs) u k) (drop_more ps i p within ∙ ap (λ q. q ∷ drop (i + 1) ps) (sym read))
+    sym (ap (λ qs. blocks_in writes (locks_of qs) u k)
+    (drop_more ps i p within ∙ ap (λ q. q ∷ drop (i + 1) ps) (sym read))
     ∙ blocks_more writes p (drop (i + 1) ps) u k
     ∙ ap (λ b. b || blocks_in writes (locks_of (drop (i + 1) ps)) u k) off)
 
-pub blocks_holds : (writes : Bool) (ps : List ((List ℕ × ℕ) × Bool)) (u : ℕ) (k : List ℕ) → blocks_in writes (locks_of ps) u k ≡ true → holds_in (locks_of ps) u k ≡ true
+pub blocks_holds : (writes : Bool) (ps : List ((List ℕ × ℕ) × Bool)) (u : ℕ) (k : List ℕ)
+    → blocks_in writes (locks_of ps) u k ≡ true → holds_in (locks_of ps) u k ≡ true
 blocks_holds true ps u k is = is
 blocks_holds false ps u k is = written_held (locks_of ps) u k is
 
@@ -120,7 +133,8 @@ rising_behind : (ps : List ((List ℕ × ℕ) × Bool)) (i : ℕ) (d : (List ℕ
 rising_behind [] i d rising within = absurd (omega (arith, within))
 rising_behind (p ∷ ps) zero d rising within = λ j e inside. rising 0 (suc j) e (omega arith) (omega (arith, inside))
 rising_behind (p ∷ ps) (suc i) d rising within =
-    rising_behind ps i d (λ a b e before inside. rising (suc a) (suc b) e (omega (arith, before)) (omega (arith, inside))) (omega (arith, within))
+    rising_behind ps i d (λ a b e before inside. rising (suc a) (suc b) e (omega (arith, before))
+    (omega (arith, inside))) (omega (arith, within))
 
 named_at : (p : (List ℕ × ℕ) × Bool) (u : ℕ) (k : List ℕ) → is_at (lock_of p) u k ≡ true → p.0 ≡ (k, u)
 named_at p u k at =
@@ -141,12 +155,15 @@ less_number a b is = grind (arith, is)
 
 -- the first lock on a key is that of its least transaction
 least_first : (p : (List ℕ × ℕ) × Bool) (rest : List ((List ℕ × ℕ) × Bool)) (v : ℕ) (k : List ℕ)
-    → All (λ q. by_key p.0 q.0 ≡ Less) rest → pointwise nat_eq p.0.0 k ≡ true → holds_in (locks_of (p ∷ rest)) v k ≡ true → p.0.1 ≤ v
+    → All (λ q. by_key p.0 q.0 ≡ Less) rest → pointwise nat_eq p.0.0 k ≡ true
+    → holds_in (locks_of (p ∷ rest)) v k ≡ true → p.0.1 ≤ v
 least_first p rest v k above here held = elim (one_of (is_at (lock_of p) v k) (holds_in (locks_of rest) v k) held) [
   | inl at ↦ let same : p.0.1 ≡ v = ap (λ q. q.1) (named_at p v k at) in omega (arith, same)
   | inr later ↦
-      let ties : slice_cmp nat_cmp p.0.0 k ≡ Equal = ap (λ q. slice_cmp nat_cmp q k) (same_key p.0.0 k here) ∙ same_ties nat_list_cmp_total k in
-      let less = less_number p.0.1 v (sym (ap (λ r. ordering_then r (nat_cmp p.0.1 v)) ties) ∙ behind_above rest p.0 v k above later) in
+      let ties : slice_cmp nat_cmp p.0.0 k ≡ Equal = ap (λ q. slice_cmp nat_cmp q k) (same_key p.0.0 k here)
+      ∙ same_ties nat_list_cmp_total k in
+      let less = less_number p.0.1 v
+      (sym (ap (λ r. ordering_then r (nat_cmp p.0.1 v)) ties) ∙ behind_above rest p.0 v k above later) in
       omega (arith, less)
 ]
 
@@ -157,26 +174,34 @@ not_less_then Greater b not_less apart is = cc
 
 -- behind a lock on a greater key the key is not held
 none_behind : (p : (List ℕ × ℕ) × Bool) (rest : List ((List ℕ × ℕ) × Bool)) (v : ℕ) (k : List ℕ)
-    → All (λ q. by_key p.0 q.0 ≡ Less) rest → slice_cmp nat_cmp p.0.0 k ≢ Less → pointwise nat_eq p.0.0 k ≡ false → holds_in (locks_of (p ∷ rest)) v k ≡ true → ⊥
+    → All (λ q. by_key p.0 q.0 ≡ Less) rest → slice_cmp nat_cmp p.0.0 k ≢ Less → pointwise nat_eq p.0.0 k ≡ false
+    → holds_in (locks_of (p ∷ rest)) v k ≡ true → ⊥
 none_behind p rest v k above from apart held = elim (one_of (is_at (lock_of p) v k) (holds_in (locks_of rest) v k) held) [
-  | inl at ↦ let here : pointwise nat_eq p.0.0 k ≡ true = (both_of (nat_eq v p.0.1) (pointwise nat_eq p.0.0 k) at).1 in cc
-  | inr later ↦ not_less_then (slice_cmp nat_cmp p.0.0 k) (nat_cmp p.0.1 v) from (sym (texts_ties p.0.0 k) ∙ apart) (behind_above rest p.0 v k above later)
+  | inl at ↦ let here : pointwise nat_eq p.0.0 k ≡ true =
+      (both_of (nat_eq v p.0.1) (pointwise nat_eq p.0.0 k) at).1 in cc
+  | inr later ↦ not_less_then (slice_cmp nat_cmp p.0.0 k) (nat_cmp p.0.1 v) from (sym (texts_ties p.0.0 k) ∙ apart)
+      (behind_above rest p.0 v k above later)
 ]
 
 -- what is left from a place on
-at_place : (ps : List ((List ℕ × ℕ) × Bool)) (i : ℕ) (p : (List ℕ × ℕ) × Bool) → i < length ps → p ≡ slice_index_or ps i p → drop i ps ≡ p ∷ drop (i + 1) ps
+at_place : (ps : List ((List ℕ × ℕ) × Bool)) (i : ℕ) (p : (List ℕ × ℕ) × Bool) → i < length ps
+    → p ≡ slice_index_or ps i p → drop i ps ≡ p ∷ drop (i + 1) ps
 at_place ps i p within read = drop_more ps i p within ∙ ap (λ q. q ∷ drop (i + 1) ps) (sym read)
 
-above_place : (ps : List ((List ℕ × ℕ) × Bool)) (i : ℕ) (p : (List ℕ × ℕ) × Bool) → IsRising by_key ps → i < length ps → p ≡ slice_index_or ps i p
+above_place : (ps : List ((List ℕ × ℕ) × Bool)) (i : ℕ) (p : (List ℕ × ℕ) × Bool) → IsRising by_key ps → i < length ps
+    → p ≡ slice_index_or ps i p
     → All (λ q. by_key p.0 q.0 ≡ Less) (drop (i + 1) ps)
 above_place ps i p rising within read =
     let next : i + 1 ≡ suc i = omega arith in
-    rw next (subst (λ (x : (List ℕ × ℕ) × Bool). All (λ q. by_key x.0 q.0 ≡ Less) (drop (suc i) ps)) (sym read) (rising_behind ps i p rising within))
+    rw next (subst (λ (x : (List ℕ × ℕ) × Bool). All (λ q. by_key x.0 q.0 ≡ Less) (drop (suc i) ps)) (sym read)
+    (rising_behind ps i p rising within))
 
 -- ---- what the walk along a key ends with
 
-pub first_blocks : (writes : Bool) (ps : List ((List ℕ × ℕ) × Bool)) (i : ℕ) (p : (List ℕ × ℕ) × Bool) (t : ℕ) (k : List ℕ)
-    → IsRising by_key ps → i < length ps → p ≡ slice_index_or ps i p → pointwise nat_eq p.0.0 k ≡ true → p.0.1 ≢ t → (writes || p.1) ≡ true
+pub first_blocks : (writes : Bool) (ps : List ((List ℕ × ℕ) × Bool)) (i : ℕ) (p : (List ℕ × ℕ) × Bool) (t : ℕ)
+    (k : List ℕ)
+    → IsRising by_key ps → i < length ps → p ≡ slice_index_or ps i p → pointwise nat_eq p.0.0 k ≡ true → p.0.1 ≢ t →
+    (writes || p.1) ≡ true
     → ((u : ℕ) → u ≢ t → blocks_in writes (locks_of (drop i ps)) u k ≡ blocks_in writes (locks_of ps) u k)
     → IsLeastOther (λ u. blocks_in writes (locks_of ps) u k) t (Some p.0.1)
 first_blocks writes ps i p t k rising within read here other blocks left =
@@ -184,21 +209,26 @@ first_blocks writes ps i p t k rising within read here other blocks left =
     let at : is_at (lock_of p) p.0.1 k ≡ true = rw here (grind (arith, nat_tests)) in
     record {
       other = other;
-      passes = sym (left p.0.1 other) ∙ ap (λ qs. blocks_in writes (locks_of qs) p.0.1 k) place ∙ blocks_more writes p (drop (i + 1) ps) p.0.1 k
-          ∙ or_first _ (blocks_in writes (locks_of (drop (i + 1) ps)) p.0.1 k) (ap (λ b. b && (writes || p.1)) at ∙ blocks);
+      passes = sym (left p.0.1 other) ∙ ap (λ qs. blocks_in writes (locks_of qs) p.0.1 k) place
+          ∙ blocks_more writes p (drop (i + 1) ps) p.0.1 k
+          ∙ or_first _ (blocks_in writes (locks_of (drop (i + 1) ps)) p.0.1 k)
+          (ap (λ b. b && (writes || p.1)) at ∙ blocks);
       least = λ v apart passes.
           least_first p (drop (i + 1) ps) v k (above_place ps i p rising within read) here
-          (ap (λ qs. holds_in (locks_of qs) v k) (sym place) ∙ blocks_holds writes (drop i ps) v k (left v apart ∙ passes));
+          (ap (λ qs. holds_in (locks_of qs) v k) (sym place) ∙ blocks_holds writes (drop i ps) v k
+          (left v apart ∙ passes));
     }
 
 pub past_key : (writes : Bool) (ps : List ((List ℕ × ℕ) × Bool)) (i : ℕ) (p : (List ℕ × ℕ) × Bool) (t : ℕ) (k : List ℕ)
-    → IsRising by_key ps → i < length ps → p ≡ slice_index_or ps i p → slice_cmp nat_cmp (slice_index_or ps i p).0.0 k ≢ Less → pointwise nat_eq p.0.0 k ≡ false
+    → IsRising by_key ps → i < length ps → p ≡ slice_index_or ps i p → slice_cmp nat_cmp
+    (slice_index_or ps i p).0.0 k ≢ Less → pointwise nat_eq p.0.0 k ≡ false
     → ((u : ℕ) → u ≢ t → blocks_in writes (locks_of (drop i ps)) u k ≡ blocks_in writes (locks_of ps) u k)
     → IsLeastOther (λ u. blocks_in writes (locks_of ps) u k) t None
 past_key writes ps i p t k rising within read from apart left = λ u other passes.
     none_behind p (drop (i + 1) ps) u k (above_place ps i p rising within read)
     (subst (λ (x : (List ℕ × ℕ) × Bool). slice_cmp nat_cmp x.0.0 k ≢ Less) (sym read) from) apart
-    (ap (λ qs. holds_in (locks_of qs) u k) (sym (at_place ps i p within read)) ∙ blocks_holds writes (drop i ps) u k (left u other ∙ passes))
+    (ap (λ qs. holds_in (locks_of qs) u k) (sym (at_place ps i p within read)) ∙ blocks_holds writes (drop i ps) u k
+    (left u other ∙ passes))
 
 none_blocks : (writes : Bool) (u : ℕ) (k : List ℕ) → blocks_in writes (locks_of []) u k ≡ false
 none_blocks true u k = refl
@@ -208,5 +238,7 @@ pub past_all : (writes : Bool) (ps : List ((List ℕ × ℕ) × Bool)) (i t : �
     → ((u : ℕ) → u ≢ t → blocks_in writes (locks_of (drop i ps)) u k ≡ blocks_in writes (locks_of ps) u k)
     → IsLeastOther (λ u. blocks_in writes (locks_of ps) u k) t None
 past_all writes ps i t k all left = λ u other passes.
-    let bad : false ≡ true = sym (ap (λ qs. blocks_in writes (locks_of qs) u k) (drop_all i ps all) ∙ none_blocks writes u k) ∙ left u other ∙ passes in
+    let bad : false ≡ true = sym
+    (ap (λ qs. blocks_in writes (locks_of qs) u k) (drop_all i ps all) ∙ none_blocks writes u k) ∙ left u other
+    ∙ passes in
     cc

@@ -77,4 +77,5 @@ AreNumbered ps = All (λ p. 1 ≤ p.0.1) ps
 pub record IsStart (ps : List ((List ℕ × ℕ) × Bool)) (k : List ℕ) (i : ℕ) : Type 0 where
   pub within : i ≤ length ps
   pub below : (j : ℕ) (d : (List ℕ × ℕ) × Bool) → j < i → slice_cmp nat_cmp (slice_index_or ps j d).0.0 k ≡ Less
-  pub above : (j : ℕ) (d : (List ℕ × ℕ) × Bool) → i ≤ j → j < length ps → slice_cmp nat_cmp (slice_index_or ps j d).0.0 k ≢ Less
+  pub above : (j : ℕ) (d : (List ℕ × ℕ) × Bool) → i ≤ j → j < length ps
+      → slice_cmp nat_cmp (slice_index_or ps j d).0.0 k ≢ Less

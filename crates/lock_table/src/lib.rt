@@ -7,7 +7,9 @@
 //! number of keys for which there is room.
 //!
 //! The locks stand in a table in the order of their keys, those on one key in the order of their
-//! transactions. `holder` finds the locks on a key by halving and goes over these alone.
+//! transactions. `holder` finds the locks on a key by halving and goes over these alone. `take` looks
+//! the place of each key up by halving and moves the locks behind it by one; `free` goes over the table
+//! once. The contracts say what is answered, not what it costs.
 //!
 //! Only `reserve` takes memory.
 #![tactic(auto)]

@@ -6,9 +6,10 @@ use Rattle.score_base.specs.declared.records.Record.{Record}
 use Rattle.score_disk.specs.Files.{File}
 use Rattle.journal_records.specs.Records.{record_bytes, IsRecord}
 use Rattle.node_journal.specs.Log.{generation, log, framed, IsLog}
-use Rattle.node_journal.specs.Pairs.{age, number_of, in_order, IsLive, filling, open_block}
+use Rattle.node_journal.specs.Pairs.{age, number_of, in_order, pair_log, IsLive, filling, open_block}
 use Rattle.node_journal.proofs.Fillings.{filling_generation, filling_is}
 use Rattle.node_journal.proofs.Logs.{log_is}
+use Rattle.node_journal.proofs.Pairs.{pair_is}
 
 filling_length : (g : ℕ) (records : List Record) → length (filling g records) ≡ 9 + length (flat_map open_block records)
 unfolding filling
@@ -73,6 +74,12 @@ pub seated_other : {D : Type 0} (second : Bool) (live other first last : D) →
     in_order second (λ a b. b) first last ≡ other
 seated_other true live other first last e f = e
 seated_other false live other first last e f = f
+
+-- and so does the log of the two
+pub placed_log : (second : Bool) (live other : File) (records : List Record) → IsLive second live.seen other.seen →
+    log live.seen ≡ Ok records → in_order second (λ a b. pair_log a.seen b.seen ≡ Ok records) live other
+placed_log true live other records l e = pair_is true live.seen other.seen l ∙ e
+placed_log false live other records l e = pair_is false live.seen other.seen l ∙ e
 
 -- the new file: its generation, its log, and its closed gate
 pub record IsNew (file spelled : List ℕ) (g : ℕ) (records : List Record) : Type 0 where

@@ -12,3 +12,5 @@ pub mod Pairs
 pub mod Spending
 pub mod Torn
 pub mod Versions
+pub mod Listings
+pub mod PairOpenings

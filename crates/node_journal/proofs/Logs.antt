@@ -98,7 +98,7 @@ log_kept old c rs gate l k =
 behind_put : (xs : List ℕ) (at : ℕ) (bytes : List ℕ) → at ≤ length xs → drop at (put_at xs at bytes) ≡ bytes ++ drop (at + length bytes) xs
 behind_put xs at bytes h = ap (drop at) (append_assoc (take at xs) bytes (drop (at + length bytes) xs)) ∙ drop_at (take at xs) (bytes ++ drop (at + length bytes) xs) at (length-take-le at xs h)
 
-opened_is : (old frame : List ℕ) (gate : ℕ) → gate < length old → opened_at old gate frame ≡ take gate old ++ (1 ∷ (frame ++ drop (gate + 1 + length frame) old))
+pub opened_is : (old frame : List ℕ) (gate : ℕ) → gate < length old → opened_at old gate frame ≡ take gate old ++ (1 ∷ (frame ++ drop (gate + 1 + length frame) old))
 opened_is old frame gate h =
     let inner : take gate (put_at old (gate + 1) frame) ≡ take gate old = take-put_at old (gate + 1) gate frame (omega arith) (omega arith) in
     let outer : drop (gate + 1) (put_at old (gate + 1) frame) ≡ frame ++ drop (gate + 1 + length frame) old = behind_put old (gate + 1) frame (omega arith) in

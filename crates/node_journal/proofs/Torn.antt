@@ -1,12 +1,11 @@
 -- What the images are when one of the four calls of an append fails.
-use Rattle.std.proofs.Common.{◌≡◌, ◌≢◌, ◌⊎◌, ℕ, ◌+◌, ◌<◌, ◌≤◌, false, max, List, [], ◌∷◌, length, take, refl, sym, ap, ◌∙◌, inl, inr, arith, get_or, length-take-le, get_or-take}
-use Rattle.std.specs.Prelude.{slice_index}
+use Rattle.std.proofs.Common.{◌≡◌, ◌≢◌, ◌⊎◌, ℕ, ◌+◌, ◌<◌, ◌≤◌, max, List, [], ◌∷◌, length, take, refl, sym, ap, ◌∙◌, inl, inr, arith, get_or, length-take-le, get_or-take}
 use Rattle.std.proofs.lemmas.Bool.Decides.{eqb_tells}
 use Rattle.std.proofs.lemmas.Bool.{cases_lt}
 use Rattle.std.proofs.lemmas.Grind.{elements, same_number_lists}
-use Rattle.score_disk.specs.Files.{File, IsImage, IsSettled, Missed, Unsynced, put_at, written, synced}
-use Rattle.score_disk.proofs.Places.{both, uncovered, length-put_at, get_or-put_at, take-put_at}
-use Rattle.node_journal.specs.Torn.{Near, LeavesClosed, LeavesOneOf}
+use Rattle.score_disk.specs.Files.{File, IsImage, IsSettled, put_at, written, synced}
+use Rattle.score_disk.proofs.Places.{length-put_at, get_or-put_at, take-put_at}
+use Rattle.node_journal.specs.Torn.{Near, LeavesOneOf}
 
 pub settled_synced : (f : File) → IsSettled (synced f)
 settled_synced f = record { touched = λ i. refl; least = refl; greatest = refl }

@@ -4,12 +4,18 @@ use Rattle.node_journal.specs.declared.reading.Gate.{Gate}
 use Rattle.node_journal.specs.declared.reading.Gate.TheVariants.{Closed, Open}
 use Rattle.node_journal.specs.declared.reading.ReadEnd.{ReadEnd}
 use Rattle.node_journal.specs.declared.reading.ReadEnd.TheVariants.{Failed, Bad, Memory}
+use Rattle.journal_records.specs.Records.{IsRecord}
 use Rattle.node_journal.specs.Log.{block_at}
 
 -- at the first of these bytes stands this gate
 abbrev pub IsGate : List ℕ → Gate → Type 0
 IsGate bytes Closed = slice_index bytes 0 ≢ 1
 IsGate bytes (Open record' size) = (slice_index bytes 0 ≡ 1) × (block_at (drop 1 bytes) ≡ Some (record', size))
+
+-- the record behind an open gate is one
+abbrev pub HoldsRecord : Gate → Type 0
+HoldsRecord Closed = Unit {0}
+HoldsRecord (Open record' size) = IsRecord record'
 
 -- the next gate stands below this length
 abbrev pub IsNextWithin : Gate → ℕ → Type 0

@@ -5,7 +5,7 @@ use Rattle.std.specs.Int.{w64, to_be_bytes}
 use Rattle.score_base.specs.declared.records.Record.{Record}
 use Rattle.journal_records.specs.Records.{record_bytes}
 use Rattle.score_disk.specs.Files.{File, IsImage, IsSettled}
-use Rattle.node_journal.specs.Log.{generation, log, framed}
+use Rattle.node_journal.specs.Log.{generation, log, records_of, framed, IsLog}
 
 -- a file with a generation is younger than one without, and one with a greater generation is younger
 abbrev pub age : Option ℕ → ℕ
@@ -40,7 +40,8 @@ LeavesPair records first second = (c d : List ℕ) → IsImage first c → IsIma
 
 -- each pair of images has one of these logs
 abbrev pub LeavesPairOneOf : List Record → List Record → File → File → Type 0
-LeavesPairOneOf old new first second = (c d : List ℕ) → IsImage first c → IsImage second d → (pair_log c d ≡ Ok old) ⊎ (pair_log c d ≡ Ok new)
+LeavesPairOneOf old new first second = (c d : List ℕ) → IsImage first c → IsImage second d → (pair_log c d ≡ Ok old) ⊎
+    (pair_log c d ≡ Ok new)
 
 -- an open gate with the block of this record
 unfoldable pub open_block : Record → List ℕ
@@ -49,6 +50,14 @@ open_block r = 1 ∷ framed (record_bytes r)
 -- what stands behind the version in a file of version 2: its generation, its records behind open gates, a closed gate
 unfoldable pub filling : ℕ → List Record → List ℕ
 filling g records = to_be_bytes w64 g ++ flat_map open_block records ++ 0 ∷ []
+
+-- the records of a file of version 2, which is given behind its version
+abbrev pub listed_in : List ℕ → List Record
+listed_in bytes = records_of (log (2 ∷ bytes))
+
+-- behind a version 2 these bytes are a log, whose closed gate is the last byte
+abbrev pub IsListed : List ℕ → Type 0
+IsListed bytes = IsLog (2 ∷ bytes) (listed_in bytes) (length bytes)
 
 -- no image has a generation but this one
 abbrev pub LeavesStale : Option ℕ → File → Type 0

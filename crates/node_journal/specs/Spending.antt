@@ -36,6 +36,10 @@ pub record Untouched {D : Type 0} (d : Ghosts D) (old now : D) : Type 0 where
   pub own : d.own now ≡ d.own old
   pub faults : d.faults now ≡ d.faults old
 
+-- nothing was written, or a log was made anew with two calls
+abbrev pub Opened : {D : Type 0} → Ghosts D → D → D → Type 0
+Opened d old now = Untouched d old now ⊎ Spent d 2 old now
+
 -- only reads were made, of which one may have failed
 pub record Looked {D T E : Type 0} (d : Ghosts D) (old now : D) (result : Result T E) : Type 0 where
   pub tells : d.tells now ≡ d.tells old

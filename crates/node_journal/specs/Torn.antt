@@ -46,6 +46,10 @@ LeavesOldOrNew records more f = (c : List ℕ) → IsImage f c → (log c ≡ Ok
 abbrev pub LeavesShort : ℕ → File → Type 0
 LeavesShort most f = (c : List ℕ) → IsImage f c → length c ≤ most
 
+-- the file is as before, or has at most two bytes, of which no image has more
+abbrev pub LeavesAsBefore : File → File → Type 0
+LeavesAsBefore old now = (now ≡ old) ⊎ ((length old.seen ≤ 2) × LeavesShort 2 now)
+
 -- each image has this generation, or none
 abbrev pub LeavesVersion : Option ℕ → File → Type 0
 LeavesVersion gen f = (c : List ℕ) → IsImage f c → generation c ≡ gen

@@ -1,12 +1,12 @@
 //! A journal on a disk: opened, written record by record, stopped.
-ghost use Rattle.std.specs.Prelude.{◌≡◌, ◌≢◌, ◌⊎◌, ℕ, ◌+◌, ◌<◌, ◌≤◌, ◌^◌, ◌++◌, List, [], ◌∷◌, Some, None, Ok, Err, length, vec_capacity, IsTrue, IfOk, IfErr, OnOk, OnErr};
+ghost use Rattle.std.specs.Prelude.{◌≡◌, ◌≢◌, ◌⊎◌, ℕ, ◌+◌, ◌<◌, ◌≤◌, ◌^◌, ◌++◌, List, [], ◌∷◌, Some, None, Ok, Err, length, vec_capacity, IsTrue, IfOk, IfErr, OnOk, OnErr, All};
 ghost use Rattle.score_base.specs.declared.records.Record.{Record};
 ghost use Rattle.score_disk.specs.Files.{Settled, IsSettled, synced, written};
 ghost use Rattle.score_disk.specs.Counts.{Counted};
-ghost use Rattle.journal_records.specs.Records.{CanEncode};
-ghost use Rattle.node_journal.specs.Calls.{HasRoom, lowered, LoweredAtMost, EndedByFault, IsUntouched};
+ghost use Rattle.journal_records.specs.Records.{record_bytes, CanEncode, IsRecord};
+ghost use Rattle.node_journal.specs.Calls.{HasRoom, lowered};
 ghost use Rattle.node_journal.specs.Ends.{MatchEnd};
-ghost use Rattle.node_journal.specs.Log.{IsLog, generation, log, records_of};
+ghost use Rattle.node_journal.specs.Log.{IsLog, framed, generation, log, records_of};
 ghost use Rattle.node_journal.specs.Spending.{Spent, Halted, Untouched};
 ghost use Rattle.node_journal.specs.Sets.{IsLog-prop};
 ghost use Rattle.node_journal.specs.Torn.{IsAtRest, LeavesOld, LeavesOldOrNew, LeavesShort, LeavesVersion};
@@ -53,8 +53,11 @@ impl<D: Disk> Journal<D> {
         ensures log { IfOk result (λ x. IsTrue (D.tells disk) → log (D.file disk).seen ≡ Ok x.1.items) }
         ensures now { IfOk result (λ x. IsTrue (D.tells disk) → IsAtRest (D.file x.0.disk) x.1.items) }
         ensures count { IfOk result (λ x. x.0.count ≡ length x.1.items) }
+        ensures fit { IfOk result (λ x. All IsRecord x.1.items) }
         ensures kept { IfOk result (λ x. IsTrue (D.tells disk) → 2 < length (D.file disk).seen → D.file x.0.disk ≡ D.file disk) }
         ensures anew { IfOk result (λ x. IsTrue (D.tells disk) → length (D.file disk).seen ≤ 2 → D.file x.0.disk ≡ synced (written 0 (1 ∷ 0 ∷ []) (D.file disk))) }
+        ensures opened { IfOk result (λ x.
+            Untouched D.Disk disk x.0.disk ⊎ ((x.1.items ≡ []) × Spent D.Disk 2 disk x.0.disk)) }
         ensures tells { IfOk result (λ x. D.tells x.0.disk ≡ D.tells disk) }
         ensures left_kept { IfOk result (λ x. IsTrue (D.tells disk) → 2 < length (D.file disk).seen → D.left x.0.disk ≡ D.left disk) }
         ensures left_anew { IfOk result (λ x. IsTrue (D.tells disk) → length (D.file disk).seen ≤ 2 → D.left x.0.disk ≡ lowered 2 (D.left disk)) }
@@ -62,13 +65,12 @@ impl<D: Disk> Journal<D> {
         ensures faults { IfOk result (λ x. D.faults x.0.disk ≡ D.faults disk) }
         ensures own { IfOk result (λ x. D.own x.0.disk ≡ D.own disk) }
         ensures end { IfErr result (λ e. MatchEnd e
-            (λ d. EndedByFault (D.faults disk) (D.faults d) (D.own disk) (D.own d) (D.left disk) (D.left d)
+            (λ d. Halted D.Disk 2 disk d
             × (IsTrue (D.tells disk) → 2 < length (D.file disk).seen → (D.file d ≡ D.file disk) × (D.left d ≡ D.left disk))
             × (IsTrue (D.tells disk) → length (D.file disk).seen ≤ 2 → LeavesShort 2 (D.file d)))
-            (λ d at. IsUntouched (D.file disk) (D.file d) (D.faults disk) (D.faults d) (D.own disk) (D.own d) (D.left disk) (D.left d)
+            (λ d at. Untouched D.Disk disk d
             × (IsTrue (D.tells disk) → log (D.file disk).seen ≡ Err at))
-            (λ d. IsUntouched (D.file disk) (D.file d) (D.faults disk) (D.faults d) (D.own disk) (D.own d) (D.left disk) (D.left d))) }
-        ensures end_tells { IfErr result (λ e. MatchEnd e (λ d. D.tells d ≡ D.tells disk) (λ d _. D.tells d ≡ D.tells disk) (λ d. D.tells d ≡ D.tells disk)) }
+            (λ d. Untouched D.Disk disk d)) }
     {
         let mut disk = disk;
         match load(alloc, &mut disk) {
@@ -122,6 +124,7 @@ impl<D: Disk> Journal<D> {
         requires few { records ≤ place }
         requires small { place < 2 ^ 63 }
         ensures disk { result.0.disk ≡ other }
+        ensures count { result.0.count ≡ records }
         ensures left_disk { result.1 ≡ self.disk }
     {
         let Journal {
@@ -143,6 +146,13 @@ impl<D: Disk> Journal<D> {
             },
             disk,
         )
+    }
+
+    /// The frame of the record that was appended last.
+    pub(crate) fn last_frame(&self) -> &[u8]
+        ensures { result.now ≡ self.now.frame.items }
+    {
+        self.frame.as_slice()
     }
 
     /// Makes room for one record: afterwards it may be appended. A log that ends less than its
@@ -175,6 +185,9 @@ impl<D: Disk> Journal<D> {
         ensures kept { IfOk result (λ x. x.1.rec ≡ rec) }
         ensures appended { IfOk result (λ x. IsTrue (D.tells self.disk) → (records : List Record) → log (D.file self.disk).seen ≡ Ok records → IsAtRest (D.file x.0.disk) (records ++ rec ∷ [])) }
         ensures counts { IfOk result (λ x. x.0.count ≡ self.count + 1) }
+        ensures frame { IfOk result (λ x. x.0.frame.items ≡ framed (record_bytes rec) ++ 0 ∷ []) }
+        ensures is { IfOk result (λ x. IsRecord rec) }
+        ensures short { IfOk result (λ x. length (record_bytes rec) ≤ 4096) }
         ensures version { IfOk result (λ x. IsTrue (D.tells self.disk) → generation (D.file x.0.disk).seen ≡ generation (D.file self.disk).seen) }
         ensures spent { IfOk result (λ x. Spent D.Disk 4 self.disk x.0.disk) }
         ensures stopped { IfErr result (λ s. IsTrue (D.tells self.disk) → (records : List Record) → log (D.file self.disk).seen ≡ Ok records → LeavesOldOrNew records rec (D.file s.disk)) }

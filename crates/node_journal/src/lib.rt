@@ -18,7 +18,8 @@
 //! as a file of version 2 under the next generation, and from then on that disk is the live one. It
 //! clears the other disk, fills it behind its byte 0, and opens it by its version; each stage is
 //! synced before the next, so whatever a crash leaves of the two files has the old log or the small
-//! one. In contracts `pair_log` is what two files read as.
+//! one. In contracts `pair_log` is what two files read as, and `list_of` the list of the pair: it keeps
+//! the live log in memory, so [`Pair::small`] gives what a compaction keeps without a device call.
 #![tactic(auto)]
 
 mod compacting;
@@ -26,6 +27,7 @@ mod ends;
 mod journal;
 mod kept;
 mod laws;
+mod listing;
 mod opening;
 mod pair;
 mod pair_opening;

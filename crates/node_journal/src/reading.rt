@@ -1,8 +1,9 @@
 //! How the bytes of a log are read, gate by gate.
-ghost use Rattle.std.specs.Prelude.{◌≡◌, ◌≢◌, ℕ, ◌+◌, ◌-◌, ◌<◌, ◌≤◌, Some, None, Ok, Err, length, drop, slice_index, IsTrue, IfOk, IfErr, IfSome, if◌then◌else◌};
+ghost use Rattle.std.specs.Prelude.{◌≡◌, ◌≢◌, ℕ, ◌+◌, ◌-◌, ◌<◌, ◌≤◌, Some, None, Ok, Err, length, drop, slice_index, IsTrue, IfOk, IfErr, IfSome, All, if◌then◌else◌};
+ghost use Rattle.journal_records.specs.Records.{IsRecord};
 ghost use Rattle.score_disk.specs.Counts.{Counted};
 ghost use Rattle.node_journal.specs.Log.{body_length, has_body, block_at, log, IsLog, HasGateAt};
-ghost use Rattle.node_journal.specs.Gates.{IsGate, IsNextWithin, IsFault, IfBad, calls_of};
+ghost use Rattle.node_journal.specs.Gates.{IsGate, HoldsRecord, IsNextWithin, IsFault, IfBad, calls_of};
 
 use journal_records::decode;
 use score_base::{Memory, Record, push};
@@ -57,6 +58,7 @@ fn body_len(bytes: &[u8]) -> Option<usize>
 fn block(alloc: Global, bytes: &[u8]) -> Result<Option<(Record, u64)>, Memory>
     ensures found { IfOk result (λ found. found ≡ block_at bytes.now) }
     ensures inside { IfOk result (λ found. IfSome found (λ block. block.1 < length bytes.now)) }
+    ensures fit { IfOk result (λ found. IfSome found (λ block. IsRecord block.0)) }
 {
     match body_len(bytes) {
         None => Ok(None),
@@ -68,10 +70,11 @@ fn block(alloc: Global, bytes: &[u8]) -> Result<Option<(Record, u64)>, Memory>
 }
 
 /// The gate at the first of these bytes.
-fn gate_in(alloc: Global, bytes: &[u8], place: u64) -> Result<Gate, ReadEnd>
+pub(crate) fn gate_in(alloc: Global, bytes: &[u8], place: u64) -> Result<Gate, ReadEnd>
     requires { 0 < length bytes.now }
     ensures ok { IfOk result (λ gate. IsGate bytes.now gate) }
     ensures next { IfOk result (λ gate. IsNextWithin gate (length bytes.now)) }
+    ensures fit { IfOk result HoldsRecord }
     ensures bad { IfErr result (λ end. IfBad end (λ at. (at ≡ place) × IsFault bytes.now)) }
     ensures calls { calls_of result ≡ Ok tt }
 {
@@ -91,6 +94,7 @@ fn read_gate<D: Disk>(alloc: Global, disk: &mut D, at: u64, len: u64) -> Result<
     requires len { IsTrue (D.tells disk.old) → len ≡ length (D.file disk.old).seen }
     ensures ok { IfOk result (λ gate. IsTrue (D.tells disk.old) → IsGate (drop at (D.file disk.old).seen) gate) }
     ensures next { IfOk result (λ gate. IsNextWithin gate (len - at)) }
+    ensures fit { IfOk result HoldsRecord }
     ensures bad { IfErr result (λ end. IfBad end (λ place. (place ≡ at) × (IsTrue (D.tells disk.old) → IsFault (drop at (D.file disk.old).seen)))) }
     ensures file { D.file disk.new ≡ D.file disk.old }
     ensures tells { D.tells disk.new ≡ D.tells disk.old }
@@ -120,6 +124,7 @@ pub(crate) fn read_records<D: Disk>(
     requires version { IsTrue (D.tells disk.old) → HasGateAt (D.file disk.old).seen first }
     ensures ok { IfOk result (λ x. IsTrue (D.tells disk.old) → IsLog (D.file disk.old).seen x.0.items x.1) }
     ensures count { IfOk result (λ x. length x.0.items ≤ x.1) }
+    ensures fit { IfOk result (λ x. All IsRecord x.0.items) }
     ensures inside { IfOk result (λ x. x.1 < len) }
     ensures bad { IfErr result (λ end. IfBad end (λ place. IsTrue (D.tells disk.old) → log (D.file disk.old).seen ≡ Err place)) }
     ensures file { D.file disk.new ≡ D.file disk.old }
@@ -151,6 +156,7 @@ pub(crate) fn read_log<D: Disk>(
     requires len { IsTrue (D.tells disk.old) → len ≡ length (D.file disk.old).seen }
     ensures ok { IfOk result (λ x. IsTrue (D.tells disk.old) → IsLog (D.file disk.old).seen x.0.items x.1) }
     ensures count { IfOk result (λ x. length x.0.items ≤ x.1) }
+    ensures fit { IfOk result (λ x. All IsRecord x.0.items) }
     ensures inside { IfOk result (λ x. x.1 < len) }
     ensures bad { IfErr result (λ end. IfBad end (λ place. IsTrue (D.tells disk.old) → log (D.file disk.old).seen ≡ Err place)) }
     ensures file { D.file disk.new ≡ D.file disk.old }

@@ -1,5 +1,5 @@
 //! A whole file of version 2, spelled in memory before it is written.
-ghost use Rattle.std.specs.Prelude.{◌≡◌, ℕ, ◌+◌, ◌≤◌, ◌++◌, List, length, OnOk, All};
+ghost use Rattle.std.specs.Prelude.{◌≡◌, ℕ, ◌+◌, ◌≤◌, ◌++◌, ◌≢◌, List, [], length, OnOk, OnErr, All};
 ghost use Rattle.journal_records.specs.Records.{CanEncode, IsRecord};
 ghost use Rattle.node_journal.specs.Pairs.{filling, open_block};
 
@@ -49,4 +49,22 @@ pub(crate) fn spell(out: &mut Vec<u8>, generation: u64, records: &[Record]) -> R
     }
     out.push(0)?;
     Ok(())
+}
+
+/// Spells the records as [`spell`] does, over a spelling of no record. It takes no memory where there
+/// is no record.
+pub(crate) fn respell(out: &mut Vec<u8>, generation: u64, records: &[Record]) -> Result<(), Memory>
+    requires fit { All CanEncode records.now }
+    requires none { out.old.items ≡ filling generation [] }
+    ensures out { OnOk result (out.new.items ≡ filling generation records.now) }
+    ensures are { OnOk result (All IsRecord records.now) }
+    ensures memory { OnErr result (records.now ≢ []) }
+{
+    if records.is_empty() {
+        return Ok(());
+    }
+    match spell(out, generation, records) {
+        Ok(()) => Ok(()),
+        Err(e) => Err(e),
+    }
 }

@@ -247,3 +247,193 @@ fn three_thousand_records(rt: HostRuntime) -> Result<(), Fail> {
     assert!(rt; alike(alloc, &records[2999..], &[closed(3000)])?);
     Ok(())
 }
+
+/// A file of version 2 and generation 1: a Prepared and an Ended of transaction 1; a closed gate.
+const TWO_RECORDS: [u8; 63] = [
+    2, 0, 0, 0, 0, 0, 0, 0, 1, // the version and the generation
+    1, 0, 0x23, 1, 0, 1, 1, 2, 1, 2, 0, 0, 0, 0, 0, 0, 0, 0, 0, 0, 0, 0, 0, 0, 0, 1, 0, 1, 1, 0x62,
+    0, 0, 0, 0, 0, 0, 0, 0x0b, // Prepared
+    1, 0, 0x0c, 2, 0, 1, 1, 0, 0, 0, 0, 0, 0, 0, 1, // Ended
+    0,
+];
+
+fn pair_of<D: Disk>(alloc: Global, first: D, second: D) -> Result<(Pair<D>, Vec<Record>), Fail>
+    requires first { Settled (D.tells first) (D.file first) }
+    requires second { Settled (D.tells second) (D.file second) }
+{
+    match Pair::open(alloc, first, second) {
+        Ok(opened) => Ok(opened),
+        Err(_) => Err(Fail::new("no pair")),
+    }
+}
+
+/// A pair whose live file has the four records, and whose other file has these bytes.
+fn pair_with(alloc: Global, other: &[u8]) -> Result<Pair<MemDisk>, Fail> {
+    let (pair, _) = pair_of(alloc, four_records(alloc)?, disk_of(alloc, other)?)?;
+    Ok(pair)
+}
+
+fn add<D: Disk>(pair: Pair<D>, rec: Record) -> Result<Pair<D>, Fail>
+    requires { CanEncode rec }
+{
+    let mut pair = pair;
+    pair.room()?;
+    match pair.append(rec) {
+        Ok((pair, kept)) => {
+            let _ = kept.spend();
+            Ok(pair)
+        }
+        Err(_) => Err(Fail::new("stopped")),
+    }
+}
+
+/// A compaction of the pair, done or stopped.
+fn compact<D: Disk>(pair: Pair<D>) -> Result<Result<Pair<D>, Compacting<D>>, Fail> {
+    let mut pair = pair;
+    let records = pair.small()?;
+    if pair.generation() == u64::MAX {
+        return Err(Fail::new("the last generation"));
+    }
+    pair.room_for(&records)?;
+    Ok(pair.compact(&records))
+}
+
+fn compacted<D: Disk>(pair: Pair<D>) -> Result<Pair<D>, Fail> {
+    match compact(pair)? {
+        Ok(pair) => Ok(pair),
+        Err(_) => Err(Fail::new("stopped")),
+    }
+}
+
+#[test]
+fn compaction_bytes(rt: HostRuntime) -> Result<(), Fail> {
+    let pair = compacted(pair_with(rt.alloc(), &[])?)?;
+    assert_eq!(rt; pair.generation(), 1);
+    assert_eq!(rt; pair.count(), 2);
+    let (first, second) = pair.stop();
+    assert_eq!(rt; first.bytes(), FOUR_RECORDS.as_slice());
+    assert_eq!(rt; second.bytes(), TWO_RECORDS.as_slice());
+    Ok(())
+}
+
+/// The pair that its two disks open to.
+fn reopened(alloc: Global, pair: Pair<MemDisk>) -> Result<Pair<MemDisk>, Fail> {
+    let (first, second) = pair.stop();
+    let (pair, _) = pair_of(alloc, first, second)?;
+    Ok(pair)
+}
+
+/// Whether these are the bytes of the two records under generation 2, but for what stands behind them.
+fn is_second(bytes: &[u8]) -> bool {
+    bytes.len() == 69 && bytes[8] == 2 && bytes[9..62] == TWO_RECORDS[9..62]
+}
+
+#[test]
+fn there_and_back(rt: HostRuntime) -> Result<(), Fail> {
+    let alloc = rt.alloc();
+    let pair = compacted(pair_with(alloc, &[])?)?;
+    let pair = compacted(reopened(alloc, pair)?)?;
+    let pair = add(reopened(alloc, pair)?, closed(2))?;
+    assert_eq!(rt; pair.generation(), 2);
+    assert_eq!(rt; pair.count(), 3);
+    let (first, second) = pair.stop();
+    assert!(rt; is_second(first.bytes()));
+    assert_eq!(rt; second.bytes(), TWO_RECORDS.as_slice());
+    Ok(())
+}
+
+/// How many records are left, and under which generation, where a compaction of the pair stops at the
+/// `k`-th device call, after the crash `how`.
+fn left_behind(alloc: Global, pair: Pair<MemDisk>, k: u64, how: u64) -> Result<(usize, u64), Fail>
+    requires { 1 ≤ k }
+{
+    let (first, second) = pair.stop();
+    let (mut pair, _) = pair_of(alloc, Fused::new(first), Fused::new(second))?;
+    pair.arm(k);
+    match compact(pair)? {
+        Ok(_) => Err(Fail::new("not stopped")),
+        Err(stopped) => {
+            let Compacting {
+                mut first,
+                mut second,
+            } = stopped;
+            first.crash(how);
+            second.crash(how);
+            let (pair, records) = pair_of(alloc, first, second)?;
+            Ok((records.len(), pair.generation()))
+        }
+    }
+}
+
+/// Whether such a stop leaves the four records in the live file.
+fn leaves_old(alloc: Global, other: &[u8], k: u64, how: u64) -> Result<bool, Fail>
+    requires { 1 ≤ k }
+{
+    let (count, generation) = left_behind(alloc, pair_with(alloc, other)?, k, how)?;
+    Ok(count == 4 && generation == 0)
+}
+
+/// Whether such a stop leaves the two records in the other file.
+fn leaves_new(alloc: Global, other: &[u8], k: u64, how: u64) -> Result<bool, Fail>
+    requires { 1 ≤ k }
+{
+    let (count, generation) = left_behind(alloc, pair_with(alloc, other)?, k, how)?;
+    Ok(count == 2 && generation == 1)
+}
+
+#[test]
+fn compaction_stopped(rt: HostRuntime) -> Result<(), Fail> {
+    let alloc = rt.alloc();
+    for how in [0, 1, 2, 5, 8] {
+        for k in 1..5 {
+            assert!(rt; leaves_old(alloc, &[], k, how)?);
+        }
+    }
+    for k in 5..7 {
+        for how in [0, 2, 5] {
+            assert!(rt; leaves_old(alloc, &[], k, how)?);
+        }
+        for how in [1, 8] {
+            assert!(rt; leaves_new(alloc, &[], k, how)?);
+        }
+    }
+    Ok(())
+}
+
+#[test]
+fn first_byte_of_the_other(rt: HostRuntime) -> Result<(), Fail> {
+    let alloc = rt.alloc();
+    for k in 1..7 {
+        assert!(rt; leaves_old(alloc, &FOUR_RECORDS, k, 8)?);
+    }
+    for k in 7..9 {
+        assert!(rt; leaves_new(alloc, &FOUR_RECORDS, k, 8)?);
+    }
+    for k in 1..5 {
+        assert!(rt; leaves_old(alloc, &[5, 1, 2], k, 8)?);
+    }
+    for k in 5..7 {
+        assert!(rt; leaves_new(alloc, &[5, 1, 2], k, 8)?);
+    }
+    Ok(())
+}
+
+/// The same of a pair of generation 2 whose other file is of generation 1: whether two records are left.
+fn leaves_second(alloc: Global, k: u64, how: u64) -> Result<bool, Fail>
+    requires { 1 ≤ k }
+{
+    let pair = compacted(compacted(pair_with(alloc, &[])?)?)?;
+    let (count, generation) = left_behind(alloc, pair, k, how)?;
+    Ok(count == 2 && generation == 2)
+}
+
+#[test]
+fn later_compaction_stopped(rt: HostRuntime) -> Result<(), Fail> {
+    let alloc = rt.alloc();
+    for k in 1..7 {
+        for how in [0, 1, 2, 8, 767] {
+            assert!(rt; leaves_second(alloc, k, how)?);
+        }
+    }
+    Ok(())
+}

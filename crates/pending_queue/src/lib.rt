@@ -6,9 +6,9 @@
 //! above it cannot be applied yet.
 //!
 //! The transactions stand in two tables: in order, each with its proposal, and by proposal. An `add`
-//! and an `end` look up a transaction by halving, so that among n they compare at most p keys in each
-//! table, where 2^p is at most 2n + 1, and move what stands behind its place by one. The least
-//! proposal is the first of the second table.
+//! and an `end` look a place up in each table by halving, and move what stands behind it by one. The
+//! least proposal is the first of the second table. The contracts say what is answered, not what it
+//! costs: only the look-up of a table has a bound that is proved.
 //!
 //! Only `reserve` takes memory.
 #![tactic(auto)]

@@ -1,12 +1,12 @@
 -- What is kept act by act tells what the acts tell.
-use Rattle.std.proofs.Common.{◌≡◌, ◌≤◌, ℕ, ◌||◌, ◌++◌, Bool, List, [], ◌∷◌, length, Option, None, refl, ap, ◌∙◌}
+use Rattle.std.proofs.Common.{◌≡◌, ◌≤◌, ℕ, ◌||◌, ◌++◌, Bool, List, [], ◌∷◌, length, Option, refl, ap, ◌∙◌}
 use Rattle.grid_model.specs.declared.acts.Act.{Act}
 use Rattle.grid_model.specs.declared.acts.Act.TheVariants as act
 use Rattle.grid_model.specs.declared.messages.Envelope.{Envelope}
 use Rattle.grid_model.specs.declared.stories.Story.{Story}
 use Rattle.grid_model.specs.Documents.{DocumentData}
 use Rattle.grid_model.specs.Histories.{after, sent, sent_at, is_gone}
-use Rattle.grid_model.specs.Nodes.{Node, blank, got, change, changed}
+use Rattle.grid_model.specs.Nodes.{Node, got, change, changed}
 use Rattle.run_state.specs.Kept.{Keeps, posted, got_by, going, is_number, is_marked, node_in, telling, retold_by}
 use Rattle.run_state.proofs.ForCode.{after-append}
 use Rattle.run_state.proofs.Told.{stories-more}

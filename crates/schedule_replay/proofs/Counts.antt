@@ -26,14 +26,14 @@ use Rattle.grid_model.specs.declared.messages.ReadRep.{ReadRep}
 use Rattle.grid_model.specs.declared.stories.HeldRead.{HeldRead}
 use Rattle.grid_model.specs.declared.stories.Voted.{Voted}
 use Rattle.journal_words.specs.declared.versions.Version.{Version}
-use Rattle.journal_words.specs.Journals.{commit_id, floor, is_clear, ended, is_commit, pending, home_of}
+use Rattle.journal_words.specs.Journals.{names_part, floor, is_clear, ended, is_commit, pending, home_of}
 use Rattle.grid_model.specs.Stories.{has_voted, with_value}
 use Rattle.script_runs.specs.Waits.{waiting}
 use Rattle.grid_model.specs.Views.{Participant, Open, Stage, Apart, Reads, Collects, Commits}
 use Rattle.grid_model.specs.Advances.{advance, advance_end, owns, request, request_of, prepares, prepare_for, parts_now, to_node}
 use Rattle.script_runs.specs.Walks.{unread, own_reads}
 use Rattle.grid_model.specs.Fitness.{is_fit_at}
-use Rattle.grid_model.specs.Rows.{first_ident, served, version_for, release, ceilings, raises, answered, read_outs, reply_outs, judged, prepared_outs, tells, decides, ballot_outs, vote_outs, are_all_among, closed_outs, ack_outs, asked_outs, commit_outs, abort_outs, freed_by, tell_outs, message_outs, answer_at, begun_at, begin_outs, not_voted, not_among, retry_outs, ask_outs, if_pending}
+use Rattle.grid_model.specs.Rows.{peer_outs, ask_peer_outs, first_ident, served, version_for, release, ceilings, raises, answered, read_outs, reply_outs, judged, prepared_outs, tells, decides, ballot_outs, vote_outs, are_all_among, closed_outs, ack_outs, asked_outs, commit_outs, abort_outs, freed_by, tell_outs, message_outs, answer_at, begun_at, begin_outs, not_voted, not_among, retry_outs, ask_outs, if_pending}
 use Rattle.schedule_replay.specs.Numbering.{sends}
 use Rattle.schedule_replay.specs.Stages.{parts_left}
 
@@ -215,6 +215,10 @@ counts-ask_row t x Apart = record { sent = omega arith; held = omega arith; own 
 counts-ask_row t x (Reads o j) = counts-none 1 0
 counts-ask_row t x (Collects o) = counts-none 1 0
 
+counts-peer : (t x : ℕ) (o : Option Outcome) → Counts 1 0 (peer_outs t x o)
+counts-peer t x None = counts-none 1 0
+counts-peer t x (Some o) = record { sent = omega arith; held = omega arith; own = refl }
+
 -- ---- ends
 
 counts-commit : (n t f h : ℕ) (o : Option ℕ) (done : Bool) (ack freed : List Out) → Counts 1 0 ack → Counts h 0 freed → Counts (1 + h) 0 (commit_outs n t f o done ack ++ if_pending o freed)
@@ -240,6 +244,7 @@ counts-row n p held s x (message.Vote t b) = counts-more 16 0 _ 1 _ (omega arith
 counts-row n p held s x (message.Tell t o) = counts-more (1 + length held) 0 _ 1 _ (omega arith) (omega arith) (counts-tell n p held t o)
 counts-row n p held s x (message.Ack t) = counts-more 0 0 _ 1 _ (omega arith) (omega arith) (counts-ack t x s)
 counts-row n p held s x (message.Ask t) = counts-more 1 0 _ 1 _ (omega arith) (omega arith) (counts-ask_row t x s)
+counts-row n p held s x (message.AskPeer t) = counts-more 1 0 _ 1 _ (omega arith) (omega arith) (counts-peer t x (ended t p.journal))
 
 pub counts-answer : (n : ℕ) (p : Participant) (held : List HeldRead) (s : Stage) (x : ℕ) (said : Message) → Counts (16 + length held) 1 (answer_at n p held s x said)
 counts-answer n p held s x said = counts-if (is_fit_at n p s x said) (16 + length held) 1 (message_outs n p held s x said) [] (counts-row n p held s x said) (counts-none (16 + length held) 1)
@@ -262,6 +267,9 @@ counts-retry c t (Commits y acks) h = counts-tells t (outcome.Commit y.final) (n
 
 pub counts-ask : (p : Participant) (t : ℕ) → Counts 1 0 (ask_outs p t)
 counts-ask p t = counts-if (is_some (pending t p.journal)) 1 0 (to_node (home_of t p.journal) (message.Ask t)) [] (counts-to_node (home_of t p.journal) (message.Ask t)) (counts-none 1 0)
+
+pub counts-ask_peer : (p : Participant) (t m : ℕ) → Counts 1 0 (ask_peer_outs p t m)
+counts-ask_peer p t m = counts-if (is_some (pending t p.journal) && names_part t m p.journal) 1 0 (out.Send m (message.AskPeer t) ∷ []) [] (record { sent = omega arith; held = omega arith; own = refl }) (counts-none 1 0)
 
 -- a transaction that is decided is told to each of its parts, however many
 pub retry-few : (c : ClusterData) (t : ℕ) (s : Stage) → sends (retry_outs c t s) ≤ 16 + length (parts_left s)

@@ -1,7 +1,7 @@
 -- Few messages are sent and few reads are held: what one event adds.
-use Rattle.std.proofs.Common.{◌≡◌, ℕ, ◌+◌, ◌≤◌, Bool, true, false, List, [], ◌∷◌, ◌++◌, length, refl, sym, ap, ◌∙◌, arith}
+use Rattle.std.proofs.Common.{◌≡◌, ℕ, ◌+◌, ◌≤◌, true, false, List, [], ◌∷◌, ◌++◌, length, refl, sym, ap, ◌∙◌, arith}
 use Rattle.std.specs.List.{list_all}
-use Rattle.std.proofs.lemmas.List.{append_assoc, append-nil}
+use Rattle.std.proofs.lemmas.List.{append_assoc}
 use Rattle.script_lang.specs.Scripts.{ScriptData}
 use Rattle.grid_model.specs.declared.acts.Act.{Act}
 use Rattle.grid_model.specs.declared.acts.Act.TheVariants as act
@@ -11,16 +11,16 @@ use Rattle.grid_model.specs.declared.items.Item.{Item}
 use Rattle.grid_model.specs.declared.messages.Envelope.{Envelope}
 use Rattle.grid_model.specs.Sessions.{floor_at}
 use Rattle.grid_model.specs.Documents.{DocumentData}
-use Rattle.grid_model.specs.Histories.{after, sent}
+use Rattle.grid_model.specs.Histories.{after}
 use Rattle.grid_model.specs.Nodes.{node}
 use Rattle.grid_model.specs.Views.{view, stage, participant}
 use Rattle.grid_model.specs.Fitness.{tx_in}
-use Rattle.grid_model.specs.Rows.{answer, begin_outs, retry_outs, ask_outs}
+use Rattle.grid_model.specs.Rows.{answer, begin_outs, retry_outs, ask_outs, ask_peer_outs}
 use Rattle.grid_model.specs.Schedules.{next_number, acts_of, flag_of, losses, opened_row}
 use Rattle.grid_laws.specs.CalmRuns.{calm, played, plays}
 use Rattle.schedule_replay.specs.Replays.{IsFew, HasRoom}
-use Rattle.schedule_replay.proofs.ForCode.{Shape, idle, arms, crashes, restarts, begins, delivers, again, IsAgain, retries, asks, is_idle, acts_by, by-shape, after-append}
-use Rattle.schedule_replay.proofs.Counts.{Counts, counts-more, counts-begin, counts-answer, counts-retry, counts-ask}
+use Rattle.schedule_replay.proofs.ForCode.{Shape, idle, arms, crashes, restarts, begins, delivers, again, IsAgain, retries, asks, asks_peer, is_idle, acts_by, by-shape, after-append}
+use Rattle.schedule_replay.proofs.Counts.{Counts, counts-more, counts-begin, counts-answer, counts-retry, counts-ask, counts-ask_peer}
 use Rattle.schedule_replay.proofs.Posts.{Adds, adds-numbered, sent-after, held-after}
 use Rattle.schedule_replay.proofs.Shorts.{short-at}
 use Rattle.schedule_replay.proofs.Reopened.{are_lost, losses-lost, lost-posts, lost-holdings}
@@ -38,6 +38,9 @@ few-retry d past k n t f = counts-more 16 0 (16 + k) 1 (retry_outs d.cluster t (
 
 pub few-ask : (d : DocumentData) (past : List Act) (k n t : ℕ) → IsFew d past k → Counts (16 + k) 1 (ask_outs (participant (view d past n)) t)
 few-ask d past k n t f = counts-more 1 0 (16 + k) 1 (ask_outs (participant (view d past n)) t) (omega arith) (omega arith) (counts-ask (participant (view d past n)) t)
+
+pub few-ask_peer : (d : DocumentData) (past : List Act) (k n t m : ℕ) → IsFew d past k → Counts (16 + k) 1 (ask_peer_outs (participant (view d past n)) t m)
+few-ask_peer d past k n t m f = counts-more 1 0 (16 + k) 1 (ask_peer_outs (participant (view d past n)) t m) (omega arith) (omega arith) (counts-ask_peer (participant (view d past n)) t m)
 
 -- ---- the rows
 
@@ -65,6 +68,7 @@ adds-opened d past k n f =
 few-again : (d : DocumentData) (past : List Act) (k n : ℕ) (os : List Out) → IsFew d past k → IsAgain d past n os → Counts (16 + k) 1 os
 few-again d past k n os f (retries t is) = rw is (few-retry d past k n t f)
 few-again d past k n os f (asks t is) = rw is (few-ask d past k n t f)
+few-again d past k n os f (asks_peer t m is) = rw is (few-ask_peer d past k n t m f)
 
 adds-shape : (d : DocumentData) (past : List Act) (k : ℕ) (i : Item) → IsFew d past k → (s : Shape d past i)
     → Adds (16 + k) (acts_by d past i calm s)

@@ -1,6 +1,5 @@
 -- What a transaction leaves to its session, by its story and by what its home decided.
-use Rattle.std.proofs.Common.{List, ◌≡◌, ℕ, Bool, true, false, ◌&&◌, not, Option, Some, None, refl, arith, if◌then◌else◌}
-use Rattle.score_base.specs.declared.ids.Ident.{Ident}
+use Rattle.std.proofs.Common.{List, ◌≡◌, ℕ, Bool, true, false, ◌&&◌, not, Option, Some, None, refl, if◌then◌else◌}
 use Rattle.script_lang.specs.declared.scripts.Op.{Op}
 use Rattle.script_lang.specs.Reads.{is_update}
 use Rattle.script_runs.specs.Waits.{waiting}

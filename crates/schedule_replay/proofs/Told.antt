@@ -1,5 +1,5 @@
 -- What a function of several calls gives, where each call gives its part.
-use Rattle.std.proofs.Common.{◌≡◌, ◌==◌, ◌≤◌, ℕ, true, arith, List, [], ◌∷◌, ◌++◌, filter, map, Result, Ok, Err, IfOk, Some, sym, ap, subst, ◌∙◌, if◌then◌else◌}
+use Rattle.std.proofs.Common.{◌≡◌, ◌==◌, ◌≤◌, ℕ, true, arith, List, [], ◌∷◌, ◌++◌, filter, map, Result, Ok, Err, IfOk, sym, ap, subst, ◌∙◌, if◌then◌else◌}
 use Rattle.std.proofs.lemmas.Bool.Decides.{nat_tests}
 use Rattle.score_base.specs.declared.keys.Key.{Key}
 use Rattle.score_base.specs.declared.ids.NodeId.{NodeId}

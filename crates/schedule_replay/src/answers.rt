@@ -4,20 +4,20 @@ ghost use Rattle.std.specs.Prelude.{◌≡◌, ◌≤◌, ◌+◌, IfOk, IsTrue,
 ghost use Rattle.std.specs.Option.{option_copied};
 ghost use Rattle.placement.specs.Clusters.{ClusterData};
 ghost use Rattle.grid_model.specs.Fitness.{is_fit_at, tx_in};
-ghost use Rattle.grid_model.specs.Rows.{message_outs, answer_at, begin_outs, retry_outs, ask_outs};
+ghost use Rattle.grid_model.specs.Rows.{message_outs, answer_at, begin_outs, retry_outs, ask_outs, ask_peer_outs};
 ghost use Rattle.grid_model.specs.Views.{stage_at, participant_of};
 ghost use Rattle.schedule_replay.specs.Numbering.{sends};
 ghost use Rattle.schedule_replay.specs.Stages.{shown, parts_left};
 
 use crate::advances::{advance, push_prepares_again, push_request, push_to};
 use crate::coordinators::{ack_row, ask_row, not_among, not_voted, push_tells, vote_row};
-use crate::enders::tell_outs;
+use crate::enders::{peer_row, tell_outs};
 use crate::fitness::is_fit_at;
 use crate::readers::{read_outs, reply_outs};
 use crate::stages::{Open, Stage, parts_now, stage_of};
 use crate::voters::prepare_outs;
 use grid_model::{Act, Message, Out, Story};
-use journal_words::records::{commit_id, home_of, pending};
+use journal_words::records::{commit_id, home_of, names_part, pending};
 use placement::Cluster;
 use run_state::{PlainNode, begun};
 use score_base::{Ident, Memory, NodeId, Outcome, TxId, append, push};
@@ -36,6 +36,7 @@ pub fn tx_in(message: &Message) -> TxId
         Message::Tell { t, .. } => *t,
         Message::Ack { t } => *t,
         Message::Ask { t } => *t,
+        Message::AskPeer { t } => *t,
     }
 }
 
@@ -60,6 +61,7 @@ fn row_of(
         Message::Tell { t, outcome } => tell_outs(alloc, cluster, n, node, *t, outcome),
         Message::Ack { t } => ack_row(alloc, *t, from, stage),
         Message::Ask { t } => ask_row(alloc, *t, from, stage),
+        Message::AskPeer { t } => peer_row(alloc, node, *t, from),
     }
 }
 
@@ -169,6 +171,24 @@ pub fn ask_outs(alloc: Global, node: &PlainNode, t: TxId) -> Result<Vec<Out>, Me
     let mut outs = Vec::new(alloc);
     if pending(records, t).is_some() {
         push_to(&mut outs, home_of(records, t), Message::Ask { t })?;
+    }
+    Ok(outs)
+}
+
+/// What a node asks part `m` of `t`; nothing where `t` is not pending here, or `m` is no part of it.
+pub fn ask_peer_outs(
+    alloc: Global,
+    node: &PlainNode,
+    t: TxId,
+    m: NodeId,
+) -> Result<Vec<Out>, Memory>
+    ensures row { (c : ClusterData) → IfOk result (λ outs. outs.items ≡ ask_peer_outs (participant_of c node.now) t m) }
+    ensures few { IfOk result (λ outs. sends outs.items ≤ 1) }
+{
+    let records = node.records.as_slice();
+    let mut outs = Vec::new(alloc);
+    if pending(records, t).is_some() && names_part(records, t, m) {
+        push(&mut outs, Out::Send(m, Message::AskPeer { t }))?;
     }
     Ok(outs)
 }

@@ -5,7 +5,7 @@ ghost use Rattle.score_base.specs.declared.records.Record.TheVariants as record'
 ghost use Rattle.placement.specs.Clusters.{ClusterData};
 ghost use Rattle.journal_words.specs.Journals.{pending, ended, is_commit, home_of};
 ghost use Rattle.grid_model.specs.Advances.{to_node};
-ghost use Rattle.grid_model.specs.Rows.{commit_outs, abort_outs, end_outs, freed_by, tell_outs};
+ghost use Rattle.grid_model.specs.Rows.{commit_outs, abort_outs, end_outs, freed_by, tell_outs, peer_outs};
 ghost use Rattle.grid_model.specs.Views.{participant_of};
 
 use crate::advances::push_to;
@@ -127,6 +127,22 @@ pub fn tell_outs(
     let mut outs = end_outs(alloc, n, node, t, outcome)?;
     if pending(node.records.as_slice(), t).is_some() {
         push_freed_by(alloc, &mut outs, cluster, n, node, t, outcome)?;
+    }
+    Ok(outs)
+}
+
+/// What a part gives where another part asks: how the transaction ended here, where it ended.
+pub fn peer_row(
+    alloc: Global,
+    node: &PlainNode,
+    t: TxId,
+    from: NodeId,
+) -> Result<Vec<Out>, Memory>
+    ensures { IfOk result (λ outs. outs.items ≡ peer_outs t from (ended t node.now.journal)) }
+{
+    let mut outs = Vec::new(alloc);
+    if let Some(outcome) = ended(node.records.as_slice(), t) {
+        push(&mut outs, Out::Send(from, Message::Tell { t, outcome }))?;
     }
     Ok(outs)
 }

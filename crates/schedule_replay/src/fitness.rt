@@ -161,6 +161,7 @@ fn is_fit_content(
         }
         Message::Ack { .. } => is_part_at(alloc, cluster, stage, from),
         Message::Ask { .. } => Ok(true),
+        Message::AskPeer { .. } => Ok(true),
     }
 }
 

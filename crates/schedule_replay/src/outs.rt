@@ -2,13 +2,13 @@
 ghost use Rattle.std.specs.Prelude.{◌≡◌, ◌≤◌, ◌+◌, IfOk, length};
 ghost use Rattle.grid_model.specs.Nodes.{node, script_of};
 ghost use Rattle.grid_model.specs.Views.{participant, view, stage};
-ghost use Rattle.grid_model.specs.Rows.{answer, begin_outs, retry_outs, ask_outs};
+ghost use Rattle.grid_model.specs.Rows.{answer, begin_outs, retry_outs, ask_outs, ask_peer_outs};
 ghost use Rattle.grid_model.specs.Sessions.{floor_at};
 ghost use Rattle.run_state.specs.Kept.{past};
 ghost use Rattle.schedule_replay.specs.Numbering.{sends};
 ghost use Rattle.schedule_replay.specs.Replays.{HasRoom};
 
-use crate::answers::{answer, ask_outs, begin_outs, retry_outs, tx_in};
+use crate::answers::{answer, ask_outs, ask_peer_outs, begin_outs, retry_outs, tx_in};
 use crate::sessions::floor_of;
 use grid_model::{Envelope, Out};
 use run_state::{RunState, script_of};
@@ -68,4 +68,17 @@ pub fn outs_at_ask(alloc: Global, run: &RunState, n: NodeId, t: TxId) -> Result<
     ensures outs { IfOk result (λ outs. outs.items ≡ ask_outs (participant (view run.now.doc (past run.now) n)) t) }
 {
     ask_outs(alloc, run.node(n), t)
+}
+
+/// What a node asks another part of a transaction.
+pub fn outs_at_ask_peer(
+    alloc: Global,
+    run: &RunState,
+    n: NodeId,
+    t: TxId,
+    m: NodeId,
+) -> Result<Vec<Out>, Memory>
+    ensures outs { IfOk result (λ outs. outs.items ≡ ask_peer_outs (participant (view run.now.doc (past run.now) n)) t m) }
+{
+    ask_peer_outs(alloc, run.node(n), t, m)
 }

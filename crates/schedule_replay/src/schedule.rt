@@ -3,7 +3,7 @@ ghost use Rattle.std.specs.Prelude.{◌≡◌, ◌≤◌, ◌<◌, ◌+◌, ◌^
 ghost use Rattle.grid_model.specs.Histories.{sent, sent_at};
 ghost use Rattle.grid_model.specs.Nodes.{node, script_of};
 ghost use Rattle.grid_model.specs.Stories.{story};
-ghost use Rattle.grid_model.specs.Schedules.{next_left, or_void, acts_of, begin_row, deliver_row, drop_row, next_row, retry_row, ask_row, crash_row};
+ghost use Rattle.grid_model.specs.Schedules.{next_left, or_void, acts_of, begin_row, deliver_row, drop_row, next_row, retry_row, ask_row, ask_peer_row, crash_row};
 ghost use Rattle.grid_model.specs.Voids.{void_code};
 ghost use Rattle.run_state.specs.Kept.{past};
 ghost use Rattle.schedule_replay.specs.Numbering.{sends};
@@ -11,10 +11,11 @@ ghost use Rattle.grid_laws.specs.CalmRuns.{calm, played};
 ghost use Rattle.schedule_replay.specs.Replays.{HasRoom};
 
 use crate::numbering::number_all;
-use crate::outs::{outs_at_ask, outs_at_begin, outs_at_delivery, outs_at_retry};
+use crate::outs::{outs_at_ask, outs_at_ask_peer, outs_at_begin, outs_at_delivery, outs_at_retry};
 use crate::restarts::{only, restart_row, voided};
 use crate::sessions::is_busy;
 use grid_model::{Act, Item, Out, Void};
+use journal_words::records::pending;
 use run_state::{RunState, script_of};
 use score_base::{Memory, NodeId, TxId};
 use std::alloc::Global;
@@ -146,6 +147,25 @@ fn ask_row(alloc: Global, run: &RunState, n: NodeId, t: TxId) -> Result<Vec<Act>
     acts_or_void(alloc, run, Void::NotPending, n, outs)
 }
 
+/// The row of `ask` where another part is asked.
+fn ask_peer_row(
+    alloc: Global,
+    run: &RunState,
+    n: NodeId,
+    t: TxId,
+    m: NodeId,
+) -> Result<Vec<Act>, Memory>
+    requires { HasRoom run.now.doc (past run.now) 1 }
+    ensures { IfOk result (λ acts. acts.items ≡ ask_peer_row run.now.doc (past run.now) calm n t m) }
+{
+    let node = run.node(n);
+    if !node.up || pending(node.records.as_slice(), t).is_none() {
+        return voided(alloc, Void::NotPending);
+    }
+    let outs = outs_at_ask_peer(alloc, run, n, t, m)?;
+    acts_or_void(alloc, run, Void::NotPart, n, outs)
+}
+
 /// The row of `crash`.
 fn crash_row(alloc: Global, run: &RunState, n: NodeId) -> Result<Vec<Act>, Memory>
     ensures { IfOk result (λ acts. acts.items ≡ crash_row run.now.doc (past run.now) n) }
@@ -168,6 +188,7 @@ pub fn row(alloc: Global, run: &RunState, item: Item) -> Result<Vec<Act>, Memory
         Item::Next(_) => next_row(alloc, run),
         Item::Retry(t) => retry_row(alloc, run, t),
         Item::Ask(n, t) => ask_row(alloc, run, n, t),
+        Item::AskPeer(n, t, m) => ask_peer_row(alloc, run, n, t, m),
         Item::Crash(n, _) => crash_row(alloc, run, n),
         Item::Fuse(n, k, how) => only(alloc, Act::Armed(n, k, how)),
         Item::Restart(n) => restart_row(alloc, run, n),

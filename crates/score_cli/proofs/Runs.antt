@@ -26,6 +26,7 @@ built_is_unfused (item.Drop m) e = refl
 built_is_unfused (item.Next c) e = refl
 built_is_unfused (item.Retry t) e = refl
 built_is_unfused (item.Ask n t) e = refl
+built_is_unfused (item.AskPeer n t m) e = refl
 built_is_unfused (item.Crash n how) e = cc
 built_is_unfused (item.Fuse n k how) e = cc
 built_is_unfused (item.Restart n) e = cc

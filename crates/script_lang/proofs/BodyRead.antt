@@ -45,7 +45,8 @@ first_line_read nodes numbers ws =
     behind (word_at w.1) _ (λ x. w.1 ≡ x.0 ∷ x.1) _ (word_read w.1) (λ v c. behind (node_of nodes v.0) _ _ _ (node_read nodes v.0) (λ n d.
     behind (session_of v.1) _ _ _ (session_read v.1) (λ s e. record {
       bare = refl;
-      spelled = ap (λ l. codes "tx" ∷ l) (a ∙ ap (λ x. x ∷ w.1) b.0 ∙ ap (λ l. decimal t ∷ l) (c ∙ ap (λ x. x ∷ v.1) d.0 ∙ ap (λ l. (110 ∷ decimal n) ∷ l) e.0));
+      spelled = ap (λ l. codes "tx" ∷ l) (a ∙ ap (λ x. x ∷ w.1) b.0
+          ∙ ap (λ l. decimal t ∷ l) (c ∙ ap (λ x. x ∷ v.1) d.0 ∙ ap (λ l. (110 ∷ decimal n) ∷ l) e.0));
       new = new;
       tx = b.1;
       node = d.1;

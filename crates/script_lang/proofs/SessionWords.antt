@@ -36,10 +36,15 @@ number_is ws =
       most = b.2;
     })))
 
-pub session_read : (ws : List (List ℕ)) → IfOk (session_of ws) (λ s. (ws ≡ session_words s) × (nat_le s MAX_SESSION ≡ true))
+pub session_read : (ws : List (List ℕ))
+    → IfOk (session_of ws) (λ s. (ws ≡ session_words s) × (nat_le s MAX_SESSION ≡ true))
 session_read [] = (refl, refl)
-session_read (w ∷ ws) = either (is_word w (codes "session")) _ _ _ (λ e. weaken (session_number ws) _ _ (number_is ws) (λ s h.
-    (ap (λ v. v ∷ ws) (same_text w (codes "session") (sym e)) ∙ ap (λ l. codes "session" ∷ l) h.spelled ∙ sym (some_words s h.least), h.most))) (λ _. tt)
+session_read (w ∷ ws) = either (is_word w (codes "session")) _ _ _ (λ e.
+    let word : w ≡ codes "session" = same_text w (codes "session") (sym e) in
+    weaken (session_number ws) _ _ (number_is ws) (λ s h.
+    let spelled : codes "session" ∷ ws ≡ session_words s =
+    ap (λ l. codes "session" ∷ l) h.spelled ∙ sym (some_words s h.least) in
+    (ap (λ v. v ∷ ws) word ∙ spelled, h.most))) (λ _. tt)
 
 -- What is read again.
 

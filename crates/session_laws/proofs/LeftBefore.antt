@@ -1,6 +1,7 @@
 -- What a transaction leaves to its session at the end it left when it was settled.
 use Rattle.std.proofs.Common.{◌≡◌, Bool, true, false, List, Option, Some, None, inl, inr, refl, ap, sym, subst, ◌∙◌}
-use Rattle.std.proofs.lemmas.Bool.{and_parts, or_cases, or_left, or_right}
+use Rattle.std.proofs.lemmas.Bool.{and_parts, both_ways, false_from_ne_true, not-true, or_cases, or_from, or_left, or_parts}
+use Rattle.std.proofs.lemmas.Option.{none-some, same_Some}
 use Rattle.std.specs.Prelude.{is_some, not, ◌&&◌, ◌||◌}
 use Rattle.score_base.specs.declared.ids.Ident.{Ident}
 use Rattle.score_base.specs.declared.ids.NodeId.{NodeId}
@@ -25,7 +26,7 @@ use Rattle.grid_laws.proofs.DecidedNotGivenUp.{given-up-undecided}
 use Rattle.grid_laws.proofs.DecisionsOnce.{decided-same}
 use Rattle.grid_laws.proofs.DecisionsRest.{decisions-rest}
 use Rattle.grid_laws.proofs.DueAnswers.{home-is}
-use Rattle.grid_laws.proofs.FullStories.{Full, full-snapshot}
+use Rattle.grid_laws.proofs.FullStories.{full-snapshot}
 use Rattle.grid_laws.proofs.NodesFit.{home-one}
 use Rattle.grid_laws.proofs.NodesFitActs.{nodes-fit}
 use Rattle.grid_laws.proofs.OpenNotGivenUp.{IsFlagged}
@@ -33,7 +34,7 @@ use Rattle.grid_laws.proofs.PreparesSay.{first-prepared, prepared-say}
 use Rattle.cause_laws.proofs.Settled.{is_settled, is_shut}
 use Rattle.session_laws.proofs.FinishedTold.{reader-full}
 use Rattle.session_laws.proofs.LaterPasts.{Follows, decided-later, flagged-later, follows-due, full-later, shut-later}
-use Rattle.session_laws.proofs.PhasesSay.{Answers, answered-story, answers-phase, counts-all}
+use Rattle.session_laws.proofs.PhasesSay.{Answers, answered-story, answers-phase, phase-by, phase_with}
 
 -- ---- what is decided
 
@@ -43,18 +44,18 @@ pub decided-update : (d : DocumentData) (past : List Act) (s : ScriptData) (f : 
 decided-update d past s f all is w =
     let rests = (decisions-rest d past all false w.0 s.number f w.2).1 in
     let n = rests.reached.0 in
-    let p = has_prepared-says d.cluster n s.number f (journal d past n) (nodes-fit d past all n).fits rests.reached.2 in
-    let first = first-prepared d past n s.number p.0 (journal d past n) (prepared-say d past all n).journal p.1 in
-    let at : script_of s.number d.scripts ≡ Some first.says.script = ap (λ t. script_of t d.scripts) first.t ∙ first.says.full.at.script in
+    let r = journal d past n in
+    let p = has_prepared-says d.cluster n s.number f r (nodes-fit d past all n).fits rests.reached.2 in
+    let first = first-prepared d past n s.number p.0 r (prepared-say d past all n).journal p.1 in
+    let at : script_of s.number d.scripts ≡ Some first.says.script =
+    ap (λ t. script_of t d.scripts) first.t ∙ first.says.full.at.script in
     let P : ScriptData → Type 0 = λ z. is_update z.ops ≡ true in
-    subst P (same first.says.script s (sym at ∙ is)) first.says.update
-  where
-    same : (y z : ScriptData) → Some y ≡ Some z → y ≡ z
-    same y z e = cc
+    subst P (same_Some first.says.script s (sym at ∙ is)) first.says.update
 
 -- it was not lost, aborted or answered
 shut-undecided : (d : DocumentData) (past : List Act) (s : ScriptData) (f : Ident) → AllDue d past
-    → script_of s.number d.scripts ≡ Some s → is_shut s (story d past s.number) ≡ true → IsDecided d past s.number f → ⊥
+    → script_of s.number d.scripts ≡ Some s → is_shut s (story d past s.number) ≡ true → IsDecided d past s.number f
+    → ⊥
 shut-undecided d past s f all is shut w = go (story d past s.number) (flags-meant d past s.number) shut
   where
     go : (o : Option Story) → Meant past s.number o → is_shut s o ≡ true → ⊥
@@ -63,19 +64,33 @@ shut-undecided d past s f all is shut w = go (story d past s.number) (flags-mean
       | inl lost ↦ given-up-undecided d past all s.number f (meant.0 lost) w
       | inr rest ↦ elim (or_cases x.aborted (x.finished && not (is_update s.ops)) rest) [
         | inl aborted ↦ given-up-undecided d past all s.number f (meant.1 aborted) w
-        | inr answered ↦ (
-            let update : is_update s.ops ≡ true = decided-update d past s f all is w in
-            let reads : not (is_update s.ops) ≡ true = (and_parts x.finished (not (is_update s.ops)) answered).1 in
-            cc)
+        | inr told ↦
+            let reads = not-true (is_update s.ops) (and_parts x.finished (not (is_update s.ops)) told).1 in
+            both_ways (is_update s.ops) reads (decided-update d past s f all is w)
       ]
     ]
 
+-- a decision of a script stands at its home
+decision-is : (d : DocumentData) (past : List Act) (s : ScriptData) (y : Decision)
+    → script_of s.number d.scripts ≡ Some s → decision s.number (journal d past s.home) ≡ Some y
+    → IsDecided d past s.number y.final
+decision-is d past s y is e =
+    (s.home, home-is d s.number s.home s is refl, decision-has s.number y (journal d past s.home) e)
+
 -- ---- committed
 
-left-decided : (ops : List Op) (x : Story) (c : Bool) (y : Decision) → x.lost ≡ false
-    → left_by (phase_by ops (Some x) c (Some y)) (Some x) ≡ y.final
-left-decided ops x true y e = rw e refl
-left-decided ops x false y e = rw e refl
+-- what is left, by the story and the decision
+left-by : (d : DocumentData) (past : List Act) (s : ScriptData) (x : Story) → AllDue d past
+    → story d past s.number ≡ Some x
+    → left_on (state_of d past) s ≡ left_by (phase_with s (Some x) (journal d past s.home)) (Some x)
+left-by d past s x all told =
+    ap (λ p. left_by p (story d past s.number)) (phase-by d past all s)
+    ∙ ap (λ o. left_by (phase_with s o (journal d past s.home)) o) told
+
+left-final : (ops : List Op) (x : Story) (c : Bool) (o : Option Decision) (y : Decision) → x.lost ≡ false → o ≡ Some y
+    → left_by (phase_by ops (Some x) c o) (Some x) ≡ y.final
+left-final ops x true o y l e = rw (e, l) refl
+left-final ops x false o y l e = rw (e, l) refl
 
 -- what is decided leaves its final identifier
 decided-left : (d : DocumentData) (past : List Act) (s : ScriptData) (x : Story) (y : Decision) → AllDue d past
@@ -83,22 +98,18 @@ decided-left : (d : DocumentData) (past : List Act) (s : ScriptData) (x : Story)
     → decision s.number (journal d past s.home) ≡ Some y → left_on (state_of d past) s ≡ y.final
 decided-left d past s x y all is told e =
     let r = journal d past s.home in
-    let has : IsDecided d past s.number y.final = (s.home, home-is d s.number s.home s is refl, decision-has s.number y r e) in
     let P : Option Story → Type 0 = λ o. is_shut s o ≡ true in
-    let kept : x.lost ≡ false = go x.lost refl (λ l. shut-undecided d past s y.final all is (subst P (sym told) (or_left x.lost _ l)) has) in
-    ap (λ w. left_by (phase_by s.ops (story d past s.number) (is_closed s.number r) w) (story d past s.number)) (counts-all d past all s ∙ e)
-    ∙ ap (λ o. left_by (phase_by s.ops o (is_closed s.number r) (Some y)) o) told
-    ∙ left-decided s.ops x (is_closed s.number r) y kept
-  where
-    go : (b : Bool) → x.lost ≡ b → (x.lost ≡ true → ⊥) → b ≡ false
-    go true i no' = absurd (no' i)
-    go false i no' = refl
+    let never : x.lost ≡ true → ⊥ = λ l.
+    shut-undecided d past s y.final all is (subst P (sym told) (or_left x.lost _ l))
+    (decision-is d past s y is e) in
+    left-by d past s x all told
+    ∙ left-final s.ops x (is_closed s.number r) (decision s.number r) y (false_from_ne_true x.lost never) e
 
 -- what is decided at the end, and was settled before, left that
 pub committed-left : (d : DocumentData) (front past : List Act) (s : ScriptData) (x : Story) (f : Ident)
     → Follows d front past → script_of s.number d.scripts ≡ Some s → story d front s.number ≡ Some x
     → is_settled d front s ≡ true → IsDecided d past s.number f → left_on (state_of d front) s ≡ f
-committed-left d front past s x f b is told settled w = elim (or_cases (is_shut s (story d front s.number)) (is_some (decision s.number (journal d front s.home))) settled) [
+committed-left d front past s x f b is told settled w = elim (or_cases (is_shut s (story d front s.number)) _ settled) [
   | inl shut ↦ absurd (shut-undecided d past s f b.due is (shut-later d front past s b shut) w)
   | inr some ↦ go (decision s.number (journal d front s.home)) refl some
 ]
@@ -107,9 +118,9 @@ committed-left d front past s x f b is told settled w = elim (or_cases (is_shut 
         → left_on (state_of d front) s ≡ f
     go None e i = cc
     go (Some y) e i =
-        let has : IsDecided d front s.number y.final = (s.home, home-is d s.number s.home s is refl, decision-has s.number y (journal d front s.home) e) in
+        let has = decided-later d front past s.number y.final b (decision-is d front s y is e) in
         decided-left d front s x y (follows-due d front past b) is told e
-        ∙ decided-same d past b.due s.number y.final f (decided-later d front past s.number y.final b has) w
+        ∙ decided-same d past b.due s.number y.final f has w
 
 -- ---- answered
 
@@ -119,33 +130,27 @@ undecided-before : (d : DocumentData) (front past : List Act) (s : ScriptData) �
     → decision s.number (journal d front s.home) ≡ None
 undecided-before d front past s b is none = go (decision s.number (journal d front s.home)) refl
   where
-    none-some : (y : Decision) → None ≡ Some y → ⊥
-    none-some y e = cc
-
     go : (o : Option Decision) → decision s.number (journal d front s.home) ≡ o → o ≡ None
     go None e = refl
     go (Some y) e =
-        let w : IsDecided d past s.number y.final = decided-later d front past s.number y.final b (s.home, home-is d s.number s.home s is refl, decision-has s.number y (journal d front s.home) e) in
-        let at : w.0 ≡ s.home = home-one (script_of s.number d.scripts) w.0 s.home w.1 (home-is d s.number s.home s is refl) in
+        let w : IsDecided d past s.number y.final =
+        decided-later d front past s.number y.final b (decision-is d front s y is e) in
+        let home = home-is d s.number s.home s is refl in
+        let at : w.0 ≡ s.home = home-one (script_of s.number d.scripts) w.0 s.home w.1 home in
         let P : NodeId → Type 0 = λ n. has_decided s.number y.final (journal d past n) ≡ true in
         let says = has_decided-says s.number y.final (journal d past s.home) (subst P at w.2) in
         absurd (none-some says.0 (sym none ∙ says.1))
 
--- what is neither lost nor aborted at the end was so before
+-- what is neither lost nor aborted at the end was neither before
 unflagged-before : (d : DocumentData) (front past : List Act) (s : ScriptData) (x z : Story) → Follows d front past
     → story d front s.number ≡ Some x → story d past s.number ≡ Some z → z.aborted ≡ false → z.lost ≡ false
     → (x.aborted ≡ false) × (x.lost ≡ false)
-unflagged-before d front past s x z b told end a l = (go x.aborted (λ e. never (or_left x.aborted x.lost e)), go x.lost (λ e. never (or_right x.aborted x.lost e)))
+unflagged-before d front past s x z b told end a l = or_parts x.aborted x.lost (false_from_ne_true _ never)
   where
     never : (x.aborted || x.lost) ≡ true → ⊥
     never e =
-        let flagged : IsFlagged (story d past s.number) = flagged-later d front past s.number b (subst IsFlagged (sym told) e) in
-        let now : (z.aborted || z.lost) ≡ true = subst IsFlagged end flagged in
-        cc
-
-    go : (c : Bool) → (c ≡ true → ⊥) → c ≡ false
-    go true no' = absurd (no' refl)
-    go false no' = refl
+        let flagged = flagged-later d front past s.number b (subst IsFlagged (sym told) e) in
+        both_ways (z.aborted || z.lost) (or_from z.aborted z.lost a l) (subst IsFlagged end flagged)
 
 -- what is answered at the end, and was settled before, was answered before
 answered-before : (d : DocumentData) (front past : List Act) (s : ScriptData) (x z : Story) → Follows d front past
@@ -153,13 +158,15 @@ answered-before : (d : DocumentData) (front past : List Act) (s : ScriptData) (x
     → story d past s.number ≡ Some z → Answers s.ops z (decision s.number (journal d past s.home))
     → Answers s.ops x (decision s.number (journal d front s.home))
 answered-before d front past s x z b is told settled end a =
-    let none : decision s.number (journal d front s.home) ≡ None = undecided-before d front past s b is a.undecided in
+    let o : Option Decision = decision s.number (journal d front s.home) in
+    let none : o ≡ None = undecided-before d front past s b is a.undecided in
     let free = unflagged-before d front past s x z b told end a.going a.kept in
-    let P : Option Story → Type 0 = λ o. (is_shut s o || is_some (decision s.number (journal d front s.home))) ≡ true in
-    record { kept = free.1; undecided = none; going = free.0; told = go x.lost x.aborted (x.finished && not (is_update s.ops)) (decision s.number (journal d front s.home)) free.1 free.0 none (subst P told settled) }
+    let P : Option Story → Type 0 = λ w. (is_shut s w || is_some o) ≡ true in
+    let read = go x.lost x.aborted (x.finished && not (is_update s.ops)) o free.1 free.0 none (subst P told settled) in
+    record { kept = free.1; undecided = none; going = free.0; told = read }
   where
-    go : (l c r : Bool) (o : Option Decision) → l ≡ false → c ≡ false → o ≡ None → ((l || (c || r)) || is_some o) ≡ true
-        → r ≡ true
+    go : (l c r : Bool) (o : Option Decision) → l ≡ false → c ≡ false → o ≡ None
+        → ((l || (c || r)) || is_some o) ≡ true → r ≡ true
     go false false true None i j k e = refl
     go false false false None i j k e = cc
     go true c r o i j k e = cc
@@ -172,18 +179,17 @@ pub answered-left : (d : DocumentData) (front past : List Act) (s : ScriptData) 
     → is_settled d front s ≡ true → AnsweredAt d past s i → left_on (state_of d front) s ≡ i
 answered-left d front past s x i b is told settled at =
     let r = journal d front s.home in
+    let sid : Ident = snapshot_in (Some x) in
+    let values = x.progress.values in
     let all : AllDue d front = follows-due d front past b in
     let end = answered-story d past s b.due at.answered in
-    let a : Answers s.ops x (decision s.number r) = answered-before d front past s x end.0 b is told settled end.1 end.2 in
+    let a = answered-before d front past s x end.0 b is told settled end.1 end.2 in
     let parts = and_parts x.finished (not (is_update s.ops)) a.told in
-    let full : Full d front s.home s.number s (snapshot_in (Some x)) x.progress.values = reader-full d front s x all is told parts.0 (reads (is_update s.ops) parts.1) in
-    let kept : snapshot d past s.number ≡ snapshot_in (Some x) = full-snapshot d past s.home s.number s (snapshot_in (Some x)) x.progress.values (full-later d front past s.home s.number s (snapshot_in (Some x)) x.progress.values b full) in
-    ap (λ w. left_by (phase_by s.ops (story d front s.number) (is_closed s.number r) w) (story d front s.number)) (counts-all d front all s)
-    ∙ ap (λ o. left_by (phase_by s.ops o (is_closed s.number r) (decision s.number r)) o) told
+    let full = reader-full d front s x all is told parts.0 (not-true (is_update s.ops) parts.1) in
+    let kept : snapshot d past s.number ≡ sid =
+    full-snapshot d past s.home s.number s sid values
+    (full-later d front past s.home s.number s sid values b full) in
+    left-by d front s x all told
     ∙ ap (λ p. left_by p (Some x)) (answers-phase s.ops x (is_closed s.number r) (decision s.number r) a)
     ∙ sym kept
     ∙ at.at
-  where
-    reads : (c : Bool) → not c ≡ true → c ≡ false
-    reads true e = cc
-    reads false e = refl

@@ -1,7 +1,9 @@
 -- What does a phase say of the story and of the decision: that of a committed transaction, and of an answered one?
 use Rattle.std.proofs.Common.{◌≡◌, ℕ, Bool, true, false, List, Option, Some, None, refl, sym, ap, subst, ◌∙◌}
+use Rattle.std.proofs.lemmas.Option.{none-some, same_Some}
 use Rattle.std.specs.Prelude.{if◌then◌else◌, not, ◌&&◌}
 use Rattle.score_base.specs.declared.ids.Ident.{Ident}
+use Rattle.score_base.specs.declared.records.Record.{Record}
 use Rattle.script_lang.specs.declared.scripts.Op.{Op}
 use Rattle.script_lang.specs.Reads.{is_update}
 use Rattle.script_lang.specs.Scripts.{ScriptData}
@@ -20,14 +22,24 @@ use Rattle.grid_laws.proofs.Causes.{AllDue}
 use Rattle.grid_laws.proofs.DecisionsCount.{all-count}
 use Rattle.grid_laws.proofs.DueAnswers.{home-is}
 
--- ---- a decision that counts
+-- ---- the phase by the last decision
 
 -- in a run each decision counts
-pub counts-all : (d : DocumentData) (past : List Act) → AllDue d past → (s : ScriptData)
-    → later_decision (skipped_in (story d past s.number)) s.number (journal d past s.home) ≡ decision s.number (journal d past s.home)
+counts-all : (d : DocumentData) (past : List Act) → AllDue d past → (s : ScriptData)
+    → later_decision (skipped_in (story d past s.number)) s.number (journal d past s.home)
+    ≡ decision s.number (journal d past s.home)
 counts-all d past all s =
     ap (λ k. later_decision k s.number (journal d past s.home)) (all-count d past all s.number)
     ∙ later-all s.number (journal d past s.home)
+
+-- the phase by a story and the records of the home
+abbrev pub phase_with : ScriptData → Option Story → List Record → Phase
+phase_with s o r = phase_by s.ops o (is_closed s.number r) (decision s.number r)
+
+pub phase-by : (d : DocumentData) (past : List Act) → AllDue d past → (s : ScriptData)
+    → phase d past s ≡ phase_with s (story d past s.number) (journal d past s.home)
+phase-by d past all s =
+    ap (phase_by s.ops (story d past s.number) (is_closed s.number (journal d past s.home))) (counts-all d past all s)
 
 -- ---- committed
 
@@ -40,12 +52,6 @@ final_in p = None
 -- a decision with this final identifier
 abbrev pub HasFinal : Option Decision → Ident → Type 0
 HasFinal o f = (y : Decision) × (o ≡ Some y) × (y.final ≡ f)
-
-some-same : (a b : Ident) → Some a ≡ Some b → a ≡ b
-some-same a b e = cc
-
-none-some : (i : Ident) → None ≡ Some i → ⊥
-none-some i e = cc
 
 open-final : (w : Option ℕ) → final_in (open_phase w) ≡ None
 open-final None = refl
@@ -63,8 +69,8 @@ undecided-final ops x = go x.aborted (x.finished && not (is_update ops))
 decided-final : (ops : List Op) (x : Story) (c : Bool) (o : Option Decision) (f : Ident)
     → final_in (decided_phase ops x c o) ≡ Some f → HasFinal o f
 decided-final ops x c None f e = absurd (none-some f (sym (undecided-final ops x) ∙ e))
-decided-final ops x true (Some y) f e = (y, refl, some-same y.final f e)
-decided-final ops x false (Some y) f e = (y, refl, some-same y.final f e)
+decided-final ops x true (Some y) f e = (y, refl, same_Some y.final f e)
+decided-final ops x false (Some y) f e = (y, refl, same_Some y.final f e)
 
 phase-final : (ops : List Op) (o : Option Story) (c : Bool) (w : Option Decision) (f : Ident)
     → final_in (phase_by ops o c w) ≡ Some f → HasFinal w f
@@ -85,9 +91,10 @@ pub committed-decided : (d : DocumentData) (past : List Act) (s : ScriptData) (f
     → script_of s.number d.scripts ≡ Some s → CommittedAt d past s f → IsDecided d past s.number f
 committed-decided d past s f all is c =
     let r = journal d past s.home in
-    let o : Option Story = story d past s.number in
-    let P : Option Decision → Type 0 = λ w. HasFinal w f in
-    let w : HasFinal (decision s.number r) f = subst P (counts-all d past all s) (phase-final s.ops o (is_closed s.number r) (later_decision (skipped_in o) s.number r) f (committed-final d past s f c)) in
+    let final : final_in (phase_with s (story d past s.number) r) ≡ Some f =
+    ap final_in (sym (phase-by d past all s)) ∙ committed-final d past s f c in
+    let w : HasFinal (decision s.number r) f =
+    phase-final s.ops (story d past s.number) (is_closed s.number r) (decision s.number r) f final in
     let Q : Ident → Type 0 = λ i. has_decided s.number i r ≡ true in
     (s.home, home-is d s.number s.home s is refl, subst Q w.2 (decision-has s.number w.0 r w.1))
 
@@ -135,15 +142,15 @@ answers-phase ops x c o a =
     let t = a.told in
     rw (u, l) (rw (g, t) refl)
 
+-- what an answered phase says
 pub answered-story : (d : DocumentData) (past : List Act) (s : ScriptData) → AllDue d past → phase d past s ≡ Answered
     → (x : Story) × (story d past s.number ≡ Some x) × Answers s.ops x (decision s.number (journal d past s.home))
-answered-story d past s all e = go (story d past s.number) refl (subst P (counts-all d past all s) e)
+answered-story d past s all e = go (story d past s.number) refl (sym (phase-by d past all s) ∙ e)
   where
-    P : Option Decision → Type 0
-    P = λ w. phase_by s.ops (story d past s.number) (is_closed s.number (journal d past s.home)) w ≡ Answered
+    r : List Record
+    r = journal d past s.home
 
-    go : (o : Option Story) → story d past s.number ≡ o
-        → phase_by s.ops o (is_closed s.number (journal d past s.home)) (decision s.number (journal d past s.home)) ≡ Answered
-        → (x : Story) × (story d past s.number ≡ Some x) × Answers s.ops x (decision s.number (journal d past s.home))
+    go : (o : Option Story) → story d past s.number ≡ o → phase_with s o r ≡ Answered
+        → (x : Story) × (story d past s.number ≡ Some x) × Answers s.ops x (decision s.number r)
     go None is e = cc
-    go (Some x) is e = (x, is, phase-answers s.ops x (is_closed s.number (journal d past s.home)) (decision s.number (journal d past s.home)) e)
+    go (Some x) is e = (x, is, phase-answers s.ops x (is_closed s.number r) (decision s.number r) e)

@@ -3,6 +3,8 @@
 use Rattle.std.proofs.Common.{◌≡◌, ◌≤◌, ◌<◌, ℕ, ◌+◌, ◌-◌, true, false, List, [], ◌∷◌, ◌++◌, take, drop, refl, sym, arith}
 use Rattle.std.proofs.lemmas.Bool.{false≢true}
 use Rattle.score_base.specs.declared.ids.TxId.{TxId}
+use Rattle.score_base.specs.declared.ids.NodeId.{NodeId}
+use Rattle.score_base.specs.declared.ids.Ident.{Ident}
 use Rattle.score_base.specs.declared.causes.Ballot.TheVariants as ballot
 use Rattle.score_base.specs.declared.causes.Date.TheVariants as date
 use Rattle.score_base.specs.declared.causes.Outcome.TheVariants as outcome
@@ -29,11 +31,21 @@ use Rattle.session_laws.proofs.SessionOrders.{session-order}
 
 -- an update of `b` at n1
 abbrev pub writes_b : ℕ → ScriptData
-writes_b k = record { number = 1; home = 1; session = k; ops = op.Write b (record { first = atom.Number 5; steps = [] }) ∷ [] }
+writes_b k = record {
+  number = 1;
+  home = 1;
+  session = k;
+  ops = op.Write b (record { first = atom.Number 5; steps = [] }) ∷ [];
+}
 
 -- an update of `a` at n2
 abbrev pub writes_a : TxId → ℕ → ScriptData
-writes_a t k = record { number = t; home = 2; session = k; ops = op.Write a (record { first = atom.Number 3; steps = [] }) ∷ [] }
+writes_a t k = record {
+  number = t;
+  home = 2;
+  session = k;
+  ops = op.Write a (record { first = atom.Number 3; steps = [] }) ∷ [];
+}
 
 -- a read of `b` at n1
 abbrev pub reads_b : ℕ → ScriptData
@@ -156,7 +168,8 @@ update_then_read-lawful =
     (played-run (update_then_read 5) all_open (usually (update_then_read 5).items) refl) (λ n. refl) (λ n. refl)
 
 pub update_then_read-order : SessionOrder (update_then_read 5) update_then_read_acts
-update_then_read-order = session-order (update_then_read 5) (update_then_read 5).items update_then_read_acts update_then_read-lawful.run
+update_then_read-order =
+    session-order (update_then_read 5) (update_then_read 5).items update_then_read_acts update_then_read-lawful.run
 
 -- ---- two places of a history
 
@@ -168,6 +181,23 @@ acts_from i j h = after [] (take (j - i) (drop i h))
 abbrev pub acts_behind : ℕ → List Act → List Act
 acts_behind j h = after [] (drop (j + 1) h)
 
+-- t begins at place i of a history, with the identifier x, and u at place j, with y
+pub begun-at : (h : List Act) (i j : ℕ) (t u : TxId) (n m : NodeId) (x y : Ident)
+    → after [] h ≡ acts_behind j h ++ act.Began u m y ∷ acts_from 0 j h
+    → acts_from 0 j h ≡ acts_from (i + 1) j h ++ act.Began t n x ∷ acts_from 0 i h
+    → BeganBefore (after [] h) t u (acts_from 0 j h)
+begun-at h i j t u n m x y later earlier = record {
+  later = acts_behind j h;
+  home = m;
+  ident = y;
+  begun = later;
+  between = acts_from (i + 1) j h;
+  before = acts_from 0 i h;
+  node = n;
+  first = x;
+  earlier = earlier;
+}
+
 -- the first is closed, the second is answered at the floor that the session had where it began; where it
 -- was to begin first, the session was busy
 pub update_then_read-premises :
@@ -178,10 +208,12 @@ pub update_then_read-premises :
 update_then_read-premises = (refl, refl, refl, refl)
 
 -- the two of them are in order
-pub update_then_read-in_order : InOrder (update_then_read 5) (after [] update_then_read_acts) (writes_b 5) (reads_both 5) (acts_from 0 17 update_then_read_acts)
+pub update_then_read-in_order :
+    InOrder (update_then_read 5) (after [] update_then_read_acts) (writes_b 5) (reads_both 5)
+    (acts_from 0 17 update_then_read_acts)
 update_then_read-in_order =
     update_then_read-order (writes_b 5) (reads_both 5) 5 (acts_from 0 17 update_then_read_acts) refl refl refl refl
-    (record { later = acts_behind 17 update_then_read_acts; home = 2; ident = 1; begun = refl; between = acts_from 3 17 update_then_read_acts; before = acts_from 0 2 update_then_read_acts; node = 1; first = 0; earlier = refl })
+    (begun-at update_then_read_acts 2 17 1 2 1 2 0 1 refl refl)
 
 -- ---- what is refuted
 
@@ -230,14 +262,16 @@ apart-lawful =
     calm-lawful (update_then_read 0) apart_acts
     (played-run (update_then_read 0) all_open (usually (update_then_read 0).items) refl) (λ n. refl) (λ n. refl)
 
-apart-order : SessionOrder (update_then_read 5) apart_acts → InOrder (update_then_read 5) (after [] apart_acts) (writes_b 5) (reads_both 5) (acts_from 0 4 apart_acts)
+apart-order : SessionOrder (update_then_read 5) apart_acts
+    → InOrder (update_then_read 5) (after [] apart_acts) (writes_b 5) (reads_both 5) (acts_from 0 4 apart_acts)
 apart-order order =
     order (writes_b 5) (reads_both 5) 5 (acts_from 0 4 apart_acts) refl refl refl refl
-    (record { later = acts_behind 4 apart_acts; home = 2; ident = 0; begun = refl; between = acts_from 3 4 apart_acts; before = acts_from 0 2 apart_acts; node = 1; first = 0; earlier = refl })
+    (begun-at apart_acts 2 4 1 2 1 2 0 0 refl refl)
 
 -- of a session these acts are refuted: the second is answered below the final identifier of the first
 pub apart-refuted : SessionOrder (update_then_read 5) apart_acts → ⊥
-apart-refuted order = one-below-zero ((apart-order order).seen 1 0 (closed refl) (record { answered = refl; at = refl }))
+apart-refuted order =
+    one-below-zero ((apart-order order).seen 1 0 (closed refl) (record { answered = refl; at = refl }))
 
 -- and its begin alone is refuted: the first is open there
 abbrev pub early_acts : List Act
@@ -245,9 +279,11 @@ early_acts = opened ++ begins_b ++ act.Began 2 2 0 ∷ []
 
 pub early-refuted : SessionOrder (update_then_read 5) early_acts → ⊥
 early-refuted order =
-    let held : InOrder (update_then_read 5) (after [] early_acts) (writes_b 5) (reads_both 5) (acts_from 0 4 early_acts) =
-        order (writes_b 5) (reads_both 5) 5 (acts_from 0 4 early_acts) refl refl refl refl
-        (record { later = []; home = 2; ident = 0; begun = refl; between = acts_from 3 4 early_acts; before = acts_from 0 2 early_acts; node = 1; first = 0; earlier = refl }) in
+    let held :
+    InOrder (update_then_read 5) (after [] early_acts) (writes_b 5) (reads_both 5)
+    (acts_from 0 4 early_acts) =
+    order (writes_b 5) (reads_both 5) 5 (acts_from 0 4 early_acts) refl refl refl refl
+    (begun-at early_acts 2 4 1 2 1 2 0 0 refl refl) in
     let over : true ≡ false = held.over in
     false≢true (sym over)
 
@@ -271,9 +307,11 @@ two_updates-lawful =
 -- of a session the later one has to have a greater one
 pub two_updates-refuted : SessionOrder (two_updates 5) two_updates_acts → ⊥
 two_updates-refuted order =
-    let held : InOrder (two_updates 5) (after [] two_updates_acts) (writes_b 5) (writes_a 2 5) (acts_from 0 16 two_updates_acts) =
-        order (writes_b 5) (writes_a 2 5) 5 (acts_from 0 16 two_updates_acts) refl refl refl refl
-        (record { later = acts_behind 16 two_updates_acts; home = 2; ident = 0; begun = refl; between = acts_from 3 16 two_updates_acts; before = acts_from 0 2 two_updates_acts; node = 1; first = 0; earlier = refl }) in
+    let held :
+    InOrder (two_updates 5) (after [] two_updates_acts) (writes_b 5) (writes_a 2 5)
+    (acts_from 0 16 two_updates_acts) =
+    order (writes_b 5) (writes_a 2 5) 5 (acts_from 0 16 two_updates_acts) refl refl refl refl
+    (begun-at two_updates_acts 2 16 1 2 1 2 0 0 refl refl) in
     one-below-one (held.updates 1 1 (closed refl) (closed refl))
 
 -- behind an update of no session, a reader and an update
@@ -296,9 +334,11 @@ read_then_update-lawful =
 -- of a session it has to be above it
 pub read_then_update-refuted : SessionOrder (read_then_update 5) read_then_update_acts → ⊥
 read_then_update-refuted order =
-    let held : InOrder (read_then_update 5) (after [] read_then_update_acts) (reads_b 5) (writes_a 3 5) (acts_from 0 24 read_then_update_acts) =
-        order (reads_b 5) (writes_a 3 5) 5 (acts_from 0 24 read_then_update_acts) refl refl refl refl
-        (record { later = acts_behind 24 read_then_update_acts; home = 2; ident = 0; begun = refl; between = acts_from 17 24 read_then_update_acts; before = acts_from 0 16 read_then_update_acts; node = 1; first = 1; earlier = refl }) in
+    let held :
+    InOrder (read_then_update 5) (after [] read_then_update_acts) (reads_b 5) (writes_a 3 5)
+    (acts_from 0 24 read_then_update_acts) =
+    order (reads_b 5) (writes_a 3 5) 5 (acts_from 0 24 read_then_update_acts) refl refl refl refl
+    (begun-at read_then_update_acts 16 24 2 3 1 2 1 0 refl refl) in
     one-below-one (held.written 1 1 (record { answered = refl; at = refl }) (closed refl))
 
 -- behind an update of no session, two readers
@@ -321,7 +361,9 @@ two_readers-lawful =
 -- of a session it may not
 pub two_readers-refuted : SessionOrder (two_readers 5) two_readers_acts → ⊥
 two_readers-refuted order =
-    let held : InOrder (two_readers 5) (after [] two_readers_acts) (reads_b 5) (reads_a 5) (acts_from 0 24 two_readers_acts) =
-        order (reads_b 5) (reads_a 5) 5 (acts_from 0 24 two_readers_acts) refl refl refl refl
-        (record { later = acts_behind 24 two_readers_acts; home = 2; ident = 0; begun = refl; between = acts_from 17 24 two_readers_acts; before = acts_from 0 16 two_readers_acts; node = 1; first = 1; earlier = refl }) in
+    let held :
+    InOrder (two_readers 5) (after [] two_readers_acts) (reads_b 5) (reads_a 5)
+    (acts_from 0 24 two_readers_acts) =
+    order (reads_b 5) (reads_a 5) 5 (acts_from 0 24 two_readers_acts) refl refl refl refl
+    (begun-at two_readers_acts 16 24 2 3 1 2 1 0 refl refl) in
     one-below-zero (held.read 1 0 (record { answered = refl; at = refl }) (record { answered = refl; at = refl }))

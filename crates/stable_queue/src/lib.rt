@@ -5,9 +5,10 @@
 //! In contracts a queue is the record of a set of pairs of a final identifier and a transaction, and
 //! of `spare`, the number of pairs for which there is room.
 //!
-//! The commits stand in order. An `add` compares at most p of n commits, where 2^p is at most 2n + 1,
-//! and moves those behind its place by one: none, where its final identifier is the greatest. The
-//! least commit is the first, and taking it out moves all others by one, in one pass.
+//! The commits stand in a table in order. An `add` looks its place up by halving and moves the commits
+//! behind it by one: none, where its final identifier is the greatest. The least commit is the first,
+//! and taking it out moves all others by one, in one pass. The contracts say what is answered, not what
+//! it costs: only the look-up of the table has a bound that is proved.
 //!
 //! Only `reserve` takes memory.
 #![tactic(auto)]

@@ -1,9 +1,9 @@
 //! What is pending, what ended, and the clock's floor.
 ghost use Rattle.std.specs.Prelude.{◌≡◌, ◌∷◌, List, reverse};
 ghost use Rattle.score_base.specs.declared.records.Record.{Record};
-ghost use Rattle.journal_words.specs.Journals.{pending, ended, floor};
+ghost use Rattle.journal_words.specs.Journals.{pending, names_part, ended, floor};
 
-use score_base::{Ident, Outcome, Record, TxId};
+use score_base::{Ident, NodeId, Outcome, Record, TxId};
 
 /// What is pending of t behind one more record.
 fn pending_behind(rec: &Record, t: TxId, before: Option<Ident>) -> Option<Ident>
@@ -26,6 +26,28 @@ pub fn pending(records: &[Record], t: TxId) -> Option<Ident>
         found = pending_behind(rec, t, found);
     }
     found
+}
+
+/// Whether the newest Prepared of t names m among its parts, behind one more record.
+fn names_part_behind(rec: &Record, t: TxId, m: NodeId, before: bool) -> bool
+    ensures { (r : List Record) → before ≡ names_part t m r → result ≡ names_part t m (rec.now ∷ r) }
+{
+    match rec {
+        Record::Prepared { t: u, parts, .. } if *u == t => parts.as_slice().contains(&m),
+        _ => before,
+    }
+}
+
+/// Whether the newest Prepared of t names m among its parts.
+#[tactic(auto, using(crate::proofs::Newest::newest_more))]
+pub fn names_part(records: &[Record], t: TxId, m: NodeId) -> bool
+    ensures { result ≡ names_part t m (reverse records.now) }
+{
+    let mut named = false;
+    for rec in records {
+        named = names_part_behind(rec, t, m, named);
+    }
+    named
 }
 
 /// How t ended behind one more record.

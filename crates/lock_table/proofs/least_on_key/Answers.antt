@@ -26,4 +26,5 @@ returns-then-lock c =
 
 pub returns : goal.returns
 returns c =
-    past_all c.args.writes c.args.locks.now.pairs c.loop-i.i c.args.t c.args.key.now (grind (arith, common_steps)) c.loop-i.invariant.left
+    past_all c.args.writes c.args.locks.now.pairs c.loop-i.i c.args.t c.args.key.now
+    (grind (arith, common_steps)) c.loop-i.invariant.left

@@ -6,8 +6,12 @@ use Rattle.lock_table.proofs.take_writes.Given as goal
 abbrev pub invariant-loop-write : goal.invariant-loop-write
 invariant-loop-write l = record {
   idle : (k : List ℕ) → holds_in (locks_of l.locks.pairs) l.t k ≡ writes_in (locks_of l.locks.pairs) l.t k;
-  keys : (u : ℕ) (k : List ℕ) → (holds_in (locks_of l.locks.pairs) u k || (nat_eq u l.t && is_written (drop l.write-index l.writes) k)) ≡ (holds_in (locks_of l.initial.locks.pairs) u k || (nat_eq u l.t && is_written l.writes k));
-  written : (u : ℕ) (k : List ℕ) → (writes_in (locks_of l.locks.pairs) u k || (nat_eq u l.t && is_written (drop l.write-index l.writes) k)) ≡ (writes_in (locks_of l.initial.locks.pairs) u k || (nat_eq u l.t && is_written l.writes k));
+  keys : (u : ℕ) (k : List ℕ)
+      → (holds_in (locks_of l.locks.pairs) u k || (nat_eq u l.t && is_written (drop l.write-index l.writes) k)) ≡
+      (holds_in (locks_of l.initial.locks.pairs) u k || (nat_eq u l.t && is_written l.writes k));
+  written : (u : ℕ) (k : List ℕ)
+      → (writes_in (locks_of l.locks.pairs) u k || (nat_eq u l.t && is_written (drop l.write-index l.writes) k)) ≡
+      (writes_in (locks_of l.initial.locks.pairs) u k || (nat_eq u l.t && is_written l.writes k));
   spare : l.initial.locks.spare ≤ l.locks.spare + l.write-index;
   numbered : AreNumbered l.initial.locks.pairs → AreNumbered l.locks.pairs;
 }

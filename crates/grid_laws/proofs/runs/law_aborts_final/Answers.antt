@@ -1,7 +1,7 @@
 use Rattle.std.proofs.Common.{[]}
 use Rattle.grid_model.specs.Histories.{after}
 use Rattle.grid_laws.proofs.RunsDue.{due-run}
-use Rattle.grid_laws.proofs.AbortsFinal.{aborts-final}
+use Rattle.grid_laws.proofs.EndsMeant.{aborts-final}
 use Rattle.grid_laws.proofs.runs.law_aborts_final.Goals as goal
 
 pub returns : goal.returns

@@ -5,7 +5,7 @@ use Rattle.grid_laws.proofs.NodesFitActs.{locks-exclude, records-fit}
 use Rattle.grid_laws.proofs.MessagesBacked.{messages-backed}
 use Rattle.grid_laws.proofs.Promises.{served-promised, never-held}
 use Rattle.grid_laws.proofs.DecisionsRest.{decisions-rest}
-use Rattle.grid_laws.proofs.AbortsFinal.{aborts-final}
+use Rattle.grid_laws.proofs.EndsMeant.{aborts-final}
 use Rattle.grid_laws.proofs.runs.law_facts.Goals as goal
 
 pub returns : goal.returns

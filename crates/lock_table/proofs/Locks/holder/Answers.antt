@@ -12,8 +12,10 @@ returns-clause-none c =
     let reads = c.args.reads.now in
     let writes = c.args.writes.now in
     let least : IsLeastOther (meets_in ls reads writes) c.args.t c.lesser.result =
-    least_of_both (λ u. list_any (λ w. holds_in ls u w.0) writes) (λ u. list_any (λ k. writes_in ls u k) reads) (meets_in ls reads writes) c.args.t
-    c.least_on_writes.result c.least_on_reads.result c.lesser.result (λ u. refl) c.lesser.ensures c.least_on_writes.ensures c.least_on_reads.ensures in
+    least_of_both (λ u. list_any (λ w. holds_in ls u w.0) writes) (λ u. list_any (λ k. writes_in ls u k) reads)
+    (meets_in ls reads writes) c.args.t
+    c.least_on_writes.result c.least_on_reads.result c.lesser.result
+    (λ u. refl) c.lesser.ensures c.least_on_writes.ensures c.least_on_reads.ensures in
     rw (← c.self.view_is) (no_holder c.lesser.result ls locks.spare c.args.t reads writes least)
 
 pub returns-clause-holder : goal.returns-clause-holder
@@ -23,6 +25,8 @@ returns-clause-holder c =
     let reads = c.args.reads.now in
     let writes = c.args.writes.now in
     let least : IsLeastOther (meets_in ls reads writes) c.args.t c.lesser.result =
-    least_of_both (λ u. list_any (λ w. holds_in ls u w.0) writes) (λ u. list_any (λ k. writes_in ls u k) reads) (meets_in ls reads writes) c.args.t
-    c.least_on_writes.result c.least_on_reads.result c.lesser.result (λ u. refl) c.lesser.ensures c.least_on_writes.ensures c.least_on_reads.ensures in
+    least_of_both (λ u. list_any (λ w. holds_in ls u w.0) writes) (λ u. list_any (λ k. writes_in ls u k) reads)
+    (meets_in ls reads writes) c.args.t
+    c.least_on_writes.result c.least_on_reads.result c.lesser.result
+    (λ u. refl) c.lesser.ensures c.least_on_writes.ensures c.least_on_reads.ensures in
     rw (← c.self.view_is) (the_holder c.lesser.result ls locks.spare c.args.t reads writes least)

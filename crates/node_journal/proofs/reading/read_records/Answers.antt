@@ -1,5 +1,8 @@
 use Rattle.std.proofs.Common.{◌+◌, ◌<◌, IsTrue, length, sym, subst, rules, arith, drop, take}
+use Rattle.std.specs.List.{All}
 use Rattle.std.proofs.lemmas.Grind.{common_steps}
+use Rattle.std.proofs.lemmas.List.Elements.{All-push}
+use Rattle.journal_records.specs.Records.{IsRecord}
 use Rattle.node_journal.specs.declared.reading.Gate.TheVariants.{Open}
 use Rattle.node_journal.specs.Gates.{IsGate}
 use Rattle.node_journal.specs.Log.{Spells}
@@ -11,6 +14,9 @@ gates-preserved g c = record {
   low = search rules;
   inside = search rules;
   count = grind (arith, common_steps);
+  fit =
+      let one = rw c.in-Ok-Open.field-0-is at c.in-Ok-Open.ensures.fit in
+      subst (All IsRecord) (sym c.in-Ok.ensures.ok) (All-push IsRecord c.gates.records.items c.in-Ok-Open.record c.gates.invariant.fit one);
   spelled = λ t.
       let seen = (g.D.Disk.file c.args.disk.now).seen in
       let told : IsTrue (g.D.Disk.tells c.gates.disk) = subst IsTrue (sym c.gates.invariant.tells) t in
