@@ -1,0 +1,282 @@
+//! A store: its fields, what it answers, and how it takes in a record.
+
+ghost use Rattle.std.specs.Prelude.{◌≡◌, ◌+◌, ◌≤◌, ◌<◌, ◌↔◌, ◌∷◌, ◌^◌, [], true, max, length, Some, IsTrue, IsNone, IfSome, IfOk, OnOk};
+ghost use Rattle.score_base.specs.declared.ids.Ident.{Ident};
+ghost use Rattle.score_base.specs.declared.ids.TxId.{TxId};
+ghost use Rattle.placement.specs.Clusters.{init};
+ghost use Rattle.node_clock.specs.Clock.{IsCeiling};
+ghost use Rattle.stable_queue.specs.Commits.{is_below};
+ghost use Rattle.journal_words.specs.Journals.{home_in, home_of, pending, is_clear, ended, commit_id, version_at, holder, newer, floor, learnt, is_above, fits, all_fit};
+ghost use Rattle.grid_store.specs.Given.{HasRoom, IsSame, IsLeastPending};
+ghost use Rattle.grid_store.specs.Keeping.{said_by};
+
+use crate::clocks::learn;
+use crate::locks::{make_room, settle, take};
+use crate::outcomes::end;
+use crate::pends::pend;
+use crate::places::place;
+use crate::tables::had;
+use journal_words::records;
+use lock_table::Locks;
+use node_clock::NodeClock;
+use pending_queue::Pending;
+use placement::Cluster;
+use score_base::{Ident, Key, Memory, NodeId, Ordered, Outcome, Record, TxId, Value};
+use stable_queue::Stable;
+use std::alloc::Global;
+use std::marker::Model;
+
+/// What a node knows by its records.
+#[derive(Drop)]
+pub struct Store {
+    node: NodeId,
+    cluster: Cluster,
+    records: Vec<Record>,
+    places: Ordered<TxId, usize>,
+    outcomes: Ordered<TxId, Outcome>,
+    pending: Pending,
+    clock: NodeClock<64>,
+    stable: Stable,
+    applied: Ident,
+    locks: Locks,
+}
+
+impl Model for Store {
+    ghost use Rattle.std.specs.Prelude.{◌-◌, min, reverse, vec_len, vec_capacity};
+    ghost use Rattle.grid_store.specs.Given.{Given};
+    ghost use Rattle.grid_store.specs.Keeping.{Keeps};
+
+    ghost Value = { Given };
+
+    ghost view = { λ s. record {
+      node = s.node;
+      cluster = s.cluster;
+      journal = reverse s.records.items;
+      next = s.clock.next;
+      room = record {
+        records = min (vec_capacity s.records - vec_len s.records)
+            (min s.places.spare (min s.outcomes.spare (min s.pending.spare s.stable.spare)));
+        keys = s.locks.spare;
+      };
+    } };
+
+    ghost invariant = { λ s. Keeps s.cluster s.node s.records.items s.places.pairs s.outcomes.pairs
+        s.pending.proposals s.clock s.stable.commits s.applied s.locks };
+}
+
+impl Store {
+    /// The store of a node without records.
+    pub fn new(alloc: Global, cluster: Cluster, node: NodeId) -> Store
+        ensures node { result.node ≡ node }
+        ensures cluster { result.cluster ≡ cluster }
+        ensures journal { result.journal ≡ [] }
+        ensures next { result.next ≡ 0 }
+    {
+        Store {
+            node,
+            cluster,
+            records: Vec::new(alloc),
+            places: Ordered::new(alloc),
+            outcomes: Ordered::new(alloc),
+            pending: Pending::new(alloc),
+            clock: NodeClock::new(),
+            stable: Stable::new(alloc),
+            applied: Ident(0),
+            locks: Locks::new(alloc),
+        }
+    }
+
+    /// The node.
+    pub fn node(&self) -> NodeId
+        ensures { result ≡ self.now.node }
+    {
+        self.node
+    }
+
+    /// The cluster.
+    pub fn cluster(&self) -> &Cluster
+        ensures { result.now ≡ self.now.cluster }
+    {
+        &self.cluster
+    }
+
+    /// How many records it was given.
+    pub fn len(&self) -> usize
+        ensures { result ≡ length self.now.journal }
+    {
+        self.records.len()
+    }
+
+    /// The proposal of t where it is pending.
+    pub fn pending(&self, t: TxId) -> Option<Ident>
+        ensures { result ≡ pending t self.now.journal }
+    {
+        self.pending.proposal(t)
+    }
+
+    /// How t ended, where it ended.
+    pub fn ended(&self, t: TxId) -> Option<Outcome>
+        ensures { result ≡ ended t self.now.journal }
+    {
+        had(&self.outcomes, t)
+    }
+
+    /// The home of t, where t has a Prepared record.
+    pub fn home(&self, t: TxId) -> Option<NodeId>
+        ensures { result ≡ home_of t self.now.journal }
+    {
+        match had(&self.places, t) {
+            Some(i) => home_in(&self.records[i]),
+            None => None,
+        }
+    }
+
+    /// The least pending proposal; `None` exactly where nothing is pending.
+    pub fn least(&self) -> Option<Ident>
+        ensures none { IsNone result ↔ ((t : TxId) → IsNone (pending t self.now.journal)) }
+        ensures least { IfSome result (IsLeastPending self.now.journal) }
+        ensures clear { (f : Ident) → is_below result f ≡ is_clear f self.now.journal }
+    {
+        self.pending.least()
+    }
+
+    /// The commit identifier: the greatest final identifier that is applied; 0 where there is none.
+    pub fn commit_id(&self) -> Ident
+        ensures { result ≡ commit_id self.now.journal }
+    {
+        self.applied
+    }
+
+    /// The floor: the greatest proposal, final identifier and ceiling.
+    pub fn floor(&self) -> Ident
+        ensures { result ≡ floor self.now.journal }
+    {
+        self.clock.floor()
+    }
+
+    /// The number above which the next proposal is.
+    pub fn next(&self) -> Ident
+        ensures { result ≡ self.now.next }
+    {
+        self.clock.next()
+    }
+
+    /// The ceiling that has to be promised before a read at `sid` may be answered; `None` exactly
+    /// where `sid` is at most the floor.
+    pub fn needs(&self, sid: Ident) -> Option<Ident>
+        requires sid { sid < 2 ^ 22 }
+        requires next { self.now.next < 2 ^ 22 }
+        ensures none { IsNone result ↔ (sid ≤ floor self.now.journal) }
+        ensures ceiling { IfSome result (IsCeiling 64 sid) }
+    {
+        self.clock.needs(sid)
+    }
+
+    /// The proposal for a transaction with the snapshot identifier `sid`: above it, above `next`, and
+    /// so above every proposal and every final identifier.
+    pub fn propose(&self, sid: Ident) -> Ident
+        requires sid { sid < 2 ^ 22 }
+        requires next { self.now.next < 2 ^ 22 }
+        ensures value { result ≡ 1 + max self.now.next sid }
+        ensures above { is_above result self.now.journal ≡ true }
+    {
+        self.clock.propose(sid)
+    }
+
+    /// The least transaction other than t that holds a key of these lists against it.
+    pub fn holder(&self, reads: &[Key], writes: &[(Key, Value)], t: TxId) -> Option<TxId>
+        ensures { result ≡ holder self.now.journal t reads.now writes.now }
+    {
+        self.locks.holder(reads, writes, t)
+    }
+
+    /// The applied version of the key with the greatest identifier at most `sid`, or the initial one:
+    /// its identifier and its value.
+    pub fn at(&self, alloc: Global, key: &Key, sid: Ident) -> Result<(Ident, Value), Memory>
+        ensures { let seen = version_at self.now.journal key.now (init self.now.cluster key.now) sid in
+            IfOk result (λ v. v ≡ (seen.ident, seen.value)) }
+    {
+        let start = self.cluster.init(key);
+        let found = records::version_at(alloc, self.records.as_slice(), key, start, sid)?;
+        Ok((found.ident, found.value))
+    }
+
+    /// The first of these keys that has an applied version above `sid`, and its identifier.
+    pub fn newer(
+        &self,
+        alloc: Global,
+        reads: &[Key],
+        sid: Ident,
+    ) -> Result<Option<(Key, Ident)>, Memory>
+        ensures { IfOk result (λ found. found ≡ newer self.now.journal reads.now sid) }
+    {
+        records::newer(alloc, self.records.as_slice(), reads, sid)
+    }
+
+    /// Whether a record fits those that the store has.
+    pub fn fits(&self, alloc: Global, rec: &Record) -> Result<bool, Memory>
+        ensures { IfOk result (λ fit. fit ≡ fits self.now.cluster self.now.node self.now.journal rec.now) }
+    {
+        records::fits(
+            alloc,
+            &self.cluster,
+            self.node,
+            self.records.as_slice(),
+            rec,
+        )
+    }
+
+    /// Makes room for a record. All else is as before, also after [`Memory`].
+    pub fn reserve(&mut self, rec: &Record) -> Result<(), Memory>
+        ensures room { OnOk result (HasRoom rec.now self.new.room) }
+        ensures same { IsSame self.old self.new }
+    {
+        self.records.reserve(1)?;
+        self.places.reserve(1)?;
+        self.outcomes.reserve(1)?;
+        self.pending.reserve(1)?;
+        self.stable.reserve(1)?;
+        make_room(&mut self.locks, rec)
+    }
+
+    /// Takes in a record that fits those before it, for which room was made.
+    pub fn admit(&mut self, rec: Record)
+        requires fits { fits self.old.cluster self.old.node self.old.journal rec ≡ true }
+        requires room { HasRoom rec self.old.room }
+        ensures journal { self.new.journal ≡ rec ∷ self.old.journal }
+        ensures next { self.new.next ≡ learnt (Some rec) self.old.next }
+        ensures node { self.new.node ≡ self.old.node }
+        ensures cluster { self.new.cluster ≡ self.old.cluster }
+    {
+        place(&mut self.places, self.records.len(), &rec);
+        end(&mut self.outcomes, &rec);
+        pend(&mut self.pending, &rec);
+        learn(&mut self.clock, &rec);
+        take(&mut self.stable, &mut self.locks, &rec);
+        settle(
+            &mut self.stable,
+            &mut self.locks,
+            &mut self.applied,
+            &self.pending,
+        );
+        self.records.push_reserved(rec);
+    }
+
+    /// Raises `next` to `sid`, where it is below; tells whether it rose. All else is as before.
+    pub fn raise(&mut self, sid: Ident) -> bool
+        ensures rose { IsTrue result ↔ (self.old.next < self.new.next) }
+        ensures new { self.new ≡ record self.old { next = max self.old.next sid } }
+    {
+        self.clock.raise(sid)
+    }
+}
+
+/// The home that a Prepared record names.
+fn home_in(rec: &Record) -> Option<NodeId>
+    ensures { result ≡ home_in (said_by rec.now) }
+{
+    match rec {
+        Record::Prepared { home, .. } => Some(*home),
+        _ => None,
+    }
+}

@@ -1,0 +1,298 @@
+//! Stores of worked journals: what they answer, and where a record does not fit.
+ghost use Rattle.std.specs.Prelude.{◌≡◌, ◌≤◌, ◌∷◌, [], codes, IfOk, IsTrue};
+ghost use Rattle.score_base.specs.Keys.{is_key};
+
+use super::*;
+use placement::{Cluster, Places};
+use score_base::{
+    Ident, Key, KeyList, Memory, NodeId, NodeList, Outcome, Record, TryCopy, TxId, Value,
+    WriteList, push,
+};
+use std::alloc::Global;
+use std::test::Fail;
+
+fn node(number: u8) -> NodeId
+    requires least { 1 ≤ number }
+    requires most { number ≤ 16 }
+    ensures { result ≡ number }
+{
+    NodeId { number }
+}
+
+fn tx(number: u16) -> TxId
+    requires { 1 ≤ number }
+    ensures { result ≡ number }
+{
+    TxId { number }
+}
+
+fn key(bytes: &[u8]) -> Key
+    requires { IsTrue (is_key bytes.now) }
+    ensures { result ≡ bytes.now }
+{
+    Key::new(bytes).unwrap()
+}
+
+fn places(alloc: Global) -> Result<Places, Memory>
+    ensures { IfOk result (λ p. p ≡ (1 ∷ []) ∷ (2 ∷ []) ∷ []) }
+{
+    let mut first = NodeList::new(alloc);
+    first.push(node(1))?;
+    let mut second = NodeList::new(alloc);
+    second.push(node(2))?;
+    let mut partitions = Vec::new(alloc);
+    push(&mut partitions, first)?;
+    push(&mut partitions, second)?;
+    Ok(Places::new(partitions))
+}
+
+/// Two nodes: `b` is on n1, and `a`, with the value 10, and `c` are on n2.
+fn cluster(alloc: Global) -> Result<Cluster, Memory> {
+    let mut inits = WriteList::new(alloc);
+    inits.push((key(b"a"), Value(10)))?;
+    Ok(Cluster {
+        nodes: 2,
+        places: places(alloc)?,
+        inits,
+    })
+}
+
+/// The Prepared record at n2 of a transaction of n1, with its snapshot and its proposal.
+fn prepared(
+    alloc: Global,
+    t: TxId,
+    idents: (u64, u64),
+    reads: &[Key],
+    writes: &[(Key, Value)],
+) -> Result<Record, Memory> {
+    let mut parts = NodeList::new(alloc);
+    parts.push(node(2))?;
+    Ok(Record::Prepared {
+        t,
+        home: node(1),
+        parts,
+        sid: Ident(idents.0),
+        p: Ident(idents.1),
+        reads: KeyList::from_vec(Vec::from_slice(alloc, reads)?),
+        writes: WriteList::from_vec(Vec::from_slice(alloc, writes)?),
+    })
+}
+
+fn committed(t: TxId, f: u64) -> Record {
+    let outcome = Outcome::Commit(Ident(f));
+    Record::Ended { t, outcome }
+}
+
+fn aborted(t: TxId) -> Record {
+    let outcome = Outcome::Abort;
+    Record::Ended { t, outcome }
+}
+
+/// t1 reads `a` and writes `c`, and proposes 1.
+fn first_vote(alloc: Global) -> Result<Record, Memory> {
+    prepared(
+        alloc,
+        tx(1),
+        (0, 1),
+        &[key(b"a")],
+        &[(key(b"c"), Value(11))],
+    )
+}
+
+/// t2 reads `a`, and proposes 2.
+fn second_vote(alloc: Global) -> Result<Record, Memory> {
+    prepared(alloc, tx(2), (0, 2), &[key(b"a")], &[])
+}
+
+/// The records of n2 behind the two votes.
+fn two_votes(alloc: Global) -> Result<Vec<Record>, Memory> {
+    let mut records = Vec::new(alloc);
+    push(&mut records, first_vote(alloc)?)?;
+    push(&mut records, second_vote(alloc)?)?;
+    Ok(records)
+}
+
+/// These records with one more.
+fn with(records: Vec<Record>, rec: Record) -> Result<Vec<Record>, Memory> {
+    let mut records = records;
+    push(&mut records, rec)?;
+    Ok(records)
+}
+
+/// Then t2 commits at 5, while t1 is pending with the proposal 1.
+fn one_commit(alloc: Global) -> Result<Vec<Record>, Memory> {
+    with(two_votes(alloc)?, committed(tx(2), 5))
+}
+
+/// Then t1 commits at 6.
+fn two_commits(alloc: Global) -> Result<Vec<Record>, Memory> {
+    with(one_commit(alloc)?, committed(tx(1), 6))
+}
+
+/// Then n2 promises reads up to 64.
+fn with_ceiling(alloc: Global) -> Result<Vec<Record>, Memory> {
+    with(two_commits(alloc)?, Record::Ceiling { c: Ident(64) })
+}
+
+/// The store of n2 behind these records.
+fn store_of(alloc: Global, records: &[Record]) -> Result<Store, Fail> {
+    let cluster = cluster(alloc)?;
+    match Store::replay(alloc, &cluster, node(2), records) {
+        Ok(store) => Ok(store),
+        Err(_) => Err(Fail::new("no store")),
+    }
+}
+
+/// The transaction that holds `a` against t where t writes it.
+fn holder_of_a(store: &Store, t: TxId) -> Option<TxId> {
+    store.holder(&[], &[(key(b"a"), Value(1))], t)
+}
+
+/// Two are pending.
+fn are_pending(store: &Store) -> bool {
+    store.pending(tx(1)) == Some(Ident(1))
+        && store.pending(tx(2)) == Some(Ident(2))
+        && store.pending(tx(3)) == None
+        && store.least() == Some(Ident(1))
+        && store.home(tx(2)) == Some(node(1))
+        && store.home(tx(3)) == None
+}
+
+/// A key that both read is held against a write alone, and one that t1 writes against a read.
+fn are_locked(store: &Store) -> bool {
+    store.holder(&[key(b"a")], &[], tx(3)) == None
+        && holder_of_a(store, tx(3)) == Some(tx(1))
+        && holder_of_a(store, tx(1)) == Some(tx(2))
+        && store.holder(&[key(b"c")], &[], tx(2)) == Some(tx(1))
+}
+
+fn votes_stand(alloc: Global) -> Result<bool, Fail> {
+    let records = two_votes(alloc)?;
+    let store = store_of(alloc, records.as_slice())?;
+    Ok(are_pending(&store) && are_locked(&store))
+}
+
+// What two votes leave: they are pending, and hold their keys.
+#[test]
+fn locks_of_reads(rt: HostRuntime) -> Result<(), Fail> {
+    assert!(rt; votes_stand(rt.alloc())?);
+    Ok(())
+}
+
+fn is_commit_at(outcome: &Option<Outcome>, f: Ident) -> bool {
+    match outcome {
+        Some(Outcome::Commit(g)) => *g == f,
+        _ => false,
+    }
+}
+
+/// t2 is committed and holds what it read.
+fn is_waiting(store: &Store) -> bool {
+    is_commit_at(&store.ended(tx(2)), Ident(5))
+        && store.pending(tx(2)) == None
+        && store.floor() == Ident(5)
+        && store.commit_id() == Ident(0)
+        && holder_of_a(store, tx(1)) == Some(tx(2))
+}
+
+/// All is applied, and nothing is held.
+fn is_over(store: &Store) -> bool {
+    is_commit_at(&store.ended(tx(1)), Ident(6))
+        && store.least() == None
+        && store.next() == Ident(6)
+        && store.commit_id() == Ident(6)
+        && holder_of_a(store, tx(3)) == None
+        && store.holder(&[key(b"c")], &[], tx(3)) == None
+}
+
+fn commit_waits(alloc: Global) -> Result<bool, Fail> {
+    let records = one_commit(alloc)?;
+    let store = store_of(alloc, records.as_slice())?;
+    Ok(is_waiting(&store))
+}
+
+fn commits_are_over(alloc: Global) -> Result<bool, Fail> {
+    let records = two_commits(alloc)?;
+    let store = store_of(alloc, records.as_slice())?;
+    Ok(is_over(&store))
+}
+
+// A commit keeps its keys until every pending proposal is above its final identifier.
+#[test]
+fn lock_until_applied(rt: HostRuntime) -> Result<(), Fail> {
+    assert!(rt; commit_waits(rt.alloc())?);
+    assert!(rt; commits_are_over(rt.alloc())?);
+    Ok(())
+}
+
+/// Floor and clock stand at the ceiling, and a read raises the clock alone.
+fn is_promised(store: &mut Store) -> bool {
+    store.floor() == Ident(64)
+        && store.next() == Ident(64)
+        && store.raise(Ident(70))
+        && !store.raise(Ident(65))
+        && store.next() == Ident(70)
+        && store.floor() == Ident(64)
+}
+
+fn ceiling_stands(alloc: Global) -> Result<bool, Fail> {
+    let records = with_ceiling(alloc)?;
+    let mut store = store_of(alloc, records.as_slice())?;
+    Ok(is_promised(&mut store))
+}
+
+// A ceiling is part of the floor, and so a clock that starts anew stands there.
+#[test]
+fn ceiling_after_crash(rt: HostRuntime) -> Result<(), Fail> {
+    assert!(rt; ceiling_stands(rt.alloc())?);
+    Ok(())
+}
+
+/// Whether this record is the first that does not fit, behind the two commits.
+fn is_strange(alloc: Global, last: Record) -> Result<bool, Fail> {
+    let cluster = cluster(alloc)?;
+    let records = with(two_commits(alloc)?, last)?;
+    match Store::replay(alloc, &cluster, node(2), records.as_slice()) {
+        Err(ReplayEnd::Strange(i)) => Ok(i == 4),
+        _ => Ok(false),
+    }
+}
+
+/// Whether a Prepared of t3 is.
+fn is_strange_vote(
+    alloc: Global,
+    idents: (u64, u64),
+    reads: &[Key],
+    writes: &[(Key, Value)],
+) -> Result<bool, Fail> {
+    is_strange(alloc, prepared(alloc, tx(3), idents, reads, writes)?)
+}
+
+// A Prepared: what fits; a proposal at its snapshot, and one at a final identifier; no key; a key
+// twice in a list; a key of another node; a newer version.
+#[test]
+fn votes_that_do_not_fit(rt: HostRuntime) -> Result<(), Fail> {
+    let a = key(b"a");
+    let c = key(b"c");
+    assert!(rt; !is_strange_vote(rt.alloc(), (6, 7), &[a, c], &[(a, Value(1))])?);
+    assert!(rt; is_strange_vote(rt.alloc(), (7, 7), &[a], &[])?);
+    assert!(rt; is_strange_vote(rt.alloc(), (5, 6), &[a], &[])?);
+    assert!(rt; is_strange_vote(rt.alloc(), (6, 7), &[], &[])?);
+    assert!(rt; is_strange_vote(rt.alloc(), (6, 7), &[a, a], &[])?);
+    assert!(rt; is_strange_vote(rt.alloc(), (6, 7), &[key(b"b")], &[])?);
+    assert!(rt; is_strange_vote(rt.alloc(), (5, 7), &[c], &[])?);
+    Ok(())
+}
+
+// An Ended of who ended, or never voted; a ceiling that is no multiple of 64, and one at or below the
+// floor; a Closed of what was not decided.
+#[test]
+fn others_that_do_not_fit(rt: HostRuntime) -> Result<(), Fail> {
+    assert!(rt; is_strange(rt.alloc(), committed(tx(1), 6))?);
+    assert!(rt; is_strange(rt.alloc(), aborted(tx(3)))?);
+    assert!(rt; is_strange(rt.alloc(), Record::Ceiling { c: Ident(65) })?);
+    assert!(rt; is_strange(rt.alloc(), Record::Ceiling { c: Ident(0) })?);
+    assert!(rt; is_strange(rt.alloc(), Record::Closed { t: tx(1) })?);
+    assert!(rt; !is_strange(rt.alloc(), Record::Ceiling { c: Ident(64) })?);
+    Ok(())
+}
