@@ -16,6 +16,7 @@
 #![tactic(auto)]
 
 mod clocks;
+mod laws;
 mod locks;
 mod outcomes;
 mod pends;
@@ -24,6 +25,7 @@ mod replays;
 mod store;
 mod tables;
 
+pub use laws::law_home_room;
 pub use replays::ReplayEnd;
 pub use store::Store;
 
