@@ -22,17 +22,18 @@ use Rattle.grid_model.specs.Documents.{DocumentData, number_order, script_number
 use Rattle.grid_model.specs.Histories.{after}
 use Rattle.journal_words.specs.Journals.{Decision, commit_id, decision, is_closed, later_decision}
 use Rattle.journal_words.proofs.Later.{later-all, fresh-times}
+use Rattle.grid_model.specs.Disks.{is_compacting}
 use Rattle.grid_model.specs.Nodes.{Node, node, journal, script_of, is_home}
 use Rattle.grid_model.specs.Stories.{story, phase, phase_by, is_open, skipped_in, over_at}
 use Rattle.grid_model.specs.Views.{View, Open, open_at, view, stage, participant}
 use Rattle.grid_model.specs.Advances.{advance}
 use Rattle.grid_model.specs.Rows.{first_ident, answer, begin_outs, begun_at}
 use Rattle.grid_model.specs.Sessions.{floor_at}
-use Rattle.grid_model.specs.Schedules.{Choice, numbered, kept, broken, next_number, acts_of, flag_of, lost_at, opened_row, row, start_act, start_row, events_in}
+use Rattle.grid_model.specs.Schedules.{Choice, numbered, kept, broken, next_number, acts_of, flag_at, lost_at, opened_row, row, start_act, start_row, events_in}
 use Rattle.grid_model.specs.Runs.{Rows, IsRun}
 use Rattle.grid_model.specs.NextViews.{OwnDecisions, is_running}
 use Rattle.grid_model.proofs.Undecided.{script-number}
-use Rattle.grid_model.proofs.EventShapes.{Shape, idle, arms, crashes, restarts, begins, delivers, again, IsAgain, retries, asks, asks_peer, acts_by, by-shape, idle-pass, after-append}
+use Rattle.grid_model.proofs.EventShapes.{Shape, idle, arms, crashes, restarts, begins, delivers, again, IsAgain, retries, asks, asks_peer, compacts, acts_by, by-shape, idle-pass, after-append}
 use Rattle.grid_model.proofs.ViewSteps.{here, at-desk, entry}
 use Rattle.grid_model.proofs.PlainOuts.{both, is_plain, are_plain}
 use Rattle.grid_model.proofs.NextSteps.{Given, answer-given, advance-plain, retry-plain, asks-plain, peers-plain}
@@ -83,6 +84,7 @@ plain-broken d n b k (out.Act (act.Prepared m t p) ∷ os) is = refl
 plain-broken d n b k (out.Act (act.Ended m t o) ∷ os) is = refl
 plain-broken d n b k (out.Act (act.Ceiling m c) ∷ os) is = refl
 plain-broken d n b k (out.Act (act.Closed t) ∷ os) is = refl
+plain-broken d n b k (out.Act (act.Compacted m) ∷ os) is = refl
 plain-broken d n b k (out.Act a ∷ os) is = plain-broken d n b k os (both (is_plain d n b (out.Act a)) (are_plain d n b os) is).1
 
 plain-calm : (d : DocumentData) (n : NodeId) (b : Bool) (keeps : Bool) (k : ℕ) (os : List Out) → IsTrue (are_plain d n b os) → IsTrue (are_calm (numbered k n (kept keeps n os)))
@@ -147,6 +149,7 @@ again-plain : (d : DocumentData) (past : List Act) (n : NodeId) (os : List Out) 
 again-plain d past n os (retries t is) = rw is (retry-plain d n d.cluster t (stage (view d past n) t))
 again-plain d past n os (asks t is) = rw is (asks-plain d n (view d past n) t)
 again-plain d past n os (asks_peer t m is) = rw is (peers-plain d n (view d past n) t m)
+again-plain d past n os (compacts is) = rw is refl
 
 -- ---- a restart
 
@@ -215,7 +218,7 @@ shape-owes : (d : DocumentData) (past : List Act) → Keeps d past → (i : Item
 shape-owes d past kept_now i c (idle acts is) = calm-all d past acts (idle-pass is_calm (λ code. refl) (λ m. refl) (λ m. refl) acts is)
 shape-owes d past kept_now i c (arms n k how is) = (tt, tt)
 shape-owes d past kept_now i c (crashes n up) = (tt, tt)
-shape-owes d past kept_now i c (restarts n up) = restart-owes d past kept_now n (flag_of (node d past n).doubt c.finds) c.opens
+shape-owes d past kept_now i c (restarts n up) = restart-owes d past kept_now n (flag_at (is_compacting past n) (node d past n).doubt c.finds) c.opens
 shape-owes d past kept_now i c (begins s is new up quiet) = begin-owes d past s (floor_at d past s) kept_now is new (next_number past) c.keeps
 shape-owes d past kept_now i c (delivers m e is up) = (tt, given-owes d past e.to m (next_number past) c.keeps (answer e.to (view d past e.to) e.from e.message) (answer-given d past e.to e.from e.message (kept-own d past e.to kept_now)))
 shape-owes d past kept_now i c (again n os up is) = calm-all d past (acts_of past c n os) (plain-calm d n false c.keeps (next_number past) os (again-plain d past n os is))
