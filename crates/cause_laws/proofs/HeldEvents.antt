@@ -147,7 +147,8 @@ shape-kept : (d : DocumentData) (past : List Act) → ((n : NodeId) → HoldsWai
 shape-kept d past h i c (idle acts is) fit = unheld-event d past acts (unheld-idle acts is) h
 shape-kept d past h i c (arms n k how is) fit = unheld-event d past (act.Armed n k how ∷ []) refl h
 shape-kept d past h i c (crashes n up) fit = unheld-event d past (act.Down n None ∷ []) refl h
-shape-kept d past h i c (restarts n up) fit = restart-event d past n (flag_at (is_compacting past n) (node d past n).doubt c.finds) c.opens up h
+shape-kept d past h i c (restarts n up) fit =
+    restart-event d past n (flag_at (is_compacting past n) (node d past n).doubt c.finds) c.opens up h
 shape-kept d past h i c (begins s is new up quiet) fit = unheld-event d past (acts_of past c s.home (begin_outs s.home (participant (view d past s.home)) s (floor_at d past s))) (unheld-acts (next_number past) s.home c.keeps (begin_outs s.home (participant (view d past s.home)) s (floor_at d past s)) (unheld-advance d.cluster (begun_at s (first_at d past s)) 0)) h
 shape-kept d past h i c (delivers m e is up) fit = got-event d past m e c.keeps is (fit-first d past m e (acts_of past c e.to (answer e.to (view d past e.to) e.from e.message)) is fit) up h
 shape-kept d past h i c (again n os up is) fit =

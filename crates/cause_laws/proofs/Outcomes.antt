@@ -42,7 +42,8 @@ well-shape : (d : DocumentData) (past : List Act) → IsOne d → AllDue d past 
 well-shape d past one all i c (idle acts is) = idle-pass (is_well_act d) (λ code. refl) (λ m. refl) (λ m. refl) acts is
 well-shape d past one all i c (arms n k how is) = refl
 well-shape d past one all i c (crashes n up) = refl
-well-shape d past one all i c (restarts n up) = well-restart d past n (flag_at (is_compacting past n) (node d past n).doubt c.finds) c.opens
+well-shape d past one all i c (restarts n up) =
+    well-restart d past n (flag_at (is_compacting past n) (node d past n).doubt c.finds) c.opens
 well-shape d past one all i c (begins s is new up quiet) = well-outs d (next_number past) s.home c.keeps (begin_outs s.home (participant (view d past s.home)) s (floor_at d past s)) (well-advance d s.home (begun_at s (first_at d past s)) 0)
 well-shape d past one all i c (delivers m e is up) = well-outs d (next_number past) e.to c.keeps (answer e.to (view d past e.to) e.from e.message) (well-answer d past e.to e.from e.message (sent-ends d past one all m e is))
 well-shape d past one all i c (again n os up is) = well-outs d (next_number past) n c.keeps os (well-again d past n os all is)
@@ -69,7 +70,8 @@ shape-kind : (d : DocumentData) (past : List Act) → IsOne d → AllDue d past 
 shape-kind d past one all i c (idle acts is) = plain (idle-pass is_middle (λ code. refl) (λ m. refl) (λ m. refl) acts is)
 shape-kind d past one all i c (arms n k how is) = plain refl
 shape-kind d past one all i c (crashes n up) = plain refl
-shape-kind d past one all i c (restarts n up) = kind-restart d past n (flag_at (is_compacting past n) (node d past n).doubt c.finds) c.opens up
+shape-kind d past one all i c (restarts n up) =
+    kind-restart d past n (flag_at (is_compacting past n) (node d past n).doubt c.finds) c.opens up
 shape-kind d past one all i c (begins s is new up quiet) = plain (middle-outs d (next_number past) s.home c.keeps (begin_outs s.home (participant (view d past s.home)) s (floor_at d past s)) (well-advance d s.home (begun_at s (first_at d past s)) 0))
 shape-kind d past one all i c (delivers m e is up) = got_first m e c.keeps (numbered (next_number past) e.to (kept c.keeps e.to (answer e.to (view d past e.to) e.from e.message))) is up refl refl (middle-outs d (next_number past) e.to c.keeps (answer e.to (view d past e.to) e.from e.message) (well-answer d past e.to e.from e.message (sent-ends d past one all m e is)))
 shape-kind d past one all i c (again n os up is) = plain (middle-outs d (next_number past) n c.keeps os (well-again d past n os all is))

@@ -75,7 +75,8 @@ shape-turn : (d : DocumentData) (past : List Act) (i : Item) (c : Choice) (s : S
 shape-turn d past i c (idle acts is) = untaking_turn (untaking-idle acts is)
 shape-turn d past i c (arms n k how is) = untaking_turn refl
 shape-turn d past i c (crashes n up) = untaking_turn refl
-shape-turn d past i c (restarts n up) = turn-restart d past n (flag_at (is_compacting past n) (node d past n).doubt c.finds) c.opens
+shape-turn d past i c (restarts n up) =
+    turn-restart d past n (flag_at (is_compacting past n) (node d past n).doubt c.finds) c.opens
 shape-turn d past i c (begins s is new up quiet) = begun_by s c.keeps is up refl
 shape-turn d past i c (delivers m e is up) =
     turn-delivered d past (acts_by d past i c (delivers m e is up)) m e.to e.from e.message c.keeps

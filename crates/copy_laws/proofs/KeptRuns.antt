@@ -1,6 +1,6 @@
 -- The claim on acknowledged commits is not empty: its premises hold together in worked runs, also where a
 -- record is in doubt, and what it says of them computes; where a part has no Prepared or another it is refuted.
-use Rattle.std.proofs.Common.{◌≡◌, true, false, IsTrue, List, [], ◌∷◌, ◌++◌, Option, Some, refl, ap, subst, arith, ◌==◌, ◌⊎◌, inl, inr, reverse, if◌then◌else◌}
+use Rattle.std.proofs.Common.{◌≡◌, Bool, true, false, IsTrue, List, [], ◌∷◌, ◌++◌, Option, Some, refl, ap, subst, arith, ◌==◌, ◌⊎◌, inl, inr, reverse, if◌then◌else◌}
 use Rattle.std.proofs.lemmas.Bool.{cases_eq}
 use Rattle.std.proofs.lemmas.Bool.Decides.{nat_tests}
 use Rattle.std.proofs.lemmas.Option.{none-some}
@@ -98,14 +98,19 @@ ending = record'.Ended 1 (outcome.Commit 1)
 
 -- the logs where the disk of n2 has that record
 abbrev pub doubtful_logs : NodeId → List Record
-doubtful_logs = λ n. if 2 == n then reverse (ending ∷ disklog doubtful stopped n) else reverse (disklog doubtful stopped n)
+doubtful_logs =
+    λ n. if 2 == n then reverse (ending ∷ disklog doubtful stopped n) else reverse (disklog doubtful stopped n)
 
 -- they are logs
 pub doubtful-logs : AreLogs doubtful stopped doubtful_logs
 doubtful-logs = record {
   each = λ n. elim (cases_eq 2 n) [
-    | inl same ↦ (let P : NodeId → Type 0 = λ m. IsLog doubtful stopped m (doubtful_logs m) in subst P same (in_doubt ending refl refl))
-    | inr other ↦ (let apart : (2 == n) ≡ false = grind (arith, nat_tests) in standing (ap (λ t. if t then reverse (ending ∷ disklog doubtful stopped n) else reverse (disklog doubtful stopped n)) apart))
+    | inl same ↦ (let P : NodeId → Type 0 = λ m. IsLog doubtful stopped m (doubtful_logs m) in
+        subst P same (in_doubt ending refl refl))
+    | inr other ↦ (let apart : (2 == n) ≡ false = grind (arith, nat_tests) in
+        let P : Bool → List Record = λ t.
+        if t then reverse (ending ∷ disklog doubtful stopped n) else reverse (disklog doubtful stopped n) in
+        standing (ap P apart))
   ];
 }
 

@@ -109,7 +109,8 @@ told-shape : (d : DocumentData) (past : List Act) (i : Item) (c : Choice) → Al
 told-shape d past i c all (idle acts is) = untaking-all d past acts (untaking-idle acts is) all
 told-shape d past i c all (arms n k how is) = all
 told-shape d past i c all (crashes n up) = λ t s e. untaking-told s d past (act.Down n None) t refl (all t s e)
-told-shape d past i c all (restarts n up) = told-restart d past n (flag_at (is_compacting past n) (node d past n).doubt c.finds) c.opens all
+told-shape d past i c all (restarts n up) =
+    told-restart d past n (flag_at (is_compacting past n) (node d past n).doubt c.finds) c.opens all
 told-shape d past i c all (begins s is new up quiet) = told-begin d past (next_number past) c.keeps s is all
 told-shape d past i c all (delivers m e is up) =
     told-answer d past m (next_number past) e.to e.from c.keeps e.message (is_reply e.message) refl is

@@ -85,14 +85,16 @@ shape-unarming : (d : DocumentData) (past : List Act) (i : Item) (c : Choice) �
 shape-unarming d past i c e (idle acts is) = idle-pass is_unarming (λ code. refl) (λ m. refl) (λ m. refl) acts is
 shape-unarming d past i c e (arms n k how is) = armed i n k how is e
 shape-unarming d past i c e (crashes n up) = refl
-shape-unarming d past i c e (restarts n up) = unarming-opened d past n (flag_at (is_compacting past n) (node d past n).doubt c.finds) c.opens
+shape-unarming d past i c e (restarts n up) =
+    unarming-opened d past n (flag_at (is_compacting past n) (node d past n).doubt c.finds) c.opens
 shape-unarming d past i c e (begins s is new up quiet) =
     unarming-acts past c s.home (begin_outs s.home (participant (view d past s.home)) s (floor_at d past s))
     (pass-begin is_unarming (λ t n sid0. refl) (λ t j v. refl) (λ t. refl) s.home (participant (view d past s.home)) s (floor_at d past s))
 shape-unarming d past i c e (delivers m x is up) =
     unarming-acts past c x.to (answer x.to (view d past x.to) x.from x.message)
     (pass-answer is_unarming x.to (view d past x.to) x.from x.message (row-unarming x.to x.message))
-shape-unarming d past i c e (again n os up is) = unarming-acts past c n os (pass-again is_unarming (λ m. refl) d past n os is)
+shape-unarming d past i c e (again n os up is) =
+    unarming-acts past c n os (pass-again is_unarming (λ m. refl) d past n os is)
 
 unfailing-acts : (past : List Act) (n : NodeId) (os : List Out) → Pass is_unfailing os
     → are_unfailing (acts_of past calm n os) ≡ true
@@ -112,7 +114,8 @@ shape-unfailing d past i e (begins s is new up quiet) =
 shape-unfailing d past i e (delivers m x is up) =
     unfailing-acts past x.to (answer x.to (view d past x.to) x.from x.message)
     (pass-answer is_unfailing x.to (view d past x.to) x.from x.message (row-unfailing x.to x.message))
-shape-unfailing d past i e (again n os up is) = unfailing-acts past n os (pass-again is_unfailing (λ m. refl) d past n os is)
+shape-unfailing d past i e (again n os up is) =
+    unfailing-acts past n os (pass-again is_unfailing (λ m. refl) d past n os is)
 
 -- a row, by its shape
 row-unarming_all : (d : DocumentData) (past : List Act) (i : Item) (c : Choice) → is_unfused i ≡ true
@@ -158,7 +161,8 @@ undoubted d (a ∷ past) n q =
     undoubted-one d (got past) a n (node d past n) both.0 (undoubted d past n both.1)
 
 -- nor a compaction
-uncompacting-one : (a : Act) (n : NodeId) (b : Bool) → is_unfailing a ≡ true → b ≡ false → compacting_behind a n b ≡ false
+uncompacting-one : (a : Act) (n : NodeId) (b : Bool) → is_unfailing a ≡ true → b ≡ false
+    → compacting_behind a n b ≡ false
 uncompacting-one (act.Down m None) n b q none = grind (arith, none)
 uncompacting-one (act.Down m (Some h)) n b q none = cc
 uncompacting-one (act.Up m f) n b q none = grind (arith, none)
@@ -177,11 +181,15 @@ same-flag false (Some x) finds e none = cc
 
 same-opened : (d : DocumentData) (past : List Act) (n : NodeId) (opens finds : Bool) → are_unfailing past ≡ true
     → are_unfailing
-    (if opens then opened_row d past n (flag_at (is_compacting past n) (node d past n).doubt finds) else act.StillDown n ∷ []) ≡ true
-    → (if opens then opened_row d past n (flag_at (is_compacting past n) (node d past n).doubt finds) else act.StillDown n ∷ [])
+    (if opens then opened_row d past n (flag_at (is_compacting past n) (node d past n).doubt finds)
+    else act.StillDown n ∷ []) ≡ true
+    → (if opens then opened_row d past n (flag_at (is_compacting past n) (node d past n).doubt finds)
+    else act.StillDown n ∷ [])
     ≡ opened_row d past n (flag_at (is_compacting past n) (node d past n).doubt false)
 same-opened d past n true finds before e =
-    ap (opened_row d past n) (same-flag (is_compacting past n) (node d past n).doubt finds (uncompacting past n before) (undoubted d past n before))
+    ap (opened_row d past n)
+    (same-flag (is_compacting past n) (node d past n).doubt finds (uncompacting past n before)
+    (undoubted d past n before))
 same-opened d past n false finds before e = cc
 
 shape-same : (d : DocumentData) (past : List Act) (i : Item) (c : Choice) → are_unfailing past ≡ true
@@ -239,7 +247,8 @@ lets-all false = refl
 let-one : (d : DocumentData) (past : List Act) (a : Act) (n : NodeId) → are_unarming past ≡ true
     → is_let d past a n ≡ true
 let-one d past (act.Up m flag.Kept) n e =
-    or_right (not (m == n)) _ (ap (lets_found (is_compacting past n)) (fuseless-at_stop d past n e) ∙ lets-all (is_compacting past n))
+    or_right (not (m == n)) _
+    (ap (lets_found (is_compacting past n)) (fuseless-at_stop d past n e) ∙ lets-all (is_compacting past n))
 let-one d past (act.Compacted m) n e = or_right (not (m == n)) _ (ap lets_compaction (fuseless d past n e))
 let-one d past a n e = or_right (not (is_record_at d a n)) _ (ap lets_record (fuseless d past n e))
 

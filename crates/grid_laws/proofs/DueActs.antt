@@ -33,7 +33,8 @@ own-due d past n (act.Ended k t o) due = let P : NodeId → Type 0 = λ j. Recor
 own-due d past n (act.Ceiling k c) due = let P : NodeId → Type 0 = λ j. RecordDue d past j (head.Ceiling c) in subst P (sym due.0) due.1
 own-due d past n (act.Decided t f) due = (n, due)
 own-due d past n (act.Closed t) due = (n, due)
-own-due d past n (act.Compacted k) due = let P : NodeId → Type 0 = λ j. RecordDue d past j head.Compact in subst P (sym due.0) due.1
+own-due d past n (act.Compacted k) due =
+    let P : NodeId → Type 0 = λ j. RecordDue d past j head.Compact in subst P (sym due.0) due.1
 own-due d past n a due = due
 
 kept-due : (d : DocumentData) (past : List Act) (n : NodeId) (m : ℕ) (os : List Out) → OutsDue d past n m os → AreDue d past (numbered m n os)

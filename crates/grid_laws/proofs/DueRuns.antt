@@ -37,7 +37,8 @@ due-outs d past c n os due = acts-due d past n (next_number past) c.keeps os due
 abbrev pub UnbegunUndecided : DocumentData → List Act → Type 0
 UnbegunUndecided d past = (t : TxId) (s : ScriptData) → script_of t d.scripts ≡ Some s → story d past t ≡ None → decision t (journal d past s.home) ≡ None
 
-due-again : (d : DocumentData) (past : List Act) (n : NodeId) (os : List Out) → ReadersAnswered d past → (node d past n).up ≡ true
+due-again : (d : DocumentData) (past : List Act) (n : NodeId) (os : List Out) → ReadersAnswered d past
+    → (node d past n).up ≡ true
     → IsAgain d past n os
     → OutsDue d past n (next_number past) os
 due-again d past n os answered up (retries t is) =
@@ -63,7 +64,8 @@ due-shape : (d : DocumentData) (past : List Act) (i : Item) (c : Choice) → Rea
 due-shape d past i c answered none (idle acts is) = due-idle d past acts is
 due-shape d past i c answered none (arms n k how is) = (tt, tt)
 due-shape d past i c answered none (crashes n up) = (up, tt)
-due-shape d past i c answered none (restarts n up) = due-restart d past n (flag_at (is_compacting past n) (node d past n).doubt c.finds) c.opens
+due-shape d past i c answered none (restarts n up) =
+    due-restart d past n (flag_at (is_compacting past n) (node d past n).doubt c.finds) c.opens
 due-shape d past i c answered none (begins s is new up quiet) = due-outs d past c s.home (begin_outs s.home (participant (view d past s.home)) s (floor_at d past s)) (due-begin d past (next_number past) s is up new quiet (none s.number s is new))
 due-shape d past i c answered none (delivers m e is up) = ((e, is, up), acts-due d (act.Got m ∷ past) e.to (next_number past) c.keeps (answer e.to (view d past e.to) e.from e.message) (due-answer d past e.to m (next_number past) e.from e.message answered up is))
 due-shape d past i c answered none (again n os up is) = due-outs d past c n os (due-again d past n os answered up is)

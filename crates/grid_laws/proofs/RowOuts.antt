@@ -150,7 +150,8 @@ pass-retry f c t (Commits y acks) = pass-tells f t (outcome.Commit y.final) (not
 pass-retry f c t Apart = refl
 
 -- what a home sends again and what a node asks have no act, and a compaction has one
-pub pass-again : (f : Act → Bool) → ((m : NodeId) → f (act.Compacted m) ≡ true) → (d : DocumentData) (past : List Act) (n : NodeId)
+pub pass-again : (f : Act → Bool) → ((m : NodeId) → f (act.Compacted m) ≡ true)
+    → (d : DocumentData) (past : List Act) (n : NodeId)
     (os : List Out) → IsAgain d past n os → Pass f os
 pass-again f compacted d past n os (retries t is) = rw is (pass-retry f d.cluster t (stage (view d past n) t))
 pass-again f compacted d past n os (asks t is) =

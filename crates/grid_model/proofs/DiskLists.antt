@@ -39,7 +39,8 @@ is_ordinary (act.Down m h) = false
 is_ordinary (act.Up m f) = false
 is_ordinary a = true
 
-quiet-change : (d : DocumentData) (e : Option Envelope) (a : Act) (n : NodeId) → is_ordinary a ≡ true → is_quiet (change d e a n) ≡ true
+quiet-change : (d : DocumentData) (e : Option Envelope) (a : Act) (n : NodeId) → is_ordinary a ≡ true
+    → is_quiet (change d e a n) ≡ true
 quiet-change d e (act.Down m h) n is = absurd (grind (arith, is))
 quiet-change d e (act.Up m f) n is = absurd (grind (arith, is))
 quiet-change d e (act.Served m t op k sid vn v) n is = quiet-at (m == n) _ (go (is_request (said_by e)))
@@ -50,7 +51,8 @@ quiet-change d e (act.Served m t op k sid vn v) n is = quiet-at (m == n) _ (go (
 quiet-change d e (act.Prepared m t p) n is = quiet-at (m == n) _ refl
 quiet-change d e (act.Ended m t o) n is = quiet-at (m == n) _ refl
 quiet-change d e (act.Ceiling m c) n is = quiet-at (m == n) _ refl
-quiet-change d e (act.Decided t f) n is = quiet-at (is_home d t n) (Writes (Some (record'.Decided t f (parts_in d (script_of t d.scripts))))) refl
+quiet-change d e (act.Decided t f) n is =
+    quiet-at (is_home d t n) (Writes (Some (record'.Decided t f (parts_in d (script_of t d.scripts))))) refl
 quiet-change d e (act.Closed t) n is = quiet-at (is_home d t n) (Writes (Some (record'.Closed t))) refl
 quiet-change d e (act.Raised m sid) n is = quiet-at (m == n) _ refl
 quiet-change d e (act.Held m t op sid) n is = quiet-at (m == n) _ refl
@@ -66,19 +68,26 @@ compact-doubt : (d : DocumentData) (e : Option Envelope) (h : Option Head) → i
 compact-doubt d e (Some head.Compact) is = refl
 compact-doubt d e h is = absurd (grind (arith, is))
 
-pub compacting-doubt : (d : DocumentData) (past : List Act) (n : NodeId) → is_compacting past n ≡ true → (node d past n).doubt ≡ None
+pub compacting-doubt : (d : DocumentData) (past : List Act) (n : NodeId) → is_compacting past n ≡ true
+    → (node d past n).doubt ≡ None
 compacting-doubt d [] n is = refl
 compacting-doubt d (act.Down m h ∷ past) n is = go (m == n) (λ e. compacting-doubt d past n e) is
   where
-    go : (b : Bool) → (is_compacting past n ≡ true → (node d past n).doubt ≡ None) → (if b then is_compact h else is_compacting past n) ≡ true → (changed (where_at b (Stops (doubt_of d (got past) h))) (node d past n)).doubt ≡ None
+    go : (b : Bool) → (is_compacting past n ≡ true → (node d past n).doubt ≡ None)
+        → (if b then is_compact h else is_compacting past n) ≡ true
+        → (changed (where_at b (Stops (doubt_of d (got past) h))) (node d past n)).doubt ≡ None
     go true before is = compact-doubt d (got past) h is
     go false before is = before is
 compacting-doubt d (act.Up m f ∷ past) n is = go (m == n) (λ e. compacting-doubt d past n e) is
   where
-    go : (b : Bool) → (is_compacting past n ≡ true → (node d past n).doubt ≡ None) → (if b then false else is_compacting past n) ≡ true → (changed (where_at b (Starts (is_kept f))) (node d past n)).doubt ≡ None
+    go : (b : Bool) → (is_compacting past n ≡ true → (node d past n).doubt ≡ None)
+        → (if b then false else is_compacting past n) ≡ true
+        → (changed (where_at b (Starts (is_kept f))) (node d past n)).doubt ≡ None
     go true before is = refl
     go false before is = before is
-compacting-doubt d (a ∷ past) n is = quiet-doubt (change d (got past) a n) (node d past n) (quiet-change d (got past) a n refl) ∙ compacting-doubt d past n is
+compacting-doubt d (a ∷ past) n is =
+    quiet-doubt (change d (got past) a n) (node d past n) (quiet-change d (got past) a n refl)
+    ∙ compacting-doubt d past n is
 
 -- ---- what an act leaves of both lists
 
@@ -86,7 +95,8 @@ compacting-doubt d (a ∷ past) n is = quiet-doubt (change d (got past) a n) (no
 abbrev StandsFor : ClusterData → NodeId → List Record → List Record → Type 0
 StandsFor c n r j = (small r ≡ small j) × (all_fit c n j ≡ true → all_fit c n r ≡ true)
 
-stands-more : (c : ClusterData) (n : NodeId) (o : Option Record) (r j : List Record) → StandsFor c n r j → StandsFor c n (written o r) (written o j)
+stands-more : (c : ClusterData) (n : NodeId) (o : Option Record) (r j : List Record) → StandsFor c n r j
+    → StandsFor c n (written o r) (written o j)
 stands-more c n None r j at = at
 stands-more c n (Some x) r j at = (small-next x r j at.0, λ fit. more fit)
   where
@@ -94,55 +104,76 @@ stands-more c n (Some x) r j at = (small-next x r j at.0, λ fit. more fit)
     more fit =
         let j_fit = rest-fits c n x j fit in
         let r_fit = at.1 j_fit in
-        rw (alike-fits c n r j (alike-by-small r j (fit-highest c n r r_fit) (fit-highest c n j j_fit) at.0) x, newest-fits c n x j fit) r_fit
+        rw (alike-fits c n r j (alike-by-small r j (fit-highest c n r r_fit) (fit-highest c n j j_fit) at.0) x,
+            newest-fits c n x j fit) r_fit
 
 stands-small : (c : ClusterData) (n : NodeId) (r j : List Record) → StandsFor c n r j → StandsFor c n (small r) j
 stands-small c n r j at = (small-twice r ∙ at.0, λ fit. small-fit c n r (at.1 fit))
 
-stands-found : (c : ClusterData) (n : NodeId) (kept : Bool) (o : Option Record) (r j : List Record) → StandsFor c n r j → StandsFor c n (found kept o r) (found kept o j)
+stands-found : (c : ClusterData) (n : NodeId) (kept : Bool) (o : Option Record) (r j : List Record) → StandsFor c n r j
+    → StandsFor c n (found kept o r) (found kept o j)
 stands-found c n true o r j at = stands-more c n o r j at
 stands-found c n false o r j at = at
 
-stands-quiet : (c : ClusterData) (n : NodeId) (x : Change) (h : Node) (r : List Record) → is_quiet x ≡ true → StandsFor c n r h.journal → StandsFor c n (recorded x r) (changed x h).journal
+stands-quiet : (c : ClusterData) (n : NodeId) (x : Change) (h : Node) (r : List Record) → is_quiet x ≡ true
+    → StandsFor c n r h.journal → StandsFor c n (recorded x r) (changed x h).journal
 stands-quiet c n (Writes o) h r is at = stands-more c n o r h.journal at
 stands-quiet c n (Stops o) h r is at = absurd (grind (arith, is))
 stands-quiet c n (Starts kept) h r is at = absurd (grind (arith, is))
 stands-quiet c n x h r is at = at
 
-stands-opened : (c : ClusterData) (n : NodeId) (compacting kept : Bool) (h : Node) (r : List Record) → (compacting ≡ true → h.doubt ≡ None) → StandsFor c n r h.journal → StandsFor c n (reopened compacting kept h.doubt r) (found kept h.doubt h.journal)
+stands-opened : (c : ClusterData) (n : NodeId) (compacting kept : Bool) (h : Node) (r : List Record)
+    → (compacting ≡ true → h.doubt ≡ None) → StandsFor c n r h.journal → StandsFor c n
+        (reopened compacting kept h.doubt r) (found kept h.doubt h.journal)
 stands-opened c n true true h r none at = rw (none refl) (stands-small c n r h.journal at)
 stands-opened c n true false h r none at = at
 stands-opened c n false kept h r none at = stands-found c n kept h.doubt r h.journal at
 
 -- ---- the disk list
 
-pub disk-stands : (c : ClusterData) (d : DocumentData) (past : List Act) (n : NodeId) → StandsFor c n (disklog d past n) (journal d past n)
+pub disk-stands : (c : ClusterData) (d : DocumentData) (past : List Act) (n : NodeId)
+    → StandsFor c n (disklog d past n) (journal d past n)
 disk-stands c d [] n = (refl, λ fit. refl)
 disk-stands c d (act.Compacted m ∷ past) n = go (m == n) (disk-stands c d past n)
   where
-    go : (b : Bool) → StandsFor c n (disklog d past n) (journal d past n) → StandsFor c n (if b then small (disklog d past n) else disklog d past n) (journal d past n)
+    go : (b : Bool) → StandsFor c n (disklog d past n) (journal d past n)
+        → StandsFor c n (if b then small (disklog d past n) else disklog d past n) (journal d past n)
     go true at = stands-small c n (disklog d past n) (journal d past n) at
     go false at = at
 disk-stands c d (act.Up m f ∷ past) n = go (m == n) (disk-stands c d past n)
   where
-    go : (b : Bool) → StandsFor c n (disklog d past n) (journal d past n) → StandsFor c n (if b then reopened (is_compacting past n) (is_kept f) (node d past n).doubt (disklog d past n) else disklog d past n) (changed (where_at b (Starts (is_kept f))) (node d past n)).journal
-    go true at = stands-opened c n (is_compacting past n) (is_kept f) (node d past n) (disklog d past n) (λ is. compacting-doubt d past n is) at
+    go : (b : Bool) → StandsFor c n (disklog d past n) (journal d past n)
+        → StandsFor c n (if b then reopened (is_compacting past n) (is_kept f) (node d past n).doubt
+            (disklog d past n) else disklog d past n) (changed (where_at b (Starts (is_kept f)))
+            (node d past n)).journal
+    go true at =
+        stands-opened c n (is_compacting past n) (is_kept f) (node d past n) (disklog d past n)
+        (λ is. compacting-doubt d past n is) at
     go false at = at
 disk-stands c d (act.Down m h ∷ past) n = go (m == n) (disk-stands c d past n)
   where
-    go : (b : Bool) → StandsFor c n (disklog d past n) (journal d past n) → StandsFor c n (recorded (where_at b (Stops (doubt_of d (got past) h))) (disklog d past n)) (changed (where_at b (Stops (doubt_of d (got past) h))) (node d past n)).journal
+    go : (b : Bool) → StandsFor c n (disklog d past n) (journal d past n)
+        → StandsFor c n (recorded (where_at b (Stops (doubt_of d (got past) h))) (disklog d past n))
+            (changed (where_at b (Stops (doubt_of d (got past) h))) (node d past n)).journal
     go true at = at
     go false at = at
-disk-stands c d (a ∷ past) n = stands-quiet c n (change d (got past) a n) (node d past n) (disklog d past n) (quiet-change d (got past) a n refl) (disk-stands c d past n)
+disk-stands c d (a ∷ past) n =
+    stands-quiet c n (change d (got past) a n) (node d past n) (disklog d past n) (quiet-change d (got past) a n refl)
+    (disk-stands c d past n)
 
 -- the disk list and the journal have the same Small, behind each list of acts
 pub disk-small : (d : DocumentData) (past : List Act) (n : NodeId) → small (disklog d past n) ≡ small (journal d past n)
 disk-small d past n = (disk-stands d.cluster d past n).0
 
 -- each record of the disk list fits those before it, where those of the journal do
-pub disk-fit : (d : DocumentData) (past : List Act) (n : NodeId) → all_fit d.cluster n (journal d past n) ≡ true → all_fit d.cluster n (disklog d past n) ≡ true
+pub disk-fit : (d : DocumentData) (past : List Act) (n : NodeId) → all_fit d.cluster n (journal d past n) ≡ true
+    → all_fit d.cluster n (disklog d past n) ≡ true
 disk-fit d past n fit = (disk-stands d.cluster d past n).1 fit
 
 -- and then they are alike
-pub disk-alike : (d : DocumentData) (past : List Act) (n : NodeId) → all_fit d.cluster n (journal d past n) ≡ true → AreAlike (disklog d past n) (journal d past n)
-disk-alike d past n fit = alike-by-small (disklog d past n) (journal d past n) (fit-highest d.cluster n (disklog d past n) (disk-fit d past n fit)) (fit-highest d.cluster n (journal d past n) fit) (disk-small d past n)
+pub disk-alike : (d : DocumentData) (past : List Act) (n : NodeId) → all_fit d.cluster n (journal d past n) ≡ true
+    → AreAlike (disklog d past n) (journal d past n)
+disk-alike d past n fit =
+    alike-by-small (disklog d past n) (journal d past n)
+    (fit-highest d.cluster n (disklog d past n) (disk-fit d past n fit))
+    (fit-highest d.cluster n (journal d past n) fit) (disk-small d past n)

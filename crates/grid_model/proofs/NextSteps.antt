@@ -306,4 +306,5 @@ event-view d past n m k (event.Deliver x said) (is, own) = deliver-view d past n
 event-view d past n m k (event.Retry t) comes = retry-view d past n k t
 event-view d past n m k (event.Ask t) comes = ask-view d past n k t
 event-view d past n m k (event.AskPeer t y) comes = ask_peer-view d past n k t y
-event-view d past n m k event.Compact comes = plain-view d past n false None None k (compact_outs n) refl (λ is. never is)
+event-view d past n m k event.Compact comes =
+    plain-view d past n false None None k (compact_outs n) refl (λ is. never is)

@@ -218,7 +218,8 @@ shape-owes : (d : DocumentData) (past : List Act) → Keeps d past → (i : Item
 shape-owes d past kept_now i c (idle acts is) = calm-all d past acts (idle-pass is_calm (λ code. refl) (λ m. refl) (λ m. refl) acts is)
 shape-owes d past kept_now i c (arms n k how is) = (tt, tt)
 shape-owes d past kept_now i c (crashes n up) = (tt, tt)
-shape-owes d past kept_now i c (restarts n up) = restart-owes d past kept_now n (flag_at (is_compacting past n) (node d past n).doubt c.finds) c.opens
+shape-owes d past kept_now i c (restarts n up) =
+    restart-owes d past kept_now n (flag_at (is_compacting past n) (node d past n).doubt c.finds) c.opens
 shape-owes d past kept_now i c (begins s is new up quiet) = begin-owes d past s (floor_at d past s) kept_now is new (next_number past) c.keeps
 shape-owes d past kept_now i c (delivers m e is up) = (tt, given-owes d past e.to m (next_number past) c.keeps (answer e.to (view d past e.to) e.from e.message) (answer-given d past e.to e.from e.message (kept-own d past e.to kept_now)))
 shape-owes d past kept_now i c (again n os up is) = calm-all d past (acts_of past c n os) (plain-calm d n false c.keeps (next_number past) os (again-plain d past n os is))

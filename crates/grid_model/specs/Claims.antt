@@ -170,7 +170,8 @@ pub record IsKept (d : DocumentData) (past : List Act) (logs : NodeId → List R
   pub before : List (Ident × TxId)
   pub member : order d past ≡ later ++ (final, s.number) ∷ before
   pub decided : IsTrue (has_decided s.number final (reverse (logs s.home)))
-      ⊎ ((n : NodeId) → IsTrue (is_among n (parts_in d (Some s))) → IsTrue (has_ended s.number final (reverse (logs n))))
+      ⊎ ((n : NodeId) → IsTrue (is_among n (parts_in d (Some s)))
+      → IsTrue (has_ended s.number final (reverse (logs n))))
   pub prepared : (n : NodeId) → IsTrue (is_among n (parts_in d (Some s))) → writes_at (prepared_of s.number (reverse (logs n))) ≡ Some (writes_on d n s (copy_of d before))
 
 -- Kept: each finished update is kept in all lists that the disks may hold

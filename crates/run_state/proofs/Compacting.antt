@@ -5,7 +5,8 @@ use Rattle.grid_model.specs.Histories.{after}
 use Rattle.grid_model.specs.Disks.{is_compacting}
 use Rattle.run_state.specs.Kept.{compacting_after}
 
-compacting_more : (n : ℕ) (past acts : List Act) → compacting_after n (is_compacting past n) acts ≡ is_compacting (after past acts) n
+compacting_more : (n : ℕ) (past acts : List Act)
+    → compacting_after n (is_compacting past n) acts ≡ is_compacting (after past acts) n
 compacting_more n past [] = refl
 compacting_more n past (a ∷ acts) = compacting_more n (a ∷ past) acts
 

@@ -80,7 +80,8 @@ adds-shape : (d : DocumentData) (past : List Act) (k : ℕ) (i : Item) → IsFew
 adds-shape d past k i f (idle acts is) = adds-idle (16 + k) acts is
 adds-shape d past k i f (arms n c how is) = record { sent = omega arith; held = omega arith }
 adds-shape d past k i f (crashes n up) = record { sent = omega arith; held = omega arith }
-adds-shape d past k i f (restarts n up) = adds-opened d past (16 + k) n (flag_at (is_compacting past n) (node d past n).doubt false)
+adds-shape d past k i f (restarts n up) =
+    adds-opened d past (16 + k) n (flag_at (is_compacting past n) (node d past n).doubt false)
 adds-shape d past k i f (begins s is new up quiet) = adds-acts past (16 + k) s.home _ (few-begin d past k s f)
 adds-shape d past k i f (delivers m e is up) = adds-got (16 + k) m _ (adds-acts past (16 + k) e.to _ (few-answer d past k e f))
 adds-shape d past k i f (again n os up is) = adds-acts past (16 + k) n os (few-again d past k n os f is)
