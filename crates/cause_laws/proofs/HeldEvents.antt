@@ -18,7 +18,8 @@ use Rattle.grid_model.specs.Histories.{after, sent, sent_at}
 use Rattle.journal_words.specs.Journals.{commit_id, floor, is_clear}
 use Rattle.grid_model.specs.Nodes.{Node, Starts, Stays, changed, found, got, is_kept, journal, node, where_at}
 use Rattle.grid_model.specs.Rows.{answer, begin_outs, begun_at, ceiling_of, dated, version_for}
-use Rattle.grid_model.specs.Schedules.{Choice, acts_of, flag_of, kept, losses, next_number, numbered, opened_row}
+use Rattle.grid_model.specs.Disks.{is_compacting}
+use Rattle.grid_model.specs.Schedules.{Choice, acts_of, flag_at, kept, losses, next_number, numbered, opened_row}
 use Rattle.grid_model.specs.Views.{View, view, participant}
 use Rattle.grid_model.specs.declared.acts.Act.TheVariants as act
 use Rattle.grid_model.specs.declared.acts.Act.{Act}
@@ -146,12 +147,13 @@ shape-kept : (d : DocumentData) (past : List Act) → ((n : NodeId) → HoldsWai
 shape-kept d past h i c (idle acts is) fit = unheld-event d past acts (unheld-idle acts is) h
 shape-kept d past h i c (arms n k how is) fit = unheld-event d past (act.Armed n k how ∷ []) refl h
 shape-kept d past h i c (crashes n up) fit = unheld-event d past (act.Down n None ∷ []) refl h
-shape-kept d past h i c (restarts n up) fit = restart-event d past n (flag_of (node d past n).doubt c.finds) c.opens up h
+shape-kept d past h i c (restarts n up) fit =
+    restart-event d past n (flag_at (is_compacting past n) (node d past n).doubt c.finds) c.opens up h
 shape-kept d past h i c (begins s is new up quiet) fit = unheld-event d past (acts_of past c s.home (begin_outs s.home (participant (view d past s.home)) s (floor_at d past s))) (unheld-acts (next_number past) s.home c.keeps (begin_outs s.home (participant (view d past s.home)) s (floor_at d past s)) (unheld-advance d.cluster (begun_at s (first_at d past s)) 0)) h
 shape-kept d past h i c (delivers m e is up) fit = got-event d past m e c.keeps is (fit-first d past m e (acts_of past c e.to (answer e.to (view d past e.to) e.from e.message)) is fit) up h
 shape-kept d past h i c (again n os up is) fit =
     unheld-event d past (acts_of past c n os)
-    (unheld-acts (next_number past) n c.keeps os (pass-again is_unheld d past n os is)) h
+    (unheld-acts (next_number past) n c.keeps os (pass-again is_unheld (λ m. refl) d past n os is)) h
 
 pub event-kept : (d : DocumentData) (past acts : List Act) → Event d past acts → ((n : NodeId) → HoldsWaiting (node d past n)) → EventKept d past acts
 event-kept d past acts event h =

@@ -1,6 +1,6 @@
 -- A home tells outcomes to the parts of its transaction alone, so each row tells them to the two ends.
 use Rattle.cause_laws.proofs.Ends.{BothParts, HasEnds, HomeAndPart}
-use Rattle.grid_model.proofs.EventShapes.{IsAgain, asks, asks_peer, retries}
+use Rattle.grid_model.proofs.EventShapes.{IsAgain, asks, asks_peer, compacts, retries}
 use Rattle.cause_laws.proofs.OutsToEnds.{AreWell, is_well_out, well-acks, well-if, well-prepare, well-prepares, well-read, well-reply, well-request, well-tell, well-to_node}
 use Rattle.grid_laws.proofs.Causes.{AllDue}
 use Rattle.grid_laws.proofs.DueAnswers.{home-is}
@@ -117,3 +117,4 @@ pub well-again : (d : DocumentData) (past : List Act) (n : NodeId) (os : List Ou
 well-again d past n os all (retries t e) = rw e (well-retry d past n t (stage (view d past n) t) all refl)
 well-again d past n os all (asks t e) = rw e (well-if d n (is_some (pending t (journal d past n))) (to_node (home_of t (journal d past n)) (message.Ask t)) [] (well-to_node d n (home_of t (journal d past n)) (message.Ask t) (λ y. refl)) refl)
 well-again d past n os all (asks_peer t m e) = rw e (well-if d n (is_some (pending t (journal d past n)) && names_part t m (journal d past n)) (out.Send m (message.AskPeer t) ∷ []) [] refl refl)
+well-again d past n os all (compacts e) = rw e refl

@@ -14,7 +14,8 @@ use Rattle.grid_model.specs.Histories.{after, sent, sent_at}
 use Rattle.grid_model.specs.Nodes.{node}
 use Rattle.grid_model.specs.Rows.{answer, begin_outs, begun_at}
 use Rattle.grid_model.specs.Runs.{IsRun}
-use Rattle.grid_model.specs.Schedules.{Choice, flag_of, kept, next_number, numbered, opened_row}
+use Rattle.grid_model.specs.Disks.{is_compacting}
+use Rattle.grid_model.specs.Schedules.{Choice, flag_at, kept, next_number, numbered, opened_row}
 use Rattle.grid_model.specs.Views.{view, participant}
 use Rattle.grid_model.specs.declared.acts.Act.TheVariants as act
 use Rattle.grid_model.specs.declared.acts.Act.{Act}
@@ -40,7 +41,8 @@ well-shape : (d : DocumentData) (past : List Act) → IsOne d → AllDue d past 
 well-shape d past one all i c (idle acts is) = idle-pass (is_well_act d) (λ code. refl) (λ m. refl) (λ m. refl) acts is
 well-shape d past one all i c (arms n k how is) = refl
 well-shape d past one all i c (crashes n up) = refl
-well-shape d past one all i c (restarts n up) = well-restart d past n (flag_of (node d past n).doubt c.finds) c.opens
+well-shape d past one all i c (restarts n up) =
+    well-restart d past n (flag_at (is_compacting past n) (node d past n).doubt c.finds) c.opens
 well-shape d past one all i c (begins s is new up quiet) = well-outs d (next_number past) s.home c.keeps (begin_outs s.home (participant (view d past s.home)) s (floor_at d past s)) (well-advance d s.home (begun_at s (first_at d past s)) 0)
 well-shape d past one all i c (delivers m e is up) = well-outs d (next_number past) e.to c.keeps (answer e.to (view d past e.to) e.from e.message) (well-answer d past e.to e.from e.message (sent-ends d past one all m e is))
 well-shape d past one all i c (again n os up is) = well-outs d (next_number past) n c.keeps os (well-again d past n os all is)
@@ -67,7 +69,8 @@ shape-kind : (d : DocumentData) (past : List Act) → IsOne d → AllDue d past 
 shape-kind d past one all i c (idle acts is) = plain (idle-pass is_middle (λ code. refl) (λ m. refl) (λ m. refl) acts is)
 shape-kind d past one all i c (arms n k how is) = plain refl
 shape-kind d past one all i c (crashes n up) = plain refl
-shape-kind d past one all i c (restarts n up) = kind-restart d past n (flag_of (node d past n).doubt c.finds) c.opens up
+shape-kind d past one all i c (restarts n up) =
+    kind-restart d past n (flag_at (is_compacting past n) (node d past n).doubt c.finds) c.opens up
 shape-kind d past one all i c (begins s is new up quiet) = plain (middle-outs d (next_number past) s.home c.keeps (begin_outs s.home (participant (view d past s.home)) s (floor_at d past s)) (well-advance d s.home (begun_at s (first_at d past s)) 0))
 shape-kind d past one all i c (delivers m e is up) = got_first m e c.keeps (numbered (next_number past) e.to (kept c.keeps e.to (answer e.to (view d past e.to) e.from e.message))) is up refl refl (middle-outs d (next_number past) e.to c.keeps (answer e.to (view d past e.to) e.from e.message) (well-answer d past e.to e.from e.message (sent-ends d past one all m e is)))
 shape-kind d past one all i c (again n os up is) = plain (middle-outs d (next_number past) n c.keeps os (well-again d past n os all is))

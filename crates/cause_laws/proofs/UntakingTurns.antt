@@ -13,7 +13,8 @@ use Rattle.grid_model.specs.Documents.{DocumentData, number_order, script_number
 use Rattle.grid_model.specs.Histories.{after, sent, sent_at}
 use Rattle.grid_model.specs.Nodes.{node, script_of}
 use Rattle.grid_model.specs.Rows.{answer, begin_outs}
-use Rattle.grid_model.specs.Schedules.{Choice, flag_of, kept, next_number, numbered, opened_row}
+use Rattle.grid_model.specs.Disks.{is_compacting}
+use Rattle.grid_model.specs.Schedules.{Choice, flag_at, kept, next_number, numbered, opened_row}
 use Rattle.grid_model.specs.Stories.{story}
 use Rattle.grid_model.specs.Views.{Open, view, participant}
 use Rattle.grid_model.specs.declared.acts.Act.TheVariants as act
@@ -74,13 +75,14 @@ shape-turn : (d : DocumentData) (past : List Act) (i : Item) (c : Choice) (s : S
 shape-turn d past i c (idle acts is) = untaking_turn (untaking-idle acts is)
 shape-turn d past i c (arms n k how is) = untaking_turn refl
 shape-turn d past i c (crashes n up) = untaking_turn refl
-shape-turn d past i c (restarts n up) = turn-restart d past n (flag_of (node d past n).doubt c.finds) c.opens
+shape-turn d past i c (restarts n up) =
+    turn-restart d past n (flag_at (is_compacting past n) (node d past n).doubt c.finds) c.opens
 shape-turn d past i c (begins s is new up quiet) = begun_by s c.keeps is up refl
 shape-turn d past i c (delivers m e is up) =
     turn-delivered d past (acts_by d past i c (delivers m e is up)) m e.to e.from e.message c.keeps
     (is_reply e.message) refl is refl
 shape-turn d past i c (again n os up is) =
-    untaking_turn (untaking-acts (next_number past) n c.keeps os (pass-again is_untaking d past n os is))
+    untaking_turn (untaking-acts (next_number past) n c.keeps os (pass-again is_untaking (λ m. refl) d past n os is))
 
 pub event-turn : (d : DocumentData) (past acts : List Act) → IsEvent d past acts → IsTurn d past acts
 event-turn d past acts event = of-event d past acts (IsTurn d past) (shape-turn d past) event

@@ -150,6 +150,7 @@ item_line (item.Fuse n k how) h =
     let front = and_parts (is_node n) (nat_lt k (2 ^ 64)) both.0 in
     rw (plain_node n front.0, plain_long k front.1, plain_long how both.1) refl
 item_line (item.Restart n) h = rw (plain_node n h) refl
+item_line (item.Compact n) h = rw (plain_node n h) refl
 
 document_lines_are : (d : DocumentData) → IsDocument d → IsInRange d → list_all is_line (document_lines d) ≡ true
 document_lines_are d h r =

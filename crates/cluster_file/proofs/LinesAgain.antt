@@ -57,6 +57,7 @@ module _ (n : ℕ) (ps : List (List NodeId)) (xs : List (Key × Value)) where
   item_words_again ss items events (item.Crash m how) room is short built = cc
   item_words_again ss items events (item.Fuse m k how) room is short built = cc
   item_words_again ss items events (item.Restart m) room is short built = cc
+  item_words_again ss items events (item.Compact m) room is short built = cc
 
   items_again : (ss : List ScriptData) (done todo : List Item) (events : ℕ) → events + sum_by events_of todo ≤ MAX_EVENTS → list_all (is_item n (script_numbers ss)) todo ≡ true → list_all is_item_in_range todo ≡ true → list_all is_built_item todo ≡ true → lines_from (running n ps xs ss done events) (map item_words todo) ≡ Ok (running n ps xs ss (done ++ todo) (events + sum_by events_of todo))
   unfolding lines_from

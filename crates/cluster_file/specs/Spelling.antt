@@ -43,6 +43,7 @@ item_words (item.AskPeer n t m) = codes "ask" ∷ node_word n ∷ decimal t ∷ 
 item_words (item.Crash n how) = codes "crash" ∷ node_word n ∷ decimal how ∷ []
 item_words (item.Fuse n k how) = codes "fuse" ∷ node_word n ∷ decimal k ∷ decimal how ∷ []
 item_words (item.Restart n) = codes "restart" ∷ node_word n ∷ []
+item_words (item.Compact n) = codes "compact" ∷ node_word n ∷ []
 
 -- The lines of a document, each as its words.
 
@@ -78,6 +79,7 @@ is_built_item (item.AskPeer n t m) = false
 is_built_item (item.Crash n how) = false
 is_built_item (item.Fuse n k how) = false
 is_built_item (item.Restart n) = false
+is_built_item (item.Compact n) = false
 
 -- each item begins, delivers, drops or takes the next
 pub record IsBuilt (d : DocumentData) : Type 0 where
@@ -112,6 +114,7 @@ is_item_in_range (item.AskPeer n t m) = is_node n && is_tx t && is_node m
 is_item_in_range (item.Crash n how) = is_node n && nat_lt how (2 ^ 64)
 is_item_in_range (item.Fuse n k how) = is_node n && nat_lt k (2 ^ 64) && nat_lt how (2 ^ 64)
 is_item_in_range (item.Restart n) = is_node n
+is_item_in_range (item.Compact n) = is_node n
 
 -- each key is one, each number is in the range of its type, and each script is a whole one
 pub record IsInRange (d : DocumentData) : Type 0 where

@@ -1,6 +1,6 @@
 -- The claim on acknowledged commits is not empty: its premises hold together in worked runs, also where a
 -- record is in doubt, and what it says of them computes; where a part has no Prepared or another it is refuted.
-use Rattle.std.proofs.Common.{◌≡◌, true, false, IsTrue, List, [], ◌∷◌, ◌++◌, Option, Some, refl, ap, subst, arith, ◌==◌, ◌⊎◌, inl, inr, reverse, if◌then◌else◌}
+use Rattle.std.proofs.Common.{◌≡◌, Bool, true, false, IsTrue, List, [], ◌∷◌, ◌++◌, Option, Some, refl, ap, subst, arith, ◌==◌, ◌⊎◌, inl, inr, reverse, if◌then◌else◌}
 use Rattle.std.proofs.lemmas.Bool.{cases_eq}
 use Rattle.std.proofs.lemmas.Bool.Decides.{nat_tests}
 use Rattle.std.proofs.lemmas.Option.{none-some}
@@ -26,6 +26,7 @@ use Rattle.grid_model.specs.Documents.{DocumentData}
 use Rattle.grid_model.specs.Histories.{after}
 use Rattle.journal_words.specs.Journals.{prepared_of}
 use Rattle.grid_model.specs.Nodes.{journal, node, script_of}
+use Rattle.grid_model.specs.Disks.{disklog}
 use Rattle.grid_model.specs.Runs.{IsRun}
 use Rattle.grid_model.specs.Copies.{order, copy_of, is_finished}
 use Rattle.grid_model.specs.Claims.{Kept, IsKept, AreLogs, IsLog, standing, in_doubt, writes_at, writes_on}
@@ -38,7 +39,7 @@ use Rattle.copy_laws.proofs.CopyRuns.{carrying}
 
 -- the records that stand at each node, in the order of time
 abbrev pub standing_logs : DocumentData → List Act → NodeId → List Record
-standing_logs d past = λ n. reverse (journal d past n)
+standing_logs d past = λ n. reverse (disklog d past n)
 
 -- they are logs, in every past
 pub standing-logs : (d : DocumentData) (past : List Act) → AreLogs d past (standing_logs d past)
@@ -64,7 +65,7 @@ transfer-kept = record {
   later = [];
   before = [];
   member = refl;
-  decided = refl;
+  decided = inl refl;
   prepared = λ n is. elim (one-or-two n is) [ inl same ↦ subst (λ m. P m) same refl | inr same ↦ subst (λ m. P m) same refl ];
 }
   where
@@ -97,14 +98,19 @@ ending = record'.Ended 1 (outcome.Commit 1)
 
 -- the logs where the disk of n2 has that record
 abbrev pub doubtful_logs : NodeId → List Record
-doubtful_logs = λ n. if 2 == n then reverse (ending ∷ journal doubtful stopped n) else reverse (journal doubtful stopped n)
+doubtful_logs =
+    λ n. if 2 == n then reverse (ending ∷ disklog doubtful stopped n) else reverse (disklog doubtful stopped n)
 
 -- they are logs
 pub doubtful-logs : AreLogs doubtful stopped doubtful_logs
 doubtful-logs = record {
   each = λ n. elim (cases_eq 2 n) [
-    | inl same ↦ (let P : NodeId → Type 0 = λ m. IsLog (node doubtful stopped m) (doubtful_logs m) in subst P same (in_doubt ending refl refl))
-    | inr other ↦ (let apart : (2 == n) ≡ false = grind (arith, nat_tests) in standing (ap (λ t. if t then reverse (ending ∷ journal doubtful stopped n) else reverse (journal doubtful stopped n)) apart))
+    | inl same ↦ (let P : NodeId → Type 0 = λ m. IsLog doubtful stopped m (doubtful_logs m) in
+        subst P same (in_doubt ending refl refl))
+    | inr other ↦ (let apart : (2 == n) ≡ false = grind (arith, nat_tests) in
+        let P : Bool → List Record = λ t.
+        if t then reverse (ending ∷ disklog doubtful stopped n) else reverse (disklog doubtful stopped n) in
+        standing (ap P apart))
   ];
 }
 
@@ -119,7 +125,7 @@ doubtful-kept = record {
   later = [];
   before = [];
   member = refl;
-  decided = refl;
+  decided = inl refl;
   prepared = λ n is. elim (one-or-two n is) [ inl same ↦ subst (λ m. P m) same refl | inr same ↦ subst (λ m. P m) same refl ];
 }
   where

@@ -30,7 +30,8 @@ use Rattle.grid_model.specs.Views.{view, stage, Open, open_of, participant}
 use Rattle.grid_model.specs.Advances.{advance}
 use Rattle.script_runs.specs.Walks.{own_reads, unread}
 use Rattle.grid_model.specs.Rows.{answer, begin_outs}
-use Rattle.grid_model.specs.Schedules.{Choice, acts_of, events_in, flag_of, kept, next_number, numbered, opened_row, row, start_row}
+use Rattle.grid_model.specs.Disks.{is_compacting}
+use Rattle.grid_model.specs.Schedules.{Choice, acts_of, events_in, flag_at, kept, next_number, numbered, opened_row, row, start_row}
 use Rattle.grid_model.specs.Runs.{Rows, IsRun}
 use Rattle.grid_model.specs.Copies.{shown}
 use Rattle.grid_model.proofs.Undecided.{script-number}
@@ -128,7 +129,7 @@ shown-shape d past i c due all (idle acts is) =
 shown-shape d past i c due all (arms n k how is) = unshowing-all d past (act.Armed n k how ∷ []) refl all
 shown-shape d past i c due all (crashes n up) = unshowing-all d past (act.Down n None ∷ []) refl all
 shown-shape d past i c due all (restarts n up) =
-    let f : Flag = flag_of (node d past n).doubt c.finds in
+    let f : Flag = flag_at (is_compacting past n) (node d past n).doubt c.finds in
     unshowing-all d past (if c.opens then opened_row d past n f else act.StillDown n ∷ [])
     (unshowing-restart d past n f c.opens) all
 shown-shape d past i c due all (begins s is new up quiet) = shown-begin d past (next_number past) c.keeps s is new all
@@ -137,7 +138,7 @@ shown-shape d past i c due all (delivers m e is up) =
     ((e, is, up), due) (λ t s f. unshowing-by d past (act.Got m) t s refl (all t s f))
 shown-shape d past i c due all (again n os up is) =
     unshowing-all d past (acts_of past c n os)
-    (unshowing-acts (next_number past) n c.keeps os (pass-again is_unshowing d past n os is)) all
+    (unshowing-acts (next_number past) n c.keeps os (pass-again is_unshowing (λ m. refl) d past n os is)) all
 
 -- an event leaves each transaction shown its reads
 shown-row : (d : DocumentData) (past : List Act) (e : Item) (c : Choice) → AllDue d past → AllShown d past

@@ -169,6 +169,7 @@ record-low k d past n (head.Decided t f) low due =
     let is : f ≡ greatest_vote due.1.story.progress.votes = due.1.some.0 in
     omega arith
 record-low k d past n (head.Closed t) low due = omega arith
+record-low k d past n head.Compact low due = omega arith
 
 stop-low : (k : ℕ) (d : DocumentData) (past : List Act) (n : NodeId) (h : Option Head) → EachAct (IsAtMost (64 * k)) past → StopDue d past n h → head_ident h ≤ 64 * (weight (act.Down n h) + k)
 stop-low k d past n None low due = omega arith

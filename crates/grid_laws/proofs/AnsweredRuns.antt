@@ -25,7 +25,8 @@ use Rattle.grid_model.specs.Views.{view, stage, Stage, View, Open, Reads, open_o
 use Rattle.grid_model.specs.Advances.{advance}
 use Rattle.grid_model.specs.Fitness.{is_fit_at}
 use Rattle.grid_model.specs.Rows.{answer, begin_outs, reply_outs}
-use Rattle.grid_model.specs.Schedules.{Choice, acts_of, flag_of, kept, next_number, numbered, opened_row, row}
+use Rattle.grid_model.specs.Disks.{is_compacting}
+use Rattle.grid_model.specs.Schedules.{Choice, acts_of, flag_at, kept, next_number, numbered, opened_row, row}
 use Rattle.grid_model.proofs.Undecided.{script-number}
 use Rattle.grid_model.proofs.EventShapes.{Shape, idle, arms, crashes, restarts, begins, delivers, again, acts_by, by-shape}
 use Rattle.grid_laws.proofs.Stages.{Opens, opens-reads}
@@ -107,14 +108,15 @@ told-shape : (d : DocumentData) (past : List Act) (i : Item) (c : Choice) → Al
 told-shape d past i c all (idle acts is) = untaking-all d past acts (untaking-idle acts is) all
 told-shape d past i c all (arms n k how is) = all
 told-shape d past i c all (crashes n up) = λ t s e. untaking-told s d past (act.Down n None) t refl (all t s e)
-told-shape d past i c all (restarts n up) = told-restart d past n (flag_of (node d past n).doubt c.finds) c.opens all
+told-shape d past i c all (restarts n up) =
+    told-restart d past n (flag_at (is_compacting past n) (node d past n).doubt c.finds) c.opens all
 told-shape d past i c all (begins s is new up quiet) = told-begin d past (next_number past) c.keeps s is all
 told-shape d past i c all (delivers m e is up) =
     told-answer d past m (next_number past) e.to e.from c.keeps e.message (is_reply e.message) refl is
     (λ t s f. untaking-told s d past (act.Got m) t refl (all t s f))
 told-shape d past i c all (again n os up is) =
     untaking-all d past (acts_of past c n os)
-    (untaking-acts (next_number past) n c.keeps os (pass-again is_untaking d past n os is)) all
+    (untaking-acts (next_number past) n c.keeps os (pass-again is_untaking (λ m. refl) d past n os is)) all
 
 -- an event leaves all told
 pub told-row : (d : DocumentData) (past : List Act) (e : Item) (c : Choice) → AllTold d past → AllTold d (after past (row d past e c))

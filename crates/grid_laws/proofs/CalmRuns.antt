@@ -11,6 +11,7 @@ use Rattle.grid_model.specs.declared.acts.Act.TheVariants as act
 use Rattle.grid_model.specs.declared.acts.Flag.{Flag}
 use Rattle.grid_model.specs.declared.acts.Flag.TheVariants as flag
 use Rattle.grid_model.specs.declared.acts.Head.{Head}
+use Rattle.grid_model.specs.declared.acts.Head.TheVariants as head
 use Rattle.grid_model.specs.declared.events.Out.{Out}
 use Rattle.grid_model.specs.declared.events.Out.TheVariants as out
 use Rattle.grid_model.specs.declared.items.Item.{Item}
@@ -21,11 +22,12 @@ use Rattle.grid_model.specs.Sessions.{floor_at}
 use Rattle.grid_model.specs.Documents.{DocumentData, number_order, script_numbers}
 use Rattle.grid_model.specs.Histories.{after}
 use Rattle.grid_model.specs.Nodes.{Node, node, got, journal, change, changed}
+use Rattle.grid_model.specs.Disks.{is_compacting, compacting_behind}
 use Rattle.grid_model.specs.Views.{view, participant}
 use Rattle.grid_model.specs.Rows.{answer, begin_outs}
-use Rattle.grid_model.specs.Schedules.{Choice, numbered, head_of, stopped, broken, kept, next_number, acts_of, row, start_row, start_act, events_in, flag_of, opened_row}
+use Rattle.grid_model.specs.Schedules.{Choice, numbered, head_of, stopped, broken, kept, next_number, acts_of, row, start_row, start_act, events_in, flag_at, opened_row}
 use Rattle.grid_model.specs.Runs.{Rows, IsRun, Lawful, Explains, is_let, are_let, is_stop, is_by_fuse, as_number, faults}
-use Rattle.grid_model.specs.Fuses.{Fuse, fuse, fuse_at_stop, is_record_at, lets_gate, lets_record, stops_record, stops_opening}
+use Rattle.grid_model.specs.Fuses.{Fuse, fuse, fuse_at_stop, is_record_at, lets_compaction, lets_found, lets_record, stops_in, stops_opening}
 use Rattle.grid_model.proofs.EventShapes.{Shape, idle, arms, crashes, restarts, begins, delivers, again, acts_by, by-shape, row-shaped, idle-pass}
 use Rattle.grid_laws.specs.CalmRuns.{calm, calm_run, is_unfused, AreUnfused, played, plays}
 use Rattle.grid_laws.proofs.RowOuts.{Pass, is_of_row, pass-acts, pass-again, pass-answer, pass-begin, pass-losses, pass-numbered, pass-starts}
@@ -83,14 +85,16 @@ shape-unarming : (d : DocumentData) (past : List Act) (i : Item) (c : Choice) �
 shape-unarming d past i c e (idle acts is) = idle-pass is_unarming (λ code. refl) (λ m. refl) (λ m. refl) acts is
 shape-unarming d past i c e (arms n k how is) = armed i n k how is e
 shape-unarming d past i c e (crashes n up) = refl
-shape-unarming d past i c e (restarts n up) = unarming-opened d past n (flag_of (node d past n).doubt c.finds) c.opens
+shape-unarming d past i c e (restarts n up) =
+    unarming-opened d past n (flag_at (is_compacting past n) (node d past n).doubt c.finds) c.opens
 shape-unarming d past i c e (begins s is new up quiet) =
     unarming-acts past c s.home (begin_outs s.home (participant (view d past s.home)) s (floor_at d past s))
     (pass-begin is_unarming (λ t n sid0. refl) (λ t j v. refl) (λ t. refl) s.home (participant (view d past s.home)) s (floor_at d past s))
 shape-unarming d past i c e (delivers m x is up) =
     unarming-acts past c x.to (answer x.to (view d past x.to) x.from x.message)
     (pass-answer is_unarming x.to (view d past x.to) x.from x.message (row-unarming x.to x.message))
-shape-unarming d past i c e (again n os up is) = unarming-acts past c n os (pass-again is_unarming d past n os is)
+shape-unarming d past i c e (again n os up is) =
+    unarming-acts past c n os (pass-again is_unarming (λ m. refl) d past n os is)
 
 unfailing-acts : (past : List Act) (n : NodeId) (os : List Out) → Pass is_unfailing os
     → are_unfailing (acts_of past calm n os) ≡ true
@@ -102,7 +106,7 @@ shape-unfailing d past i e (idle acts is) = idle-pass is_unfailing (λ code. ref
 shape-unfailing d past i e (arms n k how is) = armed i n k how is e
 shape-unfailing d past i e (crashes n up) = refl
 shape-unfailing d past i e (restarts n up) =
-    pass-losses is_unfailing d (act.Up n (flag_of (node d past n).doubt false) ∷ past) n
+    pass-losses is_unfailing d (act.Up n (flag_at (is_compacting past n) (node d past n).doubt false) ∷ past) n
     (number_order (script_numbers d.scripts)) (λ t. refl)
 shape-unfailing d past i e (begins s is new up quiet) =
     unfailing-acts past s.home (begin_outs s.home (participant (view d past s.home)) s (floor_at d past s))
@@ -110,7 +114,8 @@ shape-unfailing d past i e (begins s is new up quiet) =
 shape-unfailing d past i e (delivers m x is up) =
     unfailing-acts past x.to (answer x.to (view d past x.to) x.from x.message)
     (pass-answer is_unfailing x.to (view d past x.to) x.from x.message (row-unfailing x.to x.message))
-shape-unfailing d past i e (again n os up is) = unfailing-acts past n os (pass-again is_unfailing d past n os is)
+shape-unfailing d past i e (again n os up is) =
+    unfailing-acts past n os (pass-again is_unfailing (λ m. refl) d past n os is)
 
 -- a row, by its shape
 row-unarming_all : (d : DocumentData) (past : List Act) (i : Item) (c : Choice) → is_unfused i ≡ true
@@ -155,16 +160,36 @@ undoubted d (a ∷ past) n q =
     let both = and_parts (is_unfailing a) (are_unfailing past) q in
     undoubted-one d (got past) a n (node d past n) both.0 (undoubted d past n both.1)
 
-same-flag : (o : Option Record) (finds : Bool) → o ≡ None → flag_of o finds ≡ flag_of o false
-same-flag None finds e = refl
-same-flag (Some x) finds e = cc
+-- nor a compaction
+uncompacting-one : (a : Act) (n : NodeId) (b : Bool) → is_unfailing a ≡ true → b ≡ false
+    → compacting_behind a n b ≡ false
+uncompacting-one (act.Down m None) n b q none = grind (arith, none)
+uncompacting-one (act.Down m (Some h)) n b q none = cc
+uncompacting-one (act.Up m f) n b q none = grind (arith, none)
+uncompacting-one a n b q none = none
+
+uncompacting : (past : List Act) (n : NodeId) → are_unfailing past ≡ true → is_compacting past n ≡ false
+uncompacting [] n q = refl
+uncompacting (a ∷ past) n q =
+    let both = and_parts (is_unfailing a) (are_unfailing past) q in
+    uncompacting-one a n (is_compacting past n) both.0 (uncompacting past n both.1)
+
+same-flag : (b : Bool) (o : Option Record) (finds : Bool) → b ≡ false → o ≡ None → flag_at b o finds ≡ flag_at b o false
+same-flag true o finds e none = cc
+same-flag false None finds e none = refl
+same-flag false (Some x) finds e none = cc
 
 same-opened : (d : DocumentData) (past : List Act) (n : NodeId) (opens finds : Bool) → are_unfailing past ≡ true
     → are_unfailing
-    (if opens then opened_row d past n (flag_of (node d past n).doubt finds) else act.StillDown n ∷ []) ≡ true
-    → (if opens then opened_row d past n (flag_of (node d past n).doubt finds) else act.StillDown n ∷ []) ≡ opened_row d past n (flag_of (node d past n).doubt false)
+    (if opens then opened_row d past n (flag_at (is_compacting past n) (node d past n).doubt finds)
+    else act.StillDown n ∷ []) ≡ true
+    → (if opens then opened_row d past n (flag_at (is_compacting past n) (node d past n).doubt finds)
+    else act.StillDown n ∷ [])
+    ≡ opened_row d past n (flag_at (is_compacting past n) (node d past n).doubt false)
 same-opened d past n true finds before e =
-    ap (opened_row d past n) (same-flag (node d past n).doubt finds (undoubted d past n before))
+    ap (opened_row d past n)
+    (same-flag (is_compacting past n) (node d past n).doubt finds (uncompacting past n before)
+    (undoubted d past n before))
 same-opened d past n false finds before e = cc
 
 shape-same : (d : DocumentData) (past : List Act) (i : Item) (c : Choice) → are_unfailing past ≡ true
@@ -204,6 +229,7 @@ fuseless d [] n e = refl
 fuseless d (act.Armed m k how ∷ past) n e = cc
 fuseless d (act.StillDown m ∷ past) n e = none-if (m == n) None (fuse d past n) refl (fuseless d past n e)
 fuseless d (act.Down m h ∷ past) n e = none-if (m == n) None (fuse d past n) refl (fuseless d past n e)
+fuseless d (act.Compacted m ∷ past) n e = none-if (m == n) None (fuse d past n) refl (fuseless d past n e)
 fuseless d (act.Up m f ∷ past) n e = rw (fuseless d past n e) refl
 fuseless d (a ∷ past) n e = rw (fuseless d past n (unarming-past a past e)) refl
 
@@ -214,9 +240,16 @@ fuseless-at_stop d (act.Down m h ∷ past) n e =
     none-if (m == n) (fuse d past n) (fuse_at_stop d past n) (fuseless d past n e) (fuseless-at_stop d past n e)
 fuseless-at_stop d (a ∷ past) n e = fuseless-at_stop d past n (unarming-past a past e)
 
+lets-all : (b : Bool) → lets_found b None ≡ true
+lets-all true = refl
+lets-all false = refl
+
 let-one : (d : DocumentData) (past : List Act) (a : Act) (n : NodeId) → are_unarming past ≡ true
     → is_let d past a n ≡ true
-let-one d past (act.Up m flag.Kept) n e = or_right (not (m == n)) _ (ap lets_gate (fuseless-at_stop d past n e))
+let-one d past (act.Up m flag.Kept) n e =
+    or_right (not (m == n)) _
+    (ap (lets_found (is_compacting past n)) (fuseless-at_stop d past n e) ∙ lets-all (is_compacting past n))
+let-one d past (act.Compacted m) n e = or_right (not (m == n)) _ (ap lets_compaction (fuseless d past n e))
 let-one d past a n e = or_right (not (is_record_at d a n)) _ (ap lets_record (fuseless d past n e))
 
 let-all : (d : DocumentData) (past : List Act) (n : NodeId) → are_unarming past ≡ true → are_let d past n ≡ true
@@ -255,9 +288,13 @@ faulty (act.Down m None) u e = cc
 faulty (act.Armed n k how) u e = cc
 faulty a u e = cc
 
+none-stops : (h : Head) → stops_in h None ≡ false
+none-stops head.Compact = refl
+none-stops h = refl
+
 not-fused : (d : DocumentData) (past : List Act) (a : Act) (n : NodeId) → fuse d past n ≡ None
     → is_by_fuse d past a n ≡ false
-not-fused d past (act.Down m (Some h)) n e = ap stops_record e
+not-fused d past (act.Down m (Some h)) n e = ap (stops_in h) e ∙ none-stops h
 not-fused d past (act.StillDown m) n e = ap (λ x. stops_opening x (journal d past n)) e
 not-fused d past a n e = refl
 

@@ -81,13 +81,14 @@ pub record ClosedDue (d : DocumentData) (past : List Act) (n : NodeId) (t : TxId
   pub stage : stage (view d before n) t ≡ Commits decision acks
   pub all : are_all_among decision.parts (acks ++ from ∷ []) ≡ true
 
--- what stands behind a record of n, whether or not the disk keeps it
+-- what stands behind a record or a compaction of n, whether or not the disk keeps it
 abbrev pub HeadDue : DocumentData → List Act → NodeId → Head → Type 0
 HeadDue d past n (head.Prepared t p) = PreparedDue d past n t p
 HeadDue d past n (head.Ended t o) = EndedDue d past n t o
 HeadDue d past n (head.Ceiling c) = CeilingDue d past n c
 HeadDue d past n (head.Decided t f) = DecidedDue d past n t f
 HeadDue d past n (head.Closed t) = ClosedDue d past n t
+HeadDue d past n head.Compact = Unit {0}
 
 abbrev pub RecordDue : DocumentData → List Act → NodeId → Head → Type 0
 RecordDue d past n h = IsUp d past n × HeadDue d past n h
@@ -179,6 +180,7 @@ IsDue d past (act.Ended n t o) = RecordDue d past n (head.Ended t o)
 IsDue d past (act.Ceiling n c) = RecordDue d past n (head.Ceiling c)
 IsDue d past (act.Decided t f) = (n : NodeId) × RecordDue d past n (head.Decided t f)
 IsDue d past (act.Closed t) = (n : NodeId) × RecordDue d past n (head.Closed t)
+IsDue d past (act.Compacted n) = RecordDue d past n head.Compact
 IsDue d past (act.Finished t) = FinishedDue d past t
 IsDue d past (act.Aborted t x why) = AbortedDue d past t x why
 IsDue d past (act.Lost t) = LostDue d past t

@@ -18,6 +18,7 @@ OwnDue d past n (act.Ended k t o) = (k ≡ n) × RecordDue d past n (head.Ended 
 OwnDue d past n (act.Ceiling k c) = (k ≡ n) × RecordDue d past n (head.Ceiling c)
 OwnDue d past n (act.Decided t f) = RecordDue d past n (head.Decided t f)
 OwnDue d past n (act.Closed t) = RecordDue d past n (head.Closed t)
+OwnDue d past n (act.Compacted k) = (k ≡ n) × RecordDue d past n head.Compact
 OwnDue d past n a = IsDue d past a
 
 -- these outs of n, the next message of which has number m, are due one behind the other
@@ -32,6 +33,8 @@ own-due d past n (act.Ended k t o) due = let P : NodeId → Type 0 = λ j. Recor
 own-due d past n (act.Ceiling k c) due = let P : NodeId → Type 0 = λ j. RecordDue d past j (head.Ceiling c) in subst P (sym due.0) due.1
 own-due d past n (act.Decided t f) due = (n, due)
 own-due d past n (act.Closed t) due = (n, due)
+own-due d past n (act.Compacted k) due =
+    let P : NodeId → Type 0 = λ j. RecordDue d past j head.Compact in subst P (sym due.0) due.1
 own-due d past n a due = due
 
 kept-due : (d : DocumentData) (past : List Act) (n : NodeId) (m : ℕ) (os : List Out) → OutsDue d past n m os → AreDue d past (numbered m n os)
@@ -46,6 +49,7 @@ broken-due d past n m (out.Act (act.Ended k t o) ∷ os) due = (due.0.1, tt)
 broken-due d past n m (out.Act (act.Ceiling k c) ∷ os) due = (due.0.1, tt)
 broken-due d past n m (out.Act (act.Decided t f) ∷ os) due = (due.0, tt)
 broken-due d past n m (out.Act (act.Closed t) ∷ os) due = (due.0, tt)
+broken-due d past n m (out.Act (act.Compacted k) ∷ os) due = (due.0.1, tt)
 broken-due d past n m (out.Act a ∷ os) due = (due.0, broken-due d (a ∷ past) n m os due.1)
 broken-due d past n m (out.Send to said ∷ os) due = (due.0, broken-due d (act.Sent m n to said ∷ past) n (m + 1) os due.1)
 

@@ -17,8 +17,9 @@ use Rattle.grid_model.specs.Nodes.{node, script_of, journal}
 use Rattle.grid_model.specs.Stories.{story}
 use Rattle.grid_model.specs.Views.{view, stage, participant}
 use Rattle.grid_model.specs.Rows.{answer, begin_outs}
-use Rattle.grid_model.specs.Schedules.{Choice, acts_of, flag_of, next_number, opened_row, row, start_act, start_row}
-use Rattle.grid_model.proofs.EventShapes.{Shape, idle, arms, crashes, restarts, begins, delivers, again, IsAgain, retries, asks, asks_peer, acts_by, by-shape, is_idle}
+use Rattle.grid_model.specs.Disks.{is_compacting}
+use Rattle.grid_model.specs.Schedules.{Choice, acts_of, flag_at, next_number, opened_row, row, start_act, start_row}
+use Rattle.grid_model.proofs.EventShapes.{Shape, idle, arms, crashes, restarts, begins, delivers, again, IsAgain, retries, asks, asks_peer, compacts, acts_by, by-shape, is_idle}
 use Rattle.grid_laws.proofs.Causes.{IsDue, AreDue}
 use Rattle.grid_laws.proofs.DueActs.{OutsDue, acts-due}
 use Rattle.grid_laws.proofs.DueParts.{due-ask_peer, due-ask}
@@ -36,12 +37,15 @@ due-outs d past c n os due = acts-due d past n (next_number past) c.keeps os due
 abbrev pub UnbegunUndecided : DocumentData → List Act → Type 0
 UnbegunUndecided d past = (t : TxId) (s : ScriptData) → script_of t d.scripts ≡ Some s → story d past t ≡ None → decision t (journal d past s.home) ≡ None
 
-due-again : (d : DocumentData) (past : List Act) (n : NodeId) (os : List Out) → ReadersAnswered d past → IsAgain d past n os
+due-again : (d : DocumentData) (past : List Act) (n : NodeId) (os : List Out) → ReadersAnswered d past
+    → (node d past n).up ≡ true
+    → IsAgain d past n os
     → OutsDue d past n (next_number past) os
-due-again d past n os answered (retries t is) =
+due-again d past n os answered up (retries t is) =
     rw is (due-retry d past n (next_number past) t (stage (view d past n) t) answered refl)
-due-again d past n os answered (asks t is) = rw is (due-ask d past n (next_number past) (view d past n) t refl)
-due-again d past n os answered (asks_peer t y is) = rw is (due-ask_peer d past n (next_number past) t y)
+due-again d past n os answered up (asks t is) = rw is (due-ask d past n (next_number past) (view d past n) t refl)
+due-again d past n os answered up (asks_peer t y is) = rw is (due-ask_peer d past n (next_number past) t y)
+due-again d past n os answered up (compacts is) = rw is ((refl, (up, tt)), tt)
 
 due-idle : (d : DocumentData) (past acts : List Act) → list_all is_idle acts ≡ true → AreDue d past acts
 due-idle d past [] is = tt
@@ -60,10 +64,11 @@ due-shape : (d : DocumentData) (past : List Act) (i : Item) (c : Choice) → Rea
 due-shape d past i c answered none (idle acts is) = due-idle d past acts is
 due-shape d past i c answered none (arms n k how is) = (tt, tt)
 due-shape d past i c answered none (crashes n up) = (up, tt)
-due-shape d past i c answered none (restarts n up) = due-restart d past n (flag_of (node d past n).doubt c.finds) c.opens
+due-shape d past i c answered none (restarts n up) =
+    due-restart d past n (flag_at (is_compacting past n) (node d past n).doubt c.finds) c.opens
 due-shape d past i c answered none (begins s is new up quiet) = due-outs d past c s.home (begin_outs s.home (participant (view d past s.home)) s (floor_at d past s)) (due-begin d past (next_number past) s is up new quiet (none s.number s is new))
 due-shape d past i c answered none (delivers m e is up) = ((e, is, up), acts-due d (act.Got m ∷ past) e.to (next_number past) c.keeps (answer e.to (view d past e.to) e.from e.message) (due-answer d past e.to m (next_number past) e.from e.message answered up is))
-due-shape d past i c answered none (again n os up is) = due-outs d past c n os (due-again d past n os answered is)
+due-shape d past i c answered none (again n os up is) = due-outs d past c n os (due-again d past n os answered up is)
 
 -- the acts of an event are due
 pub due-row : (d : DocumentData) (past : List Act) (e : Item) (c : Choice) → ReadersAnswered d past → UnbegunUndecided d past

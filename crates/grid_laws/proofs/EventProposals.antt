@@ -18,7 +18,8 @@ use Rattle.grid_model.specs.Histories.{after}
 use Rattle.grid_model.specs.Nodes.{node}
 use Rattle.grid_model.specs.Views.{view, participant}
 use Rattle.grid_model.specs.Rows.{answer, begin_outs}
-use Rattle.grid_model.specs.Schedules.{Choice, acts_of, events_in, flag_of, next_number, opened_row, row, start_row}
+use Rattle.grid_model.specs.Disks.{is_compacting}
+use Rattle.grid_model.specs.Schedules.{Choice, acts_of, events_in, flag_at, next_number, opened_row, row, start_row}
 use Rattle.grid_model.specs.Runs.{Rows, IsRun}
 use Rattle.grid_model.proofs.EventShapes.{Shape, idle, arms, crashes, restarts, begins, delivers, again, acts_by, by-shape}
 use Rattle.grid_laws.proofs.ActsLow.{weight, proposals}
@@ -50,7 +51,8 @@ one-shape : (d : DocumentData) (past : List Act) (i : Item) (c : Choice) (s : Sh
 one-shape d past i c (idle acts is) = omega (arith, none-idle acts is)
 one-shape d past i c (arms n k how is) = omega arith
 one-shape d past i c (crashes n up) = omega arith
-one-shape d past i c (restarts n up) = one-restart d past n (flag_of (node d past n).doubt c.finds) c.opens
+one-shape d past i c (restarts n up) =
+    one-restart d past n (flag_at (is_compacting past n) (node d past n).doubt c.finds) c.opens
 one-shape d past i c (begins s is new up quiet) =
     let os : List Out = begin_outs s.home (participant (view d past s.home)) s (floor_at d past s) in
     one-acts past c s.home os (from-none os (none-begin s.home (view d past s.home) s (floor_at d past s)))

@@ -114,6 +114,7 @@ stop-decides d past m n (Some (head.Prepared u p)) t due at e = absurd (prepared
 stop-decides d past m n (Some (head.Ended u o)) t due at e = cc
 stop-decides d past m n (Some (head.Ceiling c)) t due at e = cc
 stop-decides d past m n (Some (head.Closed u)) t due at e = cc
+stop-decides d past m n (Some head.Compact) t due at e = cc
 stop-decides d past m n None t due at e = cc
 
 -- what an act adds at n is due there

@@ -102,6 +102,7 @@ low-head m d e (Some (head.Ended t o)) i = i
 low-head m d e (Some (head.Ceiling c)) i = i
 low-head m d e (Some (head.Decided t f)) i = i
 low-head m d e (Some (head.Closed t)) i = i
+low-head m d e (Some head.Compact) i = tt
 
 low-freed : (m : ℕ) (b : Bool) (t : TxId) (op : ℕ) (k : Key) (sid : Ident) → LowChange m (freed b t op k sid)
 low-freed m true t op k sid = tt

@@ -127,6 +127,7 @@ due-fits d past n (head.Closed t) s due =
     let is : undone t (node d due.1.before n).journal ≡ Some due.1.decision = stage-commits d due.1.before n t due.1.decision due.1.acks due.1.stage in
     let P : List Act → Type 0 = λ p. is_some (undone t (node d p n).journal) ≡ true in
     (subst P (sym due.1.is) (rw is refl), tt, refl)
+due-fits d past n head.Compact s due = (tt, tt, tt)
 
 fit-written : (d : DocumentData) (n : NodeId) (x : Node) (o : Option Record) → x.up ≡ true → FitsDoubt d n x.journal o → HoldsIn (AtItsHome d n) o → OverDoubt x.next o → FitChange d n x (Writes o)
 fit-written d n x None up fit home over = tt

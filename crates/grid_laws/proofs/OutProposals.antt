@@ -49,6 +49,7 @@ weight-broken n (out.Act (act.Ended k t o) ∷ os) = omega arith
 weight-broken n (out.Act (act.Ceiling k c) ∷ os) = omega arith
 weight-broken n (out.Act (act.Decided t f) ∷ os) = omega arith
 weight-broken n (out.Act (act.Closed t) ∷ os) = omega arith
+weight-broken n (out.Act (act.Compacted m) ∷ os) = omega arith
 weight-broken n (out.Act a ∷ os) = omega (arith, weight-broken n os)
 
 weight-kept : (b : Bool) (n : NodeId) (os : List Out) → outs_weight (kept b n os) ≤ outs_weight os
@@ -100,7 +101,7 @@ none-starts opens ns = none-all (map (start_act opens) ns) (pass-starts is_unpro
 
 pub none-again : (d : DocumentData) (past : List Act) (n : NodeId) (os : List Out) → IsAgain d past n os
     → outs_weight os ≡ 0
-none-again d past n os is = none-outs os (pass-again is_unproposing d past n os is)
+none-again d past n os is = none-outs os (pass-again is_unproposing (λ m. refl) d past n os is)
 
 pub none-begin : (n : NodeId) (v : View) (s : ScriptData) (floor : Ident) → outs_weight (begin_outs n (participant v) s floor) ≡ 0
 none-begin n v s floor =

@@ -45,7 +45,7 @@ use Rattle.grid_model.specs.Advances.{advance, advance_end, owns, parts_now, pre
 use Rattle.grid_model.specs.Fitness.{is_fit_at, tx_in}
 use Rattle.grid_model.specs.Rows.{peer_outs, first_ident, abort_outs, ack_outs, answer, answered, are_all_among, asked_outs, ballot_outs, begin_outs, begun_at, ceiling_of, ceilings, closed_outs, commit_outs, decides, freed_by, greatest_vote, have_voted, if_pending, judged, not_among, not_voted, prepared_outs, raises, read_outs, release, reply_outs, retry_outs, message_outs, served, tell_outs, tells, version_for, vote_outs}
 use Rattle.grid_model.specs.Schedules.{broken, head_at, head_of, kept, lost_at, numbered, start_act, stopped}
-use Rattle.grid_model.proofs.EventShapes.{IsAgain, asks, asks_peer, retries}
+use Rattle.grid_model.proofs.EventShapes.{IsAgain, asks, asks_peer, compacts, retries}
 use Rattle.grid_laws.proofs.Frames.{same-number}
 
 -- ---- a test on acts
@@ -149,19 +149,20 @@ pass-retry f c t (Collects x) = pass-prepares f c x (not_voted (parts_now c x) x
 pass-retry f c t (Commits y acks) = pass-tells f t (outcome.Commit y.final) (not_among y.parts acks)
 pass-retry f c t Apart = refl
 
--- what a home sends again, or what a node asks, has no act
-pub pass-again : (f : Act → Bool) (d : DocumentData) (past : List Act) (n : NodeId) (os : List Out)
-    → IsAgain d past n os → Pass f os
-pass-again f d past n os (retries t is) = rw is (pass-retry f d.cluster t (stage (view d past n) t))
-pass-again f d past n os (asks t is) =
+-- what a home sends again and what a node asks have no act, and a compaction has one
+pub pass-again : (f : Act → Bool) → ((m : NodeId) → f (act.Compacted m) ≡ true)
+    → (d : DocumentData) (past : List Act) (n : NodeId)
+    (os : List Out) → IsAgain d past n os → Pass f os
+pass-again f compacted d past n os (retries t is) = rw is (pass-retry f d.cluster t (stage (view d past n) t))
+pass-again f compacted d past n os (asks t is) =
     let p : Participant = participant (view d past n) in
     rw is
     (pass-if f (is_some (pending t p.journal)) (to_node (home_of t p.journal) (message.Ask t)) [] (pass-to_node f (home_of t p.journal) (message.Ask t)) refl)
-
-pass-again f d past n os (asks_peer t m is) =
+pass-again f compacted d past n os (asks_peer t m is) =
     let p : Participant = participant (view d past n) in
     rw is
     (pass-if f (is_some (pending t p.journal) && names_part t m p.journal) (out.Send m (message.AskPeer t) ∷ []) [] refl refl)
+pass-again f compacted d past n os (compacts is) = rw is (pass-act f (act.Compacted n) [] (compacted n) refl)
 
 -- ---- Advance
 

@@ -1,9 +1,13 @@
 //! Laws of every run: of all rows and all free choices of the disks, stops and restarts included.
-ghost use Rattle.std.specs.Prelude.{◌≡◌, ℕ, List, [], sum_by};
+ghost use Rattle.std.specs.Prelude.{◌≡◌, ℕ, IsTrue, List, [], sum_by};
 ghost use Rattle.grid_model.specs.declared.acts.Act.{Act};
 ghost use Rattle.grid_model.specs.declared.items.Item.{Item};
 ghost use Rattle.grid_model.specs.Documents.{DocumentData, IsOne, events_of};
 ghost use Rattle.grid_model.specs.Histories.{after};
+ghost use Rattle.grid_model.specs.Nodes.{journal};
+ghost use Rattle.grid_model.specs.Disks.{disklog};
+ghost use Rattle.journal_words.specs.Journals.{all_fit};
+ghost use Rattle.journal_words.specs.Small.{AreAlike};
 ghost use Rattle.grid_model.specs.Runs.{IsRun, Lawful};
 ghost use Rattle.grid_model.specs.Facts.{
   AbortsFinal,
@@ -38,6 +42,15 @@ pub fn law_locks_exclude()
 /// Each vote, commit, acknowledgement and read reply that was sent is backed by a record or an act.
 pub fn law_messages_backed()
     ensures { (d : DocumentData) (h : List Act) → IsRun d d.items h → MessagesBacked d (after [] h) }
+{}
+
+/// The disk list of each node and its journal are alike, so no word of a node tells them apart, and each
+/// record of the disk list fits those before it.
+pub fn law_disk_lists()
+    ensures alike { (d : DocumentData) (h : List Act) → IsRun d d.items h → (n : ℕ) →
+        AreAlike (disklog d (after [] h) n) (journal d (after [] h) n) }
+    ensures fit { (d : DocumentData) (h : List Act) → IsRun d d.items h → (n : ℕ) →
+        IsTrue (all_fit d.cluster n (disklog d (after [] h) n)) }
 {}
 
 /// Each read that was served is promised: its node's floor covers it, nothing pending there is at most

@@ -17,10 +17,11 @@ use Rattle.grid_model.specs.Histories.{after, sent, sent_at}
 use Rattle.grid_model.specs.Nodes.{node, script_of}
 use Rattle.grid_model.specs.Stories.{story}
 use Rattle.grid_model.specs.Views.{participant, view, stage}
-use Rattle.grid_model.specs.Rows.{ask_peer_outs, answer, begin_outs, retry_outs, ask_outs}
+use Rattle.grid_model.specs.Disks.{is_compacting}
+use Rattle.grid_model.specs.Rows.{compact_outs, ask_peer_outs, answer, begin_outs, retry_outs, ask_outs}
 use Rattle.journal_words.specs.Journals.{pending}
 use Rattle.grid_model.specs.Sessions.{floor_at, is_busy_at}
-use Rattle.grid_model.specs.Schedules.{Choice, acts_of, begin_row, deliver_row, drop_row, flag_of, next_left, next_row, opened_row, or_void, retry_row, row}
+use Rattle.grid_model.specs.Schedules.{Choice, acts_of, begin_row, deliver_row, drop_row, flag_at, next_left, next_row, opened_row, or_void, retry_row, row}
 use Rattle.grid_model.proofs.Undecided.{script-number}
 
 -- an act that changes nothing
@@ -39,11 +40,12 @@ idle-pass f void missed dropped (act.Missed m ∷ acts) is = rw (missed m) (idle
 idle-pass f void missed dropped (act.Dropped m ∷ acts) is = rw (dropped m) (idle-pass f void missed dropped acts is)
 idle-pass f void missed dropped (a ∷ acts) is = cc
 
--- what a home sends again, or what a node asks
+-- what a home sends again, what a node asks, or a compaction
 pub data IsAgain (d : DocumentData) (past : List Act) (n : NodeId) (os : List Out) : Type 0 where
   retries : (t : TxId) → os ≡ retry_outs d.cluster t (stage (view d past n) t) → IsAgain d past n os
   asks : (t : TxId) → os ≡ ask_outs (participant (view d past n)) t → IsAgain d past n os
   asks_peer : (t : TxId) (m : NodeId) → os ≡ ask_peer_outs (participant (view d past n)) t m → IsAgain d past n os
+  compacts : os ≡ compact_outs n → IsAgain d past n os
 
 -- an item is an event of one of these shapes behind a past
 pub data Shape (d : DocumentData) (past : List Act) (i : Item) : Type 0 where
@@ -62,7 +64,8 @@ acts_by d past i c (idle acts is) = acts
 acts_by d past i c (arms n k how is) = act.Armed n k how ∷ []
 acts_by d past i c (crashes n up) = act.Down n None ∷ []
 acts_by d past i c (restarts n up) =
-    if c.opens then opened_row d past n (flag_of (node d past n).doubt c.finds) else act.StillDown n ∷ []
+    if c.opens then opened_row d past n (flag_at (is_compacting past n) (node d past n).doubt c.finds)
+    else act.StillDown n ∷ []
 acts_by d past i c (begins s is new up quiet) =
     acts_of past c s.home (begin_outs s.home (participant (view d past s.home)) s (floor_at d past s))
 acts_by d past i c (delivers m e is up) =
@@ -151,7 +154,9 @@ crash_row-shaped d past i n true up = record { shape = crashes n up; same = λ c
 crash_row-shaped d past i n false up = alone d past i (act.Void 7) refl
 
 restart_row-shaped : (d : DocumentData) (past : List Act) (i : Item) (n : NodeId) (b : Bool) → (node d past n).up ≡ b
-    → IsShaped d past i (λ c. if b then act.Void 8 ∷ [] else (if c.opens then opened_row d past n (flag_of (node d past n).doubt c.finds) else act.StillDown n ∷ []))
+    → IsShaped d past i (λ c. if b then act.Void 8 ∷ [] else
+        (if c.opens then opened_row d past n (flag_at (is_compacting past n) (node d past n).doubt c.finds)
+        else act.StillDown n ∷ []))
 restart_row-shaped d past i n true up = alone d past i (act.Void 8) refl
 restart_row-shaped d past i n false up = record { shape = restarts n up; same = λ c. refl }
 
@@ -169,6 +174,8 @@ row-shaped d past (item.AskPeer n t m) =
 row-shaped d past (item.Crash n how) = crash_row-shaped d past (item.Crash n how) n (node d past n).up refl
 row-shaped d past (item.Fuse n k how) = record { shape = arms n k how refl; same = λ c. refl }
 row-shaped d past (item.Restart n) = restart_row-shaped d past (item.Restart n) n (node d past n).up refl
+row-shaped d past (item.Compact n) =
+    again-shaped d past (item.Compact n) n (compact_outs n) 11 11 (node d past n).up refl (compacts refl)
 
 -- what holds of the acts of each shape holds of each row
 pub by-shape : (d : DocumentData) (past : List Act) (i : Item) (c : Choice) (P : List Act → Type 0)

@@ -7,6 +7,7 @@ pub mod RunsWithConflicts
 pub mod RunsWithReads
 pub mod RunsThatStop
 pub mod RunsThatAsk
+pub mod RunsThatCompact
 pub mod Unarmed
 pub mod LawfulStops
 pub mod ViewsOnTheWay
@@ -19,5 +20,6 @@ pub mod ViewSteps
 pub mod HeardViews
 pub mod PlainOuts
 pub mod NextSteps
+pub mod DiskLists
 pub mod Written
 pub mod SerialCopies

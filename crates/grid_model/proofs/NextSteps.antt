@@ -37,7 +37,7 @@ use Rattle.grid_model.specs.Views.{View, Open, Stage, Apart, Reads, Collects, Co
 use Rattle.grid_model.specs.Advances.{advance, advance_end, request_of, to_node, prepares, prepare_for, date_by, owns, parts_now}
 use Rattle.script_runs.specs.Walks.{op_at, own_reads, unread}
 use Rattle.grid_model.specs.Fitness.{is_fit_at, tx_in, counts_vote}
-use Rattle.grid_model.specs.Rows.{peer_outs, ask_peer_outs, first_ident, release, served, ceiling_of, ceilings, raises, answered, read_outs, version_for, dated, reply_outs, prepared_outs, tells, have_voted, decides, greatest_vote, ballot_outs, vote_outs, are_all_among, ack_outs, asked_outs, commit_outs, abort_outs, tell_outs, freed_by, message_outs, answer, begin_outs, begun_at, retry_outs, not_voted, not_among, ask_outs, if_pending, outs_of}
+use Rattle.grid_model.specs.Rows.{compact_outs, peer_outs, ask_peer_outs, first_ident, release, served, ceiling_of, ceilings, raises, answered, read_outs, version_for, dated, reply_outs, prepared_outs, tells, have_voted, decides, greatest_vote, ballot_outs, vote_outs, are_all_among, ack_outs, asked_outs, commit_outs, abort_outs, tell_outs, freed_by, message_outs, answer, begin_outs, begun_at, retry_outs, not_voted, not_among, ask_outs, if_pending, outs_of}
 use Rattle.grid_model.specs.Schedules.{numbered}
 use Rattle.grid_model.specs.NextViews.{is_running, OwnDecisions, Comes, brought, behind, behind_all, heard_view, next_view, changed_open, desk_heard}
 use Rattle.grid_model.proofs.ViewSteps.{here, step-began, step-decided}
@@ -306,3 +306,5 @@ event-view d past n m k (event.Deliver x said) (is, own) = deliver-view d past n
 event-view d past n m k (event.Retry t) comes = retry-view d past n k t
 event-view d past n m k (event.Ask t) comes = ask-view d past n k t
 event-view d past n m k (event.AskPeer t y) comes = ask_peer-view d past n k t y
+event-view d past n m k event.Compact comes =
+    plain-view d past n false None None k (compact_outs n) refl (λ is. never is)

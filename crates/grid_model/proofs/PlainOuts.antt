@@ -18,7 +18,7 @@ use Rattle.grid_model.specs.Nodes.{got, is_home}
 use Rattle.grid_model.specs.Views.{view}
 use Rattle.grid_model.specs.Schedules.{numbered}
 use Rattle.grid_model.specs.NextViews.{behind, behind_all}
-use Rattle.grid_model.proofs.ViewSteps.{step-prepared, step-ended, step-ceiling, step-raised, step-held, step-served, step-quiet, step-refused, step-taken, step-finished, step-aborted, step-sent, step-closed}
+use Rattle.grid_model.proofs.ViewSteps.{step-prepared, step-ended, step-ceiling, step-raised, step-held, step-served, step-quiet, step-refused, step-taken, step-finished, step-aborted, step-sent, step-closed, step-compacted}
 
 -- an out of n that may stand anywhere; where no message is delivered, one that takes nothing from it
 abbrev pub is_plain : DocumentData → NodeId → Bool → Out → Bool
@@ -32,6 +32,7 @@ is_plain d n b (out.Act (act.Raised m sid)) = m == n
 is_plain d n b (out.Act (act.Closed u)) = is_home d u n
 is_plain d n b (out.Act (act.Own t j v)) = true
 is_plain d n b (out.Act (act.Refused m t why)) = true
+is_plain d n b (out.Act (act.Compacted m)) = true
 is_plain d n b (out.Act (act.Taken t j sid v)) = true
 is_plain d n b (out.Act (act.Finished t)) = true
 is_plain d n b (out.Act (act.Aborted t m why)) = true
@@ -60,6 +61,7 @@ step-plain d past n b e s (act.Raised m sid) is got = rw (at-node m n is) (step-
 step-plain d past n b e s (act.Closed u) is got = step-closed d past n u e s is
 step-plain d past n b e s (act.Own t j v) is got = step-quiet d past t j v n e s
 step-plain d past n b e s (act.Refused m t why) is got = step-refused d past m t why n e s
+step-plain d past n b e s (act.Compacted m) is got = step-compacted d past m n e s
 step-plain d past n b e s (act.Taken t j sid v) is got = step-taken d past t j sid v n e s
 step-plain d past n b e s (act.Finished t) is got = step-finished d past t n e s
 step-plain d past n b e s (act.Aborted t m why) is got = step-aborted d past t m why n e s

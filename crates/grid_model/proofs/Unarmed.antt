@@ -1,5 +1,5 @@
 -- What a node owes that no fuse stops: each of its acts is allowed, and each of its stops is counted.
-use Rattle.std.proofs.Common.{ℕ, ◌+◌, ◌≤◌, Bool, true, false, ◌&&◌, not, ◌==◌, IsTrue, List, [], ◌∷◌, None, ◌≡◌, refl, arith}
+use Rattle.std.proofs.Common.{ℕ, ◌+◌, ◌≤◌, Bool, true, false, ◌&&◌, ◌||◌, not, ◌==◌, IsTrue, List, [], ◌∷◌, None, ◌≡◌, refl, arith}
 use Rattle.std.proofs.lemmas.Bool.Decides.{nat_tests}
 use Rattle.score_base.specs.declared.ids.NodeId.{NodeId}
 use Rattle.grid_model.specs.declared.acts.Act.{Act}
@@ -8,7 +8,8 @@ use Rattle.grid_model.specs.declared.acts.Flag.TheVariants as flag
 use Rattle.grid_model.specs.Documents.{DocumentData}
 use Rattle.grid_model.specs.Histories.{after}
 use Rattle.grid_model.specs.Runs.{IsRun, Lawful, Explains, is_let, are_let, is_stop, is_by_fuse, stops, faults, as_number}
-use Rattle.grid_model.specs.Fuses.{fuse, fuse_at_stop}
+use Rattle.grid_model.specs.Disks.{is_compacting}
+use Rattle.grid_model.specs.Fuses.{fuse, fuse_at_stop, lets_found}
 
 -- no fuse of n is armed in these acts
 abbrev pub is_unarmed : NodeId → List Act → Bool
@@ -21,6 +22,7 @@ unarmed-fuse d [] n u = refl
 unarmed-fuse d (act.Armed m k how ∷ past) n u = grind (arith, nat_tests, unarmed-fuse d past n)
 unarmed-fuse d (act.Down m h ∷ past) n u = grind (arith, nat_tests, unarmed-fuse d past n)
 unarmed-fuse d (act.StillDown m ∷ past) n u = grind (arith, nat_tests, unarmed-fuse d past n)
+unarmed-fuse d (act.Compacted m ∷ past) n u = grind (arith, nat_tests, unarmed-fuse d past n)
 unarmed-fuse d (act.Up m f ∷ past) n u = rw (unarmed-fuse d past n u) refl
 unarmed-fuse d (a ∷ past) n u = rw (unarmed-fuse d past n u) refl
 
@@ -31,7 +33,12 @@ unarmed-stop d (act.Down m h ∷ past) n u = grind (arith, nat_tests, unarmed-fu
 unarmed-stop d (a ∷ past) n u = unarmed-stop d past n u
 
 pub unarmed-let : (d : DocumentData) (past : List Act) (a : Act) (n : NodeId) → IsTrue (is_unarmed n past) → IsTrue (is_let d past a n)
-unarmed-let d past (act.Up m flag.Kept) n u = grind (arith, nat_tests, unarmed-stop d past n u)
+unarmed-let d past (act.Up m flag.Kept) n u = rw (unarmed-stop d past n u) (go (m == n) (is_compacting past n))
+  where
+    go : (here compacting : Bool) → IsTrue (not here || lets_found compacting None)
+    go true true = refl
+    go true false = refl
+    go false compacting = refl
 unarmed-let d past a n u = grind (arith, nat_tests, unarmed-fuse d past n u)
 
 pub unarmed-more : (n : NodeId) (a : Act) (past : List Act) → IsTrue (is_unarmed n (a ∷ past)) → IsTrue (is_unarmed n past)

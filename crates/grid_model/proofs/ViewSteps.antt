@@ -137,6 +137,10 @@ step-quiet d past t j v n e s = refl
 pub step-refused : (d : DocumentData) (past : List Act) (m : NodeId) (t : TxId) (why : Cause) (n : NodeId) (e : Option Envelope) (s : Option ScriptData) → view d (act.Refused m t why ∷ past) n ≡ behind e s (view d past n) (out.Act (act.Refused m t why))
 step-refused d past m t why n e s = refl
 
+pub step-compacted : (d : DocumentData) (past : List Act) (m n : NodeId) (e : Option Envelope) (s : Option ScriptData)
+    → view d (act.Compacted m ∷ past) n ≡ behind e s (view d past n) (out.Act (act.Compacted m))
+step-compacted d past m n e s = refl
+
 pub step-taken : (d : DocumentData) (past : List Act) (u : TxId) (j : ℕ) (sid : Ident) (v : Value) (n : NodeId) (e : Option Envelope) (s : Option ScriptData) → view d (act.Taken u j sid v ∷ past) n ≡ behind e s (view d past n) (out.Act (act.Taken u j sid v))
 step-taken d past u j sid v n e s = same-view _ _ refl refl refl refl
     (λ t. desk-taken n (node d past n) (script_of t d.scripts) (story d past t) (u == t) j sid v)

@@ -1,6 +1,6 @@
 -- What is claimed of every lawful run beside one copy: its footprint, the causes of its aborts, and that
 -- commits are atomic and, where they were acknowledged, kept. What waits is in `Excuses`.
-use Rattle.std.specs.Prelude.{◌≡◌, Bool, false, ◌&&◌, ◌||◌, ◌==◌, filter, map, reverse, IsTrue, List, [], ◌∷◌, ◌++◌, Option, Some, None, if◌then◌else◌}
+use Rattle.std.specs.Prelude.{◌≡◌, ◌⊎◌, Bool, true, false, ◌&&◌, ◌||◌, ◌==◌, filter, map, reverse, IsTrue, List, [], ◌∷◌, ◌++◌, Option, Some, None, if◌then◌else◌}
 use Rattle.score_base.specs.declared.ids.TxId.{TxId}
 use Rattle.score_base.specs.declared.ids.NodeId.{NodeId}
 use Rattle.score_base.specs.declared.ids.Ident.{Ident}
@@ -11,6 +11,7 @@ use Rattle.score_base.specs.declared.causes.Cause.TheVariants as cause
 use Rattle.score_base.specs.declared.causes.Outcome.{Outcome}
 use Rattle.score_base.specs.declared.causes.Outcome.TheVariants as outcome
 use Rattle.score_base.specs.declared.records.Record.{Record}
+use Rattle.score_base.specs.declared.records.Record.TheVariants as record'
 use Rattle.script_lang.specs.Scripts.{ScriptData}
 use Rattle.script_lang.specs.Reads.{is_update, written_keys}
 use Rattle.placement.specs.Places.{is_among, holds}
@@ -23,7 +24,9 @@ use Rattle.grid_model.specs.Documents.{DocumentData}
 use Rattle.grid_model.specs.Histories.{after}
 use Rattle.journal_words.specs.Journals.{ended, Prepared, holder, newer, prepared_of, has_decided}
 use Rattle.grid_model.specs.Facts.{is_given_up}
-use Rattle.grid_model.specs.Nodes.{Node, node, journal, got, said_by, is_home, script_of, parts_in}
+use Rattle.journal_words.specs.Small.{small}
+use Rattle.grid_model.specs.Nodes.{node, journal, got, said_by, is_home, script_of, parts_in}
+use Rattle.grid_model.specs.Disks.{is_compacting, was_compacted, disklog}
 use Rattle.grid_model.specs.Stories.{phase, is_open}
 use Rattle.script_runs.specs.Serials.{Map, map_behind}
 use Rattle.grid_model.specs.Fitness.{tx_in}
@@ -131,15 +134,23 @@ Atomic d h = AtomicOf d (after [] h)
 
 -- ---- acknowledged commits
 
--- a list of records that the disk of a node may hold
-pub data IsLog (x : Node) (log : List Record) : Type 0 where
-  standing : log ≡ reverse x.journal → IsLog x log
-  in_doubt : (last : Record) → x.doubt ≡ Some last → log ≡ reverse (last ∷ x.journal) → IsLog x log
+-- a list of records that the live file of node n may hold, in the order of time: its disk list; where a
+-- record is in doubt, that list with the record behind it; where a compaction is in doubt, its Small
+pub data IsLog (d : DocumentData) (past : List Act) (n : NodeId) (log : List Record) : Type 0 where
+  standing : log ≡ reverse (disklog d past n) → IsLog d past n log
+  in_doubt : (last : Record) → (node d past n).doubt ≡ Some last → log ≡ reverse (last ∷ disklog d past n)
+      → IsLog d past n log
+  compacting : is_compacting past n ≡ true → log ≡ reverse (small (disklog d past n)) → IsLog d past n log
 
--- these are the records on the disks, in the order of time: those that stand at each node, alone or, at
--- a node that is not up, with the record that was being written behind them
+-- each node has one of these lists that its live file may hold
 pub record AreLogs (d : DocumentData) (past : List Act) (logs : NodeId → List Record) : Type 0 where
-  pub each : (n : NodeId) → IsLog (node d past n) (logs n)
+  pub each : (n : NodeId) → IsLog d past n (logs n)
+
+-- an Ended of t with commit and the final identifier f stands
+abbrev pub has_ended : TxId → Ident → List Record → Bool
+has_ended t f [] = false
+has_ended t f (record'.Ended u (outcome.Commit g) ∷ r) = (u == t && g == f) || has_ended t f r
+has_ended t f (x ∷ r) = has_ended t f r
 
 -- the writes of a Prepared, where there is one
 abbrev pub writes_at : Option Prepared → Option (List (Key × Value))
@@ -151,14 +162,16 @@ abbrev pub writes_on : DocumentData → NodeId → ScriptData → Map → List (
 writes_on d n s m = map (λ k. (k, map_behind m s.ops k)) (filter (holds d.cluster.places n) (written_keys [] s.ops))
 
 -- an update whose client was told is in the serial order, and it is in the logs: its Decided at its home,
--- and at each part its Prepared with all of its writes there, with the values that the serial copy gives
--- them
+-- or, where a compaction of the home may have dropped it, its Ended with commit at each part; and at each
+-- part its Prepared with all of its writes there, with the values that the serial copy gives them
 pub record IsKept (d : DocumentData) (past : List Act) (logs : NodeId → List Record) (s : ScriptData) : Type 0 where
   pub final : Ident
   pub later : List (Ident × TxId)
   pub before : List (Ident × TxId)
   pub member : order d past ≡ later ++ (final, s.number) ∷ before
   pub decided : IsTrue (has_decided s.number final (reverse (logs s.home)))
+      ⊎ (IsTrue (was_compacted past s.home)
+      × ((n : NodeId) → IsTrue (is_among n (parts_in d (Some s))) → IsTrue (has_ended s.number final (reverse (logs n)))))
   pub prepared : (n : NodeId) → IsTrue (is_among n (parts_in d (Some s))) → writes_at (prepared_of s.number (reverse (logs n))) ≡ Some (writes_on d n s (copy_of d before))
 
 -- Kept: each finished update is kept in all lists that the disks may hold

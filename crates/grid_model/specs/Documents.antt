@@ -42,6 +42,7 @@ events_of (item.AskPeer n t m) = 1
 events_of (item.Crash n how) = 1
 events_of (item.Fuse n k how) = 1
 events_of (item.Restart n) = 1
+events_of (item.Compact n) = 1
 
 -- the keys that an initial value or an operation names, in the order of the document
 abbrev pub keys_of_document : List (Key × Value) → List ScriptData → List Key
@@ -67,6 +68,7 @@ is_item nodes ts (item.AskPeer n t m) = nat_le n nodes && (nat_le m nodes && lis
 is_item nodes ts (item.Crash n how) = nat_le n nodes && nat_le how 4294967295
 is_item nodes ts (item.Fuse n k how) = nat_le n nodes && nat_le 1 k && nat_le k 1000 && nat_le how 4294967295
 is_item nodes ts (item.Restart n) = nat_le n nodes
+is_item nodes ts (item.Compact n) = nat_le n nodes
 
 -- what a document is beyond the spelling of its lines
 pub record IsDocument (d : DocumentData) : Type 0 where

@@ -233,6 +233,7 @@ head_ident (Some (head.Ended t o)) = outcome_ident o
 head_ident (Some (head.Ceiling c)) = c
 head_ident (Some (head.Decided t f)) = f
 head_ident (Some (head.Closed t)) = 0
+head_ident (Some head.Compact) = 0
 head_ident None = 0
 
 -- the greatest identifier that an act names

@@ -4,6 +4,8 @@ use Rattle.score_base.specs.declared.ids.NodeId.{NodeId}
 use Rattle.score_base.specs.declared.records.Record.{Record}
 use Rattle.grid_model.specs.declared.acts.Act.{Act}
 use Rattle.grid_model.specs.declared.acts.Act.TheVariants as act
+use Rattle.grid_model.specs.declared.acts.Head.{Head}
+use Rattle.grid_model.specs.declared.acts.Head.TheVariants as head
 use Rattle.grid_model.specs.Documents.{DocumentData}
 use Rattle.grid_model.specs.Nodes.{Node, node, is_home}
 
@@ -43,15 +45,16 @@ abbrev pub fuse_behind : DocumentData → Act → NodeId → Node → Option Fus
 fuse_behind d (act.Armed m k how) n x o = if m == n then Some (record { k = k; records = 0; opened = 0 }) else o
 fuse_behind d (act.Down m h) n x o = if m == n then None else o
 fuse_behind d (act.StillDown m) n x o = if m == n then None else o
+fuse_behind d (act.Compacted m) n x o = if m == n then None else o
 fuse_behind d (act.Up m f) n x o = with_opening ((m == n) && is_empty x.journal) o
 fuse_behind d a n x o = with_record (is_record_at d a n) o
 
--- the fuse of n, where it is armed: no Down and no StillDown stands behind it
+-- the fuse of n, where it is armed: no Down, no StillDown and no Compacted stands behind it
 abbrev pub fuse : DocumentData → List Act → NodeId → Option Fuse
 fuse d [] n = None
 fuse d (a ∷ past) n = fuse_behind d a n (node d (a ∷ past) n) (fuse d past n)
 
--- an append takes 4 device calls, and making a file anew takes 2
+-- an append takes 4 device calls, making a file anew takes 2, and a compaction takes 6 or 8 on the other disk
 
 -- a record may be kept: the fuse is not armed, or stops no call of its append
 abbrev pub lets_record : Option Fuse → Bool
@@ -63,6 +66,21 @@ abbrev pub stops_record : Option Fuse → Bool
 stops_record None = false
 stops_record (Some x) = nat_lt (4 * x.records) x.k && nat_le x.k (4 * x.records + 4 + 2 * x.opened)
 
+-- a compaction may go on: the fuse is not armed, or is above the least number of its calls
+abbrev pub lets_compaction : Option Fuse → Bool
+lets_compaction None = true
+lets_compaction (Some x) = nat_lt 6 x.k
+
+-- a stop in a compaction is by the fuse
+abbrev pub stops_compaction : Option Fuse → Bool
+stops_compaction None = false
+stops_compaction (Some x) = nat_le x.k 8
+
+-- a stop with this head is by the fuse
+abbrev pub stops_in : Head → Option Fuse → Bool
+stops_in head.Compact o = stops_compaction o
+stops_in h o = stops_record o
+
 -- a failed opening is by the fuse
 abbrev pub stops_opening : Option Fuse → List Record → Bool
 stops_opening None r = false
@@ -72,6 +90,16 @@ stops_opening (Some x) r = nat_le x.k 2 && is_empty r
 abbrev pub lets_gate : Option Fuse → Bool
 lets_gate None = true
 lets_gate (Some x) = nat_le (4 * x.records + 3) x.k
+
+-- the version of the other file may stand: the fuse was not armed, or stopped its write, its sync or none
+abbrev pub lets_version : Option Fuse → Bool
+lets_version None = true
+lets_version (Some x) = nat_le 5 x.k
+
+-- what was in doubt may be found: a compaction, or else a record
+abbrev pub lets_found : Bool → Option Fuse → Bool
+lets_found true o = lets_version o
+lets_found false o = lets_gate o
 
 -- the fuse of n before its last Down, behind an act before which n had this fuse
 abbrev pub stop_behind : Act → NodeId → Option Fuse → Option Fuse → Option Fuse

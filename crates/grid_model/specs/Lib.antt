@@ -2,6 +2,7 @@ pub mod Documents
 pub mod Keyed
 pub mod Histories
 pub mod Nodes
+pub mod Disks
 pub mod Stories
 pub mod Views
 pub mod Advances

@@ -79,6 +79,7 @@ record_of d e (head.Ended t o) = Some (record'.Ended t o)
 record_of d e (head.Ceiling c) = Some (record'.Ceiling c)
 record_of d e (head.Decided t f) = Some (record'.Decided t f (parts_in d (script_of t d.scripts)))
 record_of d e (head.Closed t) = Some (record'.Closed t)
+record_of d e head.Compact = None
 
 -- the record of a head, where there is one
 abbrev pub doubt_of : DocumentData → Option Envelope → Option Head → Option Record

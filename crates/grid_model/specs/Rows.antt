@@ -258,6 +258,10 @@ ask_outs p t = if is_some (pending t p.journal) then to_node (home_of t p.journa
 abbrev pub ask_peer_outs : Participant → TxId → NodeId → List Out
 ask_peer_outs p t m = if is_some (pending t p.journal) && names_part t m p.journal then out.Send m (message.AskPeer t) ∷ [] else []
 
+-- what n gives where its journal is made small
+abbrev pub compact_outs : NodeId → List Out
+compact_outs n = out.Act (act.Compacted n) ∷ []
+
 -- ---- an event
 
 -- what n gives at an event: nothing at a begin that is not fit
@@ -267,3 +271,4 @@ outs_of n v (event.Deliver x said) = answer n v x said
 outs_of n v (event.Retry t) = retry_outs v.cluster t (stage v t)
 outs_of n v (event.Ask t) = ask_outs (participant v) t
 outs_of n v (event.AskPeer t m) = ask_peer_outs (participant v) t m
+outs_of n v event.Compact = compact_outs n

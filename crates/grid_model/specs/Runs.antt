@@ -9,7 +9,7 @@ use Rattle.grid_model.specs.declared.acts.Flag.TheVariants as flag
 use Rattle.grid_model.specs.declared.items.Item.{Item}
 use Rattle.grid_model.specs.Documents.{DocumentData}
 use Rattle.grid_model.specs.Histories.{after}
-use Rattle.grid_model.specs.Fuses.{is_record_at, lets_record, lets_gate, stops_record, stops_opening}
+use Rattle.grid_model.specs.Fuses.{is_record_at, lets_record, lets_compaction, lets_found, stops_in, stops_opening}
 use Rattle.grid_model.specs.States.{State, state_of}
 use Rattle.grid_model.specs.Schedules.{Choice, row, start_row, events_in}
 
@@ -21,7 +21,8 @@ Rows d past [] h = h ≡ []
 Rows d past (e ∷ es) h = (c : Choice) × (rest : List Act) × (h ≡ row d past e c ++ rest) × Rows d (after past (row d past e c)) es rest
 
 -- The acts of a run of these items: the start, then the row of each event, and nothing more. Free are
--- whether a record is kept, whether a node that is opened comes up, and whether a record in doubt is found.
+-- whether a record is kept and a compaction goes on, whether a node that is opened comes up, and whether
+-- what was in doubt is found.
 pub record IsRun (d : DocumentData) (items : List Item) (h : List Act) : Type 0 where
   pub opens : NodeId → Bool
   pub rest : List Act
@@ -32,7 +33,8 @@ pub record IsRun (d : DocumentData) (items : List Item) (h : List Act) : Type 0 
 
 -- an act on a state is one that the fuse of n allows
 abbrev pub is_let_on : DocumentData → State → Act → NodeId → Bool
-is_let_on d st (act.Up m flag.Kept) n = not (m == n) || lets_gate (st.fuses_at_stop n)
+is_let_on d st (act.Up m flag.Kept) n = not (m == n) || lets_found (st.compacting n) (st.fuses_at_stop n)
+is_let_on d st (act.Compacted m) n = not (m == n) || lets_compaction (st.fuses n)
 is_let_on d st a n = not (is_record_at d a n) || lets_record (st.fuses n)
 
 -- an act behind a past is one that the fuse of n allows
@@ -46,7 +48,7 @@ are_let d (a ∷ past) n = is_let d past a n && are_let d past n
 
 -- ---- faults
 
--- n stops in a record, or is not opened
+-- n stops in a record or in a compaction, or is not opened
 abbrev pub is_stop : Act → NodeId → Bool
 is_stop (act.Down m (Some h)) n = m == n
 is_stop (act.StillDown m) n = m == n
@@ -54,7 +56,7 @@ is_stop a n = false
 
 -- the stop of n by an act on a state is by its fuse
 abbrev pub is_by_fuse_on : State → Act → NodeId → Bool
-is_by_fuse_on st (act.Down m (Some h)) n = stops_record (st.fuses n)
+is_by_fuse_on st (act.Down m (Some h)) n = stops_in h (st.fuses n)
 is_by_fuse_on st (act.StillDown m) n = stops_opening (st.fuses n) (st.nodes n).journal
 is_by_fuse_on st a n = false
 
@@ -67,7 +69,7 @@ abbrev pub as_number : Bool → ℕ
 as_number true = 1
 as_number false = 0
 
--- how often n stopped in a record or was not opened
+-- how often n stopped in a record or in a compaction or was not opened
 abbrev pub stops : List Act → NodeId → ℕ
 stops [] n = 0
 stops (a ∷ past) n = as_number (is_stop a n) + stops past n

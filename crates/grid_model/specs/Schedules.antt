@@ -23,7 +23,7 @@ use Rattle.journal_words.specs.Journals.{pending}
 use Rattle.grid_model.specs.Histories.{sent, sent_at, is_gone}
 use Rattle.grid_model.specs.Nodes.{script_of}
 use Rattle.grid_model.specs.Stories.{is_open}
-use Rattle.grid_model.specs.Rows.{answer, begin_outs, retry_outs, ask_outs, ask_peer_outs}
+use Rattle.grid_model.specs.Rows.{answer, begin_outs, retry_outs, ask_outs, ask_peer_outs, compact_outs}
 use Rattle.grid_model.specs.Views.{participant, stage}
 use Rattle.grid_model.specs.Voids.{void_code, voided}
 use Rattle.grid_model.specs.Sessions.{session_floor, is_busy}
@@ -37,39 +37,40 @@ numbered m n [] = []
 numbered m n (out.Act a ∷ os) = a ∷ numbered m n os
 numbered m n (out.Send to said ∷ os) = act.Sent m n to said ∷ numbered (m + 1) n os
 
--- the head of the record for which an act stands
+-- the head of the record for which an act stands, or of the compaction that it is
 abbrev pub head_of : Act → Option Head
 head_of (act.Prepared n t p) = Some (head.Prepared t p)
 head_of (act.Ended n t o) = Some (head.Ended t o)
 head_of (act.Ceiling n c) = Some (head.Ceiling c)
 head_of (act.Decided t f) = Some (head.Decided t f)
 head_of (act.Closed t) = Some (head.Closed t)
+head_of (act.Compacted n) = Some head.Compact
 head_of a = None
 
--- the head of the record for which an out stands
+-- the same of an out
 abbrev pub head_at : Out → Option Head
 head_at (out.Act a) = head_of a
 head_at (out.Send to said) = None
 
--- an out whose record the disk does not keep is a Down, and ends the row
+-- an out whose record or compaction fails is a Down, and ends the row
 abbrev pub stopped : NodeId → Option Head → Out → List Out → List Out
 stopped n None o rest = o ∷ rest
 stopped n (Some h) o rest = out.Act (act.Down n (Some h)) ∷ []
 
--- these outs of node n where its disk fails: the node goes down in place of the first act that stands for a record
+-- these outs of node n where its disk fails: the node goes down in place of the first act that writes
 abbrev pub broken : NodeId → List Out → List Out
 broken n [] = []
 broken n (o ∷ os) = stopped n (head_at o) o (broken n os)
 
--- these outs of node n, whose disk keeps a record or fails
+-- these outs of node n, whose disk keeps what is written or fails
 abbrev pub kept : Bool → NodeId → List Out → List Out
 kept true n os = os
 kept false n os = broken n os
 
 -- ---- the free choices
 
--- what the disks do in an event: a record that is written is kept; a node that is opened comes up; a
--- record in doubt is found
+-- what the disks do in an event: a record that is written is kept, or a compaction goes on; a node that is
+-- opened comes up; a record or a compaction in doubt is found
 pub record Choice : Type 0 where
   pub keeps : Bool
   pub opens : Bool
@@ -165,6 +166,12 @@ flag_of None finds = flag.Untouched
 flag_of (Some x) true = flag.Kept
 flag_of (Some x) false = flag.Gone
 
+-- the same where a compaction or else this record is in doubt: a compaction was found, or it was not
+abbrev pub flag_at : Bool → Option Record → Bool → Flag
+flag_at true o true = flag.Kept
+flag_at true o false = flag.Gone
+flag_at false o finds = flag_of o finds
+
 -- the loss of a script's transaction, where it is an open one of home n
 abbrev pub lost_on : State → NodeId → Option ScriptData → List Act
 lost_on st n None = []
@@ -182,7 +189,11 @@ opened_on d st n f = act.Up n f ∷ losses_on d (state_behind d st (act.Up n f))
 abbrev pub restart_on : DocumentData → State → Choice → NodeId → List Act
 restart_on d st c n =
     if (st.nodes n).up then voided void.IsUp else
-    (if c.opens then opened_on d st n (flag_of (st.nodes n).doubt c.finds) else act.StillDown n ∷ [])
+    (if c.opens then opened_on d st n (flag_at (st.compacting n) (st.nodes n).doubt c.finds) else act.StillDown n ∷ [])
+
+-- `compact n`: code 11 where n is down
+abbrev pub compact_on : State → Choice → NodeId → List Act
+compact_on st c n = if (st.nodes n).up then acts_on st c n (compact_outs n) else voided void.NotUp
 
 -- the row of an item that is one event, on a state; of `next`, one event
 abbrev pub row_on : DocumentData → State → Item → Choice → List Act
@@ -196,6 +207,7 @@ row_on d st (item.AskPeer n t m) c = ask_peer_on d st c n t m
 row_on d st (item.Crash n how) c = crash_on st n
 row_on d st (item.Fuse n k how) c = act.Armed n k how ∷ []
 row_on d st (item.Restart n) c = restart_on d st c n
+row_on d st (item.Compact n) c = compact_on st c n
 
 -- ---- the rows behind a past
 
@@ -246,6 +258,9 @@ opened_row d past n f = opened_on d (state_of d past) n f
 
 abbrev pub restart_row : DocumentData → List Act → Choice → NodeId → List Act
 restart_row d past c n = restart_on d (state_of d past) c n
+
+abbrev pub compact_row : DocumentData → List Act → Choice → NodeId → List Act
+compact_row d past c n = compact_on (state_of d past) c n
 
 -- the row of an item that is one event, behind a past
 abbrev pub row : DocumentData → List Act → Item → Choice → List Act

@@ -9,18 +9,20 @@ use Rattle.grid_model.specs.declared.stories.Story.{Story}
 use Rattle.grid_model.specs.Documents.{DocumentData}
 use Rattle.grid_model.specs.Histories.{sent, sent_behind, is_gone, gone_behind}
 use Rattle.grid_model.specs.Nodes.{Node, node, got, got_behind, change, changed}
+use Rattle.grid_model.specs.Disks.{is_compacting, compacting_behind}
 use Rattle.grid_model.specs.Stories.{Phase, phase_at, story, told_on}
 use Rattle.grid_model.specs.Views.{View, view_of}
 use Rattle.grid_model.specs.Fuses.{Fuse, fuse, fuse_behind, fuse_at_stop, stop_behind}
 
 -- The state: the messages that were sent, in order; which of them were got, missed or dropped; the
--- message of the last Got; the nodes; what happened to each transaction; the armed fuses; the fuse of
--- each node before its last Down.
+-- message of the last Got; the nodes; which of them stopped in a compaction; what happened to each
+-- transaction; the armed fuses; the fuse of each node before its last Down.
 pub record State : Type 0 where
   pub sent : List Envelope
   pub gone : ℕ → Bool
   pub got : Option Envelope
   pub nodes : NodeId → Node
+  pub compacting : NodeId → Bool
   pub stories : TxId → Option Story
   pub fuses : NodeId → Option Fuse
   pub fuses_at_stop : NodeId → Option Fuse
@@ -33,6 +35,7 @@ state_of d past =
       gone = is_gone past;
       got = got past;
       nodes = node d past;
+      compacting = is_compacting past;
       stories = story d past;
       fuses = fuse d past;
       fuses_at_stop = fuse_at_stop d past;
@@ -62,6 +65,7 @@ state_behind d st a =
       gone = λ m. gone_behind a m (st.gone m);
       got = got_behind a st.sent st.got;
       nodes = node_behind d st a;
+      compacting = λ n. compacting_behind a n (st.compacting n);
       stories = λ t. told_on d st.sent st.nodes a t (st.stories t);
       fuses = λ n. fuse_behind d a n (node_behind d st a n) (st.fuses n);
       fuses_at_stop = λ n. stop_behind a n (st.fuses n) (st.fuses_at_stop n);

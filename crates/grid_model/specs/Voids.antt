@@ -17,6 +17,7 @@ void_code void.IsDown = 7
 void_code void.IsUp = 8
 void_code void.SessionBusy = 9
 void_code void.NotPart = 10
+void_code void.NotUp = 11
 
 -- the acts of an event that changes nothing
 abbrev pub voided : Void → List Act

@@ -2,7 +2,7 @@
 use crate::messages::Message;
 use score_base::{Cause, Ident, Key, Memory, NodeId, Outcome, TryCopy, TxId, Value};
 
-/// What a journal record begins with: enough to name it.
+/// What a disk was being given: what a journal record begins with, enough to name it, or its compaction.
 #[derive(Clone, Copy, Debug, PartialEq, Eq)]
 pub enum Head {
     Prepared(TxId, Ident),
@@ -10,6 +10,7 @@ pub enum Head {
     Ceiling(Ident),
     Decided(TxId, Ident),
     Closed(TxId),
+    Compact,
 }
 
 /// What an opening found of the record that was being written when its node stopped.
@@ -67,7 +68,9 @@ pub enum Act {
     Finished(TxId),
     /// The home has all acknowledgements.
     Closed(TxId),
-    /// The node stops, maybe while this record was being written.
+    /// The journal of the node is made small.
+    Compacted(NodeId),
+    /// The node stops, maybe while this record was being written or its journal was made small.
     Down(NodeId, Option<Head>),
     /// The node is opened.
     Up(NodeId, Flag),
@@ -102,6 +105,7 @@ impl TryCopy for Act {
             Act::Aborted(t, n, cause) => Ok(Act::Aborted(*t, *n, *cause)),
             Act::Finished(t) => Ok(Act::Finished(*t)),
             Act::Closed(t) => Ok(Act::Closed(*t)),
+            Act::Compacted(n) => Ok(Act::Compacted(*n)),
             Act::Down(n, head) => Ok(Act::Down(*n, *head)),
             Act::Up(n, flag) => Ok(Act::Up(*n, *flag)),
             Act::StillDown(n) => Ok(Act::StillDown(*n)),

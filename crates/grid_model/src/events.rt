@@ -35,4 +35,6 @@ pub enum Event {
     Ask(TxId),
     /// The participant asks this participant how the transaction ended.
     AskPeer(TxId, NodeId),
+    /// The node makes its journal small.
+    Compact,
 }

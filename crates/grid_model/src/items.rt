@@ -24,6 +24,8 @@ pub enum Item {
     Fuse(NodeId, u64, u64),
     /// The node is opened again.
     Restart(NodeId),
+    /// The node makes its journal small.
+    Compact(NodeId),
 }
 
 /// The items of a schedule.

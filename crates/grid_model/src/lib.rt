@@ -20,7 +20,7 @@ pub use acts::{Act, Flag, Head};
 pub use documents::{Document, ScriptList};
 pub use events::{Event, Out};
 pub use items::{Item, ItemList};
-pub use laws::{law_next_view, law_state};
+pub use laws::{law_disklog, law_next_view, law_state};
 pub use messages::{Envelope, Message, Prepare, ReadRep, ReadReq};
 pub use stories::{HeldRead, Progress, Story, Voted};
 pub use voids::Void;

@@ -25,6 +25,8 @@ pub enum Void {
     SessionBusy,
     /// The node that is asked is no part of the transaction.
     NotPart,
+    /// The node is down, so its journal is not made small.
+    NotUp,
 }
 
 impl Void {
@@ -43,6 +45,7 @@ impl Void {
             Void::IsUp => 8,
             Void::SessionBusy => 9,
             Void::NotPart => 10,
+            Void::NotUp => 11,
         }
     }
 }

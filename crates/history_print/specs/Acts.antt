@@ -83,6 +83,7 @@ record_words (head.Ended t o) = codes "ended" ∷ decimal t ∷ outcome_words o
 record_words (head.Ceiling c) = codes "ceiling" ∷ decimal c ∷ []
 record_words (head.Decided t f) = codes "decided" ∷ decimal t ∷ decimal f ∷ []
 record_words (head.Closed t) = codes "closed" ∷ decimal t ∷ []
+record_words head.Compact = codes "compact" ∷ []
 
 -- the head of the record that was being written where there was one
 unfoldable pub head_words : Option Head → List (List ℕ)
@@ -157,6 +158,7 @@ act_words (act.Decided t f) = codes "decided" ∷ decimal t ∷ decimal f ∷ []
 act_words (act.Aborted t n c) = codes "aborted" ∷ decimal t ∷ node_word n ∷ cause_words c
 act_words (act.Finished t) = codes "finished" ∷ decimal t ∷ []
 act_words (act.Closed t) = codes "closed" ∷ decimal t ∷ []
+act_words (act.Compacted n) = codes "compacted" ∷ node_word n ∷ []
 act_words (act.Down n h) = codes "down" ∷ node_word n ∷ head_words h
 act_words (act.Up n f) = codes "up" ∷ node_word n ∷ flag_words f
 act_words (act.StillDown n) = codes "stilldown" ∷ node_word n ∷ []

@@ -235,6 +235,14 @@ fn put_closed(out: &mut Vec<u8>, t: TxId) -> Result<(), Memory>
 }
 
 #[tactic(auto, unfolding(crate::specs::Acts::act_words))]
+fn put_compacted(out: &mut Vec<u8>, n: NodeId) -> Result<(), Memory>
+    ensures { OnOk result (out.new.items ≡ out.old.items ++ joined (act_words (Act.Compacted n))) }
+{
+    put_bytes(out, b"compacted")?;
+    put_node(out, n)
+}
+
+#[tactic(auto, unfolding(crate::specs::Acts::act_words))]
 fn put_down(out: &mut Vec<u8>, n: NodeId, head: &Option<Head>) -> Result<(), Memory>
     ensures { OnOk result (out.new.items ≡ out.old.items ++ joined (act_words (Act.Down n head.now))) }
 {
@@ -297,6 +305,7 @@ fn put_act(out: &mut Vec<u8>, act: &Act) -> Result<(), Memory>
         Act::Down(n, head) => put_down(out, *n, head),
         Act::Up(n, flag) => put_up(out, *n, *flag),
         Act::StillDown(n) => put_stilldown(out, *n),
+        Act::Compacted(n) => put_compacted(out, *n),
         Act::Lost(t) => put_lost(out, *t),
     }
 }

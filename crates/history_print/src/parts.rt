@@ -113,6 +113,7 @@ pub fn put_record(out: &mut Vec<u8>, head: &Head) -> Result<(), Memory>
             put_word(out, b"closed")?;
             put_tx(out, *t)
         }
+        Head::Compact => put_word(out, b"compact"),
     }
 }
 

@@ -226,6 +226,8 @@ fn acts_of_stops(rt: HostRuntime) -> Result<(), Fail> {
         "down n2 decided 1 3\n",
     );
     stops(&rt, alloc, Head::Closed(tx(1)), "down n2 closed 1\n");
+    stops(&rt, alloc, Head::Compact, "down n2 compact\n");
+    shows(&rt, alloc, Act::Compacted(node(2)), "compacted n2\n");
     Ok(())
 }
 

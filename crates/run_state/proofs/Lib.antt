@@ -3,3 +3,4 @@ pub mod Marked
 pub mod Elsewhere
 pub mod Told
 pub mod Keeping
+pub mod Compacting

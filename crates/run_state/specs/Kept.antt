@@ -14,6 +14,7 @@ use Rattle.grid_model.specs.Documents.{DocumentData}
 use Rattle.grid_model.specs.Histories.{after, sent, sent_at, is_gone}
 use Rattle.grid_model.specs.Keyed.{at_key, put_key}
 use Rattle.grid_model.specs.Nodes.{Node, blank, node, got, script_of, parts_of, is_home}
+use Rattle.grid_model.specs.Disks.{compacting_behind}
 use Rattle.grid_model.specs.Stories.{story, begun_in, with_request, with_value, without_answers, heard, phase_at, progressed}
 
 -- a run so far: the acts of a document, in the order of time
@@ -74,6 +75,11 @@ place_of d (act.Down n h) = Some n
 place_of d (act.Up n f) = Some n
 place_of d (act.StillDown n) = Some n
 place_of d a = None
+
+-- a compaction of n is in doubt behind these acts, in the order of time, where it was or was not before
+abbrev pub compacting_after : NodeId → Bool → List Act → Bool
+compacting_after n b [] = b
+compacting_after n b (a ∷ acts) = compacting_after n (compacting_behind a n b) acts
 
 -- node n of a list of the nodes from 1 on
 abbrev pub node_in : List Node → ℕ → Node

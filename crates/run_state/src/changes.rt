@@ -53,6 +53,7 @@ fn record_of(
             parts: parts_in(alloc, doc, *t)?,
         })),
         Head::Closed(t) => Ok(Some(Record::Closed { t: *t })),
+        Head::Compact => Ok(None),
     }
 }
 

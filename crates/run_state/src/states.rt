@@ -3,6 +3,7 @@ ghost use Rattle.std.specs.Prelude.{◌≡◌, ◌≤◌, ◌+◌, ◌-◌, ◌=
 ghost use Rattle.std.specs.Option.{option_copied};
 ghost use Rattle.grid_model.specs.Histories.{after, sent, sent_at};
 ghost use Rattle.grid_model.specs.Nodes.{change, changed, is_home};
+ghost use Rattle.grid_model.specs.Disks.{is_compact, compacting_behind};
 ghost use Rattle.grid_model.specs.Stories.{progressed, with_value};
 ghost use Rattle.grid_model.specs.Keyed.{at_key, IsPlace, IsAbsent};
 ghost use Rattle.run_state.specs.Kept.{posted, got_by, going, is_number, is_marked, place_of, node_in, put_telling, forgotten, forgotten_one, retold_by};
@@ -11,7 +12,7 @@ use crate::marks::{is_marked, mark};
 use crate::plain_nodes::PlainNode;
 use crate::scripts::{home_of, is_home, script_of};
 use crate::stories::{begun, copy_of, heard, with_request, with_value, without_answers};
-use grid_model::{Act, Document, Envelope, Message, Story};
+use grid_model::{Act, Document, Envelope, Head, Message, Story};
 use journal_words::records::times_over;
 use score_base::{Ident, Memory, NodeId, TryCopy, TxId, Value, push};
 use std::alloc::Global;
@@ -114,6 +115,27 @@ fn place_of(doc: &Document, act: &Act) -> Option<NodeId>
         Act::Up(n, _) => Some(*n),
         Act::StillDown(n) => Some(*n),
         _ => None,
+    }
+}
+
+/// Whether a node that stopped with this head stopped in a compaction.
+fn is_compact(head: &Option<Head>) -> bool
+    ensures { result ≡ is_compact head.now }
+{
+    match head {
+        Some(Head::Compact) => true,
+        _ => false,
+    }
+}
+
+/// Whether a compaction of node `n` is in doubt behind an act, where it was or was not before.
+fn compacting_behind(act: &Act, n: NodeId, was: bool) -> bool
+    ensures { result ≡ compacting_behind act.now n was }
+{
+    match act {
+        Act::Down(m, head) if *m == n => is_compact(head),
+        Act::Up(m, _) if *m == n => false,
+        _ => was,
     }
 }
 
@@ -223,6 +245,7 @@ impl<'a> RunState<'a> {
     ghost use Rattle.std.specs.Fn.{FnOnceReturnsAtMut};
     ghost use Rattle.grid_model.specs.Schedules.{next_number, next_left, first_left};
     ghost use Rattle.grid_model.specs.Histories.{is_gone};
+    ghost use Rattle.grid_model.specs.Disks.{is_compacting};
 
     /// No act yet.
     pub fn new(alloc: Global, doc: &'a Document) -> Result<RunState<'a>, Memory>
@@ -255,6 +278,18 @@ impl<'a> RunState<'a> {
         ensures { result.now ≡ node self.now.doc (past self.now) n }
     {
         &self.nodes[n.number as usize - 1]
+    }
+
+    #[tactic(auto, using(crate::proofs::Compacting::compacting_all))]
+    /// Whether a compaction of a node is in doubt: it stopped in one and was not opened since.
+    pub fn is_compacting(&self, n: NodeId) -> bool
+        ensures { result ≡ is_compacting (past self.now) n }
+    {
+        let mut is_in_doubt = false;
+        for act in &self.acts {
+            is_in_doubt = compacting_behind(act, n, is_in_doubt);
+        }
+        is_in_doubt
     }
 
     /// The story of a transaction; `None` exactly where it was not begun.

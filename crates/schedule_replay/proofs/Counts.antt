@@ -33,7 +33,7 @@ use Rattle.grid_model.specs.Views.{Participant, Open, Stage, Apart, Reads, Colle
 use Rattle.grid_model.specs.Advances.{advance, advance_end, owns, request, request_of, prepares, prepare_for, parts_now, to_node}
 use Rattle.script_runs.specs.Walks.{unread, own_reads}
 use Rattle.grid_model.specs.Fitness.{is_fit_at}
-use Rattle.grid_model.specs.Rows.{peer_outs, ask_peer_outs, first_ident, served, version_for, release, ceilings, raises, answered, read_outs, reply_outs, judged, prepared_outs, tells, decides, ballot_outs, vote_outs, are_all_among, closed_outs, ack_outs, asked_outs, commit_outs, abort_outs, freed_by, tell_outs, message_outs, answer_at, begun_at, begin_outs, not_voted, not_among, retry_outs, ask_outs, if_pending}
+use Rattle.grid_model.specs.Rows.{compact_outs, peer_outs, ask_peer_outs, first_ident, served, version_for, release, ceilings, raises, answered, read_outs, reply_outs, judged, prepared_outs, tells, decides, ballot_outs, vote_outs, are_all_among, closed_outs, ack_outs, asked_outs, commit_outs, abort_outs, freed_by, tell_outs, message_outs, answer_at, begun_at, begin_outs, not_voted, not_among, retry_outs, ask_outs, if_pending}
 use Rattle.schedule_replay.specs.Numbering.{sends}
 use Rattle.schedule_replay.specs.Stages.{parts_left}
 
@@ -270,6 +270,9 @@ counts-ask p t = counts-if (is_some (pending t p.journal)) 1 0 (to_node (home_of
 
 pub counts-ask_peer : (p : Participant) (t m : ℕ) → Counts 1 0 (ask_peer_outs p t m)
 counts-ask_peer p t m = counts-if (is_some (pending t p.journal) && names_part t m p.journal) 1 0 (out.Send m (message.AskPeer t) ∷ []) [] (record { sent = omega arith; held = omega arith; own = refl }) (counts-none 1 0)
+
+pub counts-compact : (n : ℕ) → Counts 0 0 (compact_outs n)
+counts-compact n = record { sent = omega arith; held = omega arith; own = refl }
 
 -- a transaction that is decided is told to each of its parts, however many
 pub retry-few : (c : ClusterData) (t : ℕ) (s : Stage) → sends (retry_outs c t s) ≤ 16 + length (parts_left s)

@@ -15,12 +15,13 @@ use Rattle.grid_model.specs.Histories.{after}
 use Rattle.grid_model.specs.Nodes.{node}
 use Rattle.grid_model.specs.Views.{view, stage, participant}
 use Rattle.grid_model.specs.Fitness.{tx_in}
-use Rattle.grid_model.specs.Rows.{answer, begin_outs, retry_outs, ask_outs, ask_peer_outs}
-use Rattle.grid_model.specs.Schedules.{next_number, acts_of, flag_of, losses, opened_row}
+use Rattle.grid_model.specs.Disks.{is_compacting}
+use Rattle.grid_model.specs.Rows.{compact_outs, answer, begin_outs, retry_outs, ask_outs, ask_peer_outs}
+use Rattle.grid_model.specs.Schedules.{next_number, acts_of, flag_at, losses, opened_row}
 use Rattle.grid_laws.specs.CalmRuns.{calm, played, plays}
 use Rattle.schedule_replay.specs.Replays.{IsFew, HasRoom}
-use Rattle.schedule_replay.proofs.ForCode.{Shape, idle, arms, crashes, restarts, begins, delivers, again, IsAgain, retries, asks, asks_peer, is_idle, acts_by, by-shape, after-append}
-use Rattle.schedule_replay.proofs.Counts.{Counts, counts-more, counts-begin, counts-answer, counts-retry, counts-ask, counts-ask_peer}
+use Rattle.schedule_replay.proofs.ForCode.{Shape, idle, arms, crashes, restarts, begins, delivers, again, IsAgain, retries, asks, asks_peer, compacts, is_idle, acts_by, by-shape, after-append}
+use Rattle.schedule_replay.proofs.Counts.{Counts, counts-more, counts-begin, counts-answer, counts-retry, counts-ask, counts-ask_peer, counts-compact}
 use Rattle.schedule_replay.proofs.Posts.{Adds, adds-numbered, sent-after, held-after}
 use Rattle.schedule_replay.proofs.Shorts.{short-at}
 use Rattle.schedule_replay.proofs.Reopened.{are_lost, losses-lost, lost-posts, lost-holdings}
@@ -41,6 +42,9 @@ few-ask d past k n t f = counts-more 1 0 (16 + k) 1 (ask_outs (participant (view
 
 pub few-ask_peer : (d : DocumentData) (past : List Act) (k n t m : ℕ) → IsFew d past k → Counts (16 + k) 1 (ask_peer_outs (participant (view d past n)) t m)
 few-ask_peer d past k n t m f = counts-more 1 0 (16 + k) 1 (ask_peer_outs (participant (view d past n)) t m) (omega arith) (omega arith) (counts-ask_peer (participant (view d past n)) t m)
+
+few-compact : (k n : ℕ) → Counts (16 + k) 1 (compact_outs n)
+few-compact k n = counts-more 0 0 (16 + k) 1 (compact_outs n) (omega arith) (omega arith) (counts-compact n)
 
 -- ---- the rows
 
@@ -69,13 +73,15 @@ few-again : (d : DocumentData) (past : List Act) (k n : ℕ) (os : List Out) →
 few-again d past k n os f (retries t is) = rw is (few-retry d past k n t f)
 few-again d past k n os f (asks t is) = rw is (few-ask d past k n t f)
 few-again d past k n os f (asks_peer t m is) = rw is (few-ask_peer d past k n t m f)
+few-again d past k n os f (compacts is) = rw is (few-compact k n)
 
 adds-shape : (d : DocumentData) (past : List Act) (k : ℕ) (i : Item) → IsFew d past k → (s : Shape d past i)
     → Adds (16 + k) (acts_by d past i calm s)
 adds-shape d past k i f (idle acts is) = adds-idle (16 + k) acts is
 adds-shape d past k i f (arms n c how is) = record { sent = omega arith; held = omega arith }
 adds-shape d past k i f (crashes n up) = record { sent = omega arith; held = omega arith }
-adds-shape d past k i f (restarts n up) = adds-opened d past (16 + k) n (flag_of (node d past n).doubt false)
+adds-shape d past k i f (restarts n up) =
+    adds-opened d past (16 + k) n (flag_at (is_compacting past n) (node d past n).doubt false)
 adds-shape d past k i f (begins s is new up quiet) = adds-acts past (16 + k) s.home _ (few-begin d past k s f)
 adds-shape d past k i f (delivers m e is up) = adds-got (16 + k) m _ (adds-acts past (16 + k) e.to _ (few-answer d past k e f))
 adds-shape d past k i f (again n os up is) = adds-acts past (16 + k) n os (few-again d past k n os f is)

@@ -53,6 +53,7 @@ short-head d e (head.Ended t o) = omega arith
 short-head d e (head.Ceiling c) = omega arith
 short-head d e (head.Decided t f) = short-parts d (script_of t d.scripts)
 short-head d e (head.Closed t) = omega arith
+short-head d e head.Compact = omega arith
 
 short-doubt : (d : DocumentData) (e : Option Envelope) (o : Option Head) → IsShortOption (doubt_of d e o)
 short-doubt d e None = omega arith

@@ -5,7 +5,7 @@ ghost use Rattle.std.specs.Ordering.{nat_cmp};
 ghost use Rattle.std.specs.BTreeSet.{insert_key};
 ghost use Rattle.grid_model.specs.Documents.{script_numbers};
 ghost use Rattle.grid_model.specs.Nodes.{script_of};
-ghost use Rattle.grid_model.specs.Schedules.{flag_of, lost_at, restart_row};
+ghost use Rattle.grid_model.specs.Schedules.{flag_at, lost_at, restart_row};
 ghost use Rattle.grid_model.specs.Voids.{voided};
 ghost use Rattle.run_state.specs.Kept.{past};
 ghost use Rattle.grid_laws.specs.CalmRuns.{calm};
@@ -34,10 +34,13 @@ pub fn voided(alloc: Global, why: Void) -> Result<Vec<Act>, Memory>
     only(alloc, Act::Void(why.code()))
 }
 
-/// What an opening says where no record in doubt is found.
-fn flag_of(node: &PlainNode) -> Flag
-    ensures { result ≡ flag_of node.now.doubt false }
+/// What an opening says where nothing in doubt is found: neither a compaction nor else a record.
+fn flag_at(is_compacting: bool, node: &PlainNode) -> Flag
+    ensures { result ≡ flag_at is_compacting node.now.doubt false }
 {
+    if is_compacting {
+        return Flag::Gone;
+    }
     match &node.doubt {
         None => Flag::Untouched,
         Some(_) => Flag::Gone,
@@ -95,7 +98,7 @@ pub fn restart_row(alloc: Global, run: &RunState, n: NodeId) -> Result<Vec<Act>,
     }
     let mut numbers = BTreeSet::new(alloc);
     add_numbers(&mut numbers, run.doc().scripts())?;
-    let mut acts = only(alloc, Act::Up(n, flag_of(node)))?;
+    let mut acts = only(alloc, Act::Up(n, flag_at(run.is_compacting(n), node)))?;
     push_losses(&mut acts, run, n, &numbers)?;
     Ok(acts)
 }

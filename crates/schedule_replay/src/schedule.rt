@@ -3,7 +3,7 @@ ghost use Rattle.std.specs.Prelude.{◌≡◌, ◌≤◌, ◌<◌, ◌+◌, ◌^
 ghost use Rattle.grid_model.specs.Histories.{sent, sent_at};
 ghost use Rattle.grid_model.specs.Nodes.{node, script_of};
 ghost use Rattle.grid_model.specs.Stories.{story};
-ghost use Rattle.grid_model.specs.Schedules.{next_left, or_void, acts_of, begin_row, deliver_row, drop_row, next_row, retry_row, ask_row, ask_peer_row, crash_row};
+ghost use Rattle.grid_model.specs.Schedules.{next_left, or_void, acts_of, begin_row, deliver_row, drop_row, next_row, retry_row, ask_row, ask_peer_row, compact_row, crash_row};
 ghost use Rattle.grid_model.specs.Voids.{void_code};
 ghost use Rattle.run_state.specs.Kept.{past};
 ghost use Rattle.schedule_replay.specs.Numbering.{sends};
@@ -176,6 +176,17 @@ fn crash_row(alloc: Global, run: &RunState, n: NodeId) -> Result<Vec<Act>, Memor
     voided(alloc, Void::IsDown)
 }
 
+/// The row of `compact`.
+fn compact_row(alloc: Global, run: &RunState, n: NodeId) -> Result<Vec<Act>, Memory>
+    ensures { IfOk result (λ acts. acts.items ≡ compact_row run.now.doc (past run.now) calm n) }
+{
+    let is_down = !run.node(n).up;
+    if is_down {
+        return voided(alloc, Void::NotUp);
+    }
+    only(alloc, Act::Compacted(n))
+}
+
 /// The acts of an event where no disk fails.
 pub fn row(alloc: Global, run: &RunState, item: Item) -> Result<Vec<Act>, Memory>
     requires { HasRoom run.now.doc (past run.now) 1 }
@@ -192,5 +203,6 @@ pub fn row(alloc: Global, run: &RunState, item: Item) -> Result<Vec<Act>, Memory
         Item::Crash(n, _) => crash_row(alloc, run, n),
         Item::Fuse(n, k, how) => only(alloc, Act::Armed(n, k, how)),
         Item::Restart(n) => restart_row(alloc, run, n),
+        Item::Compact(n) => compact_row(alloc, run, n),
     }
 }

@@ -30,6 +30,7 @@ built_is_unfused (item.AskPeer n t m) e = refl
 built_is_unfused (item.Crash n how) e = cc
 built_is_unfused (item.Fuse n k how) e = cc
 built_is_unfused (item.Restart n) e = cc
+built_is_unfused (item.Compact n) e = cc
 
 built_are_unfused : (is : List Item) → list_all is_built_item is ≡ true → list_all is_unfused is ≡ true
 built_are_unfused [] e = refl
