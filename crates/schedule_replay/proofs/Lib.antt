@@ -5,6 +5,7 @@ pub mod Counts
 pub mod Posts
 pub mod Shorts
 pub mod Reopened
+pub mod Openings
 pub mod Events
 pub mod Ranges
 pub mod Loops
