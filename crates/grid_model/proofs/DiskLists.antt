@@ -104,8 +104,10 @@ stands-more c n (Some x) r j at = (small-next x r j at.0, λ fit. more fit)
     more fit =
         let j_fit = rest-fits c n x j fit in
         let r_fit = at.1 j_fit in
-        rw (alike-fits c n r j (alike-by-small r j (fit-highest c n r r_fit) (fit-highest c n j j_fit) at.0) x,
-            newest-fits c n x j fit) r_fit
+        rw (
+          alike-fits c n r j (alike-by-small r j (fit-highest c n r r_fit) (fit-highest c n j j_fit) at.0) x,
+          newest-fits c n x j fit,
+        ) r_fit
 
 stands-small : (c : ClusterData) (n : NodeId) (r j : List Record) → StandsFor c n r j → StandsFor c n (small r) j
 stands-small c n r j at = (small-twice r ∙ at.0, λ fit. small-fit c n r (at.1 fit))
@@ -124,7 +126,7 @@ stands-quiet c n x h r is at = at
 
 stands-opened : (c : ClusterData) (n : NodeId) (compacting kept : Bool) (h : Node) (r : List Record)
     → (compacting ≡ true → h.doubt ≡ None) → StandsFor c n r h.journal → StandsFor c n
-        (reopened compacting kept h.doubt r) (found kept h.doubt h.journal)
+    (reopened compacting kept h.doubt r) (found kept h.doubt h.journal)
 stands-opened c n true true h r none at = rw (none refl) (stands-small c n r h.journal at)
 stands-opened c n true false h r none at = at
 stands-opened c n false kept h r none at = stands-found c n kept h.doubt r h.journal at
@@ -144,8 +146,8 @@ disk-stands c d (act.Up m f ∷ past) n = go (m == n) (disk-stands c d past n)
   where
     go : (b : Bool) → StandsFor c n (disklog d past n) (journal d past n)
         → StandsFor c n (if b then reopened (is_compacting past n) (is_kept f) (node d past n).doubt
-            (disklog d past n) else disklog d past n) (changed (where_at b (Starts (is_kept f)))
-            (node d past n)).journal
+        (disklog d past n) else disklog d past n) (changed (where_at b (Starts (is_kept f)))
+        (node d past n)).journal
     go true at =
         stands-opened c n (is_compacting past n) (is_kept f) (node d past n) (disklog d past n)
         (λ is. compacting-doubt d past n is) at
@@ -154,7 +156,7 @@ disk-stands c d (act.Down m h ∷ past) n = go (m == n) (disk-stands c d past n)
   where
     go : (b : Bool) → StandsFor c n (disklog d past n) (journal d past n)
         → StandsFor c n (recorded (where_at b (Stops (doubt_of d (got past) h))) (disklog d past n))
-            (changed (where_at b (Stops (doubt_of d (got past) h))) (node d past n)).journal
+        (changed (where_at b (Stops (doubt_of d (got past) h))) (node d past n)).journal
     go true at = at
     go false at = at
 disk-stands c d (a ∷ past) n =

@@ -155,8 +155,8 @@ crash_row-shaped d past i n false up = alone d past i (act.Void 7) refl
 
 restart_row-shaped : (d : DocumentData) (past : List Act) (i : Item) (n : NodeId) (b : Bool) → (node d past n).up ≡ b
     → IsShaped d past i (λ c. if b then act.Void 8 ∷ [] else
-        (if c.opens then opened_row d past n (flag_at (is_compacting past n) (node d past n).doubt c.finds)
-        else act.StillDown n ∷ []))
+    (if c.opens then opened_row d past n (flag_at (is_compacting past n) (node d past n).doubt c.finds)
+    else act.StillDown n ∷ []))
 restart_row-shaped d past i n true up = alone d past i (act.Void 8) refl
 restart_row-shaped d past i n false up = record { shape = restarts n up; same = λ c. refl }
 

@@ -49,7 +49,7 @@ compact_after_commit-disk = refl
 
 pub compact_after_commit-journal : journal compact_after_commit (after [] compact_after_commit_acts) 1
     ≡ record'.Closed 1 ∷ record'.Ended 1 (outcome.Commit 1) ∷ record'.Decided 1 1 (1 ∷ 2 ∷ [])
-        ∷ record'.Prepared 1 1 (1 ∷ 2 ∷ []) 0 1 [] ((b, 11) ∷ []) ∷ []
+    ∷ record'.Prepared 1 1 (1 ∷ 2 ∷ []) 0 1 [] ((b, 11) ∷ []) ∷ []
 compact_after_commit-journal = refl
 
 -- ---- a node that is down compacts nothing
@@ -92,14 +92,15 @@ fused_compaction-kept k how =
 
 elsewhere : (k how : ℕ) (f : Flag) (n : NodeId) → 1 == n ≡ false
     → IsTrue (are_let (fused_compaction k how) (after [] (fused_compaction_acts k how f)) n)
-        × Explains (fused_compaction k how) (after [] (fused_compaction_acts k how f)) n 0
-elsewhere k how f n apart =
-    (unarmed-are_let (fused_compaction k how) (after [] (fused_compaction_acts k how f)) n (rw apart refl),
-    unstopped-explains (fused_compaction k how) (after [] (fused_compaction_acts k how f)) n (rw apart refl))
+    × Explains (fused_compaction k how) (after [] (fused_compaction_acts k how f)) n 0
+elsewhere k how f n apart = (
+  unarmed-are_let (fused_compaction k how) (after [] (fused_compaction_acts k how f)) n (rw apart refl),
+  unstopped-explains (fused_compaction k how) (after [] (fused_compaction_acts k how f)) n (rw apart refl),
+)
 
 gone-at : (k how : ℕ) → nat_le k 8 ≡ true → (n : NodeId)
     → IsTrue (are_let (fused_compaction k how) (after [] (fused_compaction_acts k how flag.Gone)) n)
-        × Explains (fused_compaction k how) (after [] (fused_compaction_acts k how flag.Gone)) n 0
+    × Explains (fused_compaction k how) (after [] (fused_compaction_acts k how flag.Gone)) n 0
 gone-at k how inside n = elim (cases_eq 1 n) [
   | inl same ↦ rw (← same) (refl, record { most = rw inside (omega arith); some = λ rose. absurd (rose refl) })
   | inr other ↦ elsewhere k how flag.Gone n (grind (arith, nat_tests))
@@ -117,10 +118,12 @@ gone-lawful k how inside =
 
 kept-at : (k how : ℕ) → nat_le k 8 ≡ true → nat_le 5 k ≡ true → (n : NodeId)
     → IsTrue (are_let (fused_compaction k how) (after [] (fused_compaction_acts k how flag.Kept)) n)
-        × Explains (fused_compaction k how) (after [] (fused_compaction_acts k how flag.Kept)) n 0
+    × Explains (fused_compaction k how) (after [] (fused_compaction_acts k how flag.Kept)) n 0
 kept-at k how inside written n = elim (cases_eq 1 n) [
-  | inl same ↦ rw (← same) (rw written refl,
-      record { most = rw inside (omega arith); some = λ rose. absurd (rose refl) })
+  | inl same ↦ rw (← same) (
+    rw written refl,
+    record { most = rw inside (omega arith); some = λ rose. absurd (rose refl) },
+  )
   | inr other ↦ elsewhere k how flag.Kept n (grind (arith, nat_tests))
 ]
 

@@ -40,7 +40,7 @@ same_losses d past n f e (t ∷ ts) =
 pub restart_calm : (d : DocumentData) (past : List Act) (n : ℕ) → (node d past n).up ≡ false
     → restart_row d past calm n
     ≡ act.Up n (flag_at (is_compacting past n) (node d past n).doubt false)
-        ∷ flat_map (λ t. lost_at d past n (script_of t d.scripts)) (number_order (script_numbers d.scripts))
+    ∷ flat_map (λ t. lost_at d past n (script_of t d.scripts)) (number_order (script_numbers d.scripts))
 restart_calm d past n down =
     let f : Flag = flag_at (is_compacting past n) (node d past n).doubt false in
     let ts : List ℕ = number_order (script_numbers d.scripts) in
