@@ -195,21 +195,21 @@ commit-kept d past logs s f later before r are is at =
         → has_decided t f (reverse (logs s.home)) ≡ true
     open-log y e =
         let disk : undone t (disklog d past s.home) ≡ Some y =
-            (disk-alike d past s.home (nodes-fit d past r.due s.home).fits).decisions t ∙ e in
+        (disk-alike d past s.home (nodes-fit d past r.due s.home).fits).decisions t ∙ e in
         let same : y.final ≡ f =
-            (let own : is_home d t s.home ≡ true = subst (λ (n : NodeId). is_home d t n ≡ true) home w.decided.1 in
-            decided-same d past r.due t y.final f
-            (s.home, own, decision-has t y (journal d past s.home) (undone-says t y (journal d past s.home) e).decided)
-            (s.home, own, at-home)) in
+        (let own : is_home d t s.home ≡ true = subst (λ (n : NodeId). is_home d t n ≡ true) home w.decided.1 in
+        decided-same d past r.due t y.final f
+        (s.home, own, decision-has t y (journal d past s.home) (undone-says t y (journal d past s.home) e).decided)
+        (s.home, own, at-home)) in
         let here : has_decided t f (disklog d past s.home) ≡ true =
-            subst (λ (g : Ident). has_decided t g (disklog d past s.home) ≡ true) same
-            (decision-has t y (disklog d past s.home) (undone-says t y (disklog d past s.home) disk).decided) in
+        subst (λ (g : Ident). has_decided t g (disklog d past s.home) ≡ true) same
+        (decision-has t y (disklog d past s.home) (undone-says t y (disklog d past s.home) disk).decided) in
         let smaller : undone t (small (disklog d past s.home)) ≡ Some y =
-            small-undone t (disklog d past s.home) ∙ disk in
+        small-undone t (disklog d past s.home) ∙ disk in
         in-log d past s.home (logs s.home) (λ q. has_decided t f q ≡ true) (λ z q h. has_decided-grows t f z q h)
-            (λ h. subst (λ (g : Ident). has_decided t g (small (disklog d past s.home)) ≡ true) same
-            (decision-has t y (small (disklog d past s.home))
-            (undone-says t y (small (disklog d past s.home)) smaller).decided)) (are.each s.home) here
+        (λ h. subst (λ (g : Ident). has_decided t g (small (disklog d past s.home)) ≡ true) same
+        (decision-has t y (small (disklog d past s.home))
+        (undone-says t y (small (disklog d past s.home)) smaller).decided)) (are.each s.home) here
 
     -- each part of a closed transaction has ended it with commit
     closed-log : undone t (journal d past s.home) ≡ None → (n : NodeId) → is_among n (parts_in d (Some s)) ≡ true
@@ -217,33 +217,33 @@ commit-kept d past logs s f later before r are is at =
     closed-log e n part =
         let x = has_decided-says t f (journal d past s.home) at-home in
         let over : is_over d past t ≡ true =
-            closed-stands d past s.home t (journal d past s.home) (closed-say d past r.due s.home).journal
-            (done-closed t x.0 (journal d past s.home) e x.1) in
+        closed-stands d past s.home t (journal d past s.home) (closed-say d past r.due s.home).journal
+        (done-closed t x.0 (journal d past s.home) e x.1) in
         let ended_all =
-            and_parts (is_some (script_of t d.scripts))
-            (list_all (λ k. has_commit t (journal d past k)) (parts_in d (script_of t d.scripts))) over in
+        and_parts (is_some (script_of t d.scripts))
+        (list_all (λ k. has_commit t (journal d past k)) (parts_in d (script_of t d.scripts))) over in
         let P : Option ScriptData → Type 0 = λ o. is_among n (parts_in d o) ≡ true in
         let commit : has_commit t (journal d past n) ≡ true =
-            over-each d past t n (parts_in d (script_of t d.scripts)) ended_all.1 (subst P (sym is) part) in
+        over-each d past t n (parts_in d (script_of t d.scripts)) ended_all.1 (subst P (sym is) part) in
         let g = has_commit-says d.cluster n t (journal d past n) (nodes-fit d past r.due n).fits commit in
         let same : g.0 ≡ f = decided-same d past r.due t g.0 f (commit-decided d past r.due n t g.0 g.1) w.decided in
         let here : has_ended t f (journal d past n) ≡ true =
-            subst (λ (i : Ident). has_ended t i (journal d past n) ≡ true) same
-            (ended-has t g.0 (journal d past n) g.1) in
+        subst (λ (i : Ident). has_ended t i (journal d past n) ≡ true) same
+        (ended-has t g.0 (journal d past n) g.1) in
         let disk : has_ended t f (disklog d past n) ≡ true =
-            same_word (has_ended t f) (has_ended-reads t f) (disklog d past n) (journal d past n)
-            (disk-alike d past n (nodes-fit d past r.due n).fits).ballots ∙ here in
+        same_word (has_ended t f) (has_ended-reads t f) (disklog d past n) (journal d past n)
+        (disk-alike d past n (nodes-fit d past r.due n).fits).ballots ∙ here in
         in-log d past n (logs n) (λ q. has_ended t f q ≡ true) (λ z q h. has_ended-grows t f z q h)
-            (λ h. same_word (has_ended t f) (has_ended-reads t f) (small (disklog d past n)) (disklog d past n)
-            (small-participant (disklog d past n)) ∙ h) (are.each n) disk
+        (λ h. same_word (has_ended t f) (has_ended-reads t f) (small (disklog d past n)) (disklog d past n)
+        (small-participant (disklog d past n)) ∙ h) (are.each n) disk
 
     home-log : (b : Bool) (o : Option Decision) → was_compacted past s.home ≡ b → undone t (journal d past s.home) ≡ o
         → (has_decided t f (reverse (logs s.home)) ≡ true)
-            ⊎ ((was_compacted past s.home ≡ true)
-                × ((n : NodeId) → is_among n (parts_in d (Some s)) ≡ true → has_ended t f (reverse (logs n)) ≡ true))
+        ⊎ ((was_compacted past s.home ≡ true)
+        × ((n : NodeId) → is_among n (parts_in d (Some s)) ≡ true → has_ended t f (reverse (logs n)) ≡ true))
     home-log false o e h =
         inl (plain-log d past s.home (logs s.home) (λ r. has_decided t f r ≡ true)
-            (λ y r i. has_decided-grows t f y r i) (uncompacted d past s.home e) (are.each s.home) at-home)
+        (λ y r i. has_decided-grows t f y r i) (uncompacted d past s.home e) (are.each s.home) at-home)
     home-log true (Some y) e h = inl (open-log y h)
     home-log true None e h = inr (e, λ n part. closed-log h n part)
 
@@ -251,12 +251,12 @@ commit-kept d past logs s f later before r are is at =
     part-log n part =
         let x = prepared-copy d past f t s n later before r at is part in
         let disk : prepared_of t (disklog d past n) ≡ Some x.0 =
-            same_word (prepared_of t) (prepared-reads t) (disklog d past n) (journal d past n)
-            (disk-alike d past n (nodes-fit d past r.due n).fits).ballots ∙ x.1 in
+        same_word (prepared_of t) (prepared-reads t) (disklog d past n) (journal d past n)
+        (disk-alike d past n (nodes-fit d past r.due n).fits).ballots ∙ x.1 in
         let stands : prepared_of t (reverse (logs n)) ≡ Some x.0 =
-            in-log d past n (logs n) (λ q. prepared_of t q ≡ Some x.0) (λ y q h. prepared-stays t y q x.0 h)
-            (λ h. same_word (prepared_of t) (prepared-reads t) (small (disklog d past n)) (disklog d past n)
-            (small-participant (disklog d past n)) ∙ h) (are.each n) disk in
+        in-log d past n (logs n) (λ q. prepared_of t q ≡ Some x.0) (λ y q h. prepared-stays t y q x.0 h)
+        (λ h. same_word (prepared_of t) (prepared-reads t) (small (disklog d past n)) (disklog d past n)
+        (small-participant (disklog d past n)) ∙ h) (are.each n) disk in
         ap writes_at stands ∙ ap (λ ws. Some ws) x.2
 
 -- ---- a finished update

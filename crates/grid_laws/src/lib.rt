@@ -14,7 +14,7 @@
 mod runs;
 
 pub use runs::{
-    law_aborts_final, law_begun_fit, law_calm_run, law_decisions_rest, law_disk_lists, law_facts, law_fit,
-    law_identifiers, law_locks_exclude, law_messages_backed, law_never_held, law_one_history,
-    law_own_decisions, law_prepares_agree, law_records_fit, law_served_promised,
+    law_aborts_final, law_begun_fit, law_calm_run, law_decisions_rest, law_disk_lists, law_facts,
+    law_fit, law_identifiers, law_locks_exclude, law_messages_backed, law_never_held,
+    law_one_history, law_own_decisions, law_prepares_agree, law_records_fit, law_served_promised,
 };

@@ -50,12 +50,12 @@ reading-stage = refl
 
 abbrev pub replied : List Act
 replied = after reading (
-      act.Got 11
-      ∷ act.Ceiling 2 64
-      ∷ act.Raised 2 1
-      ∷ act.Served 2 1 1 a 1 0 10
-      ∷ act.Sent 12 2 1 (reply 1 1 1 10)
-      ∷ []
+    act.Got 11
+    ∷ act.Ceiling 2 64
+    ∷ act.Raised 2 1
+    ∷ act.Served 2 1 1 a 1 0 10
+    ∷ act.Sent 12 2 1 (reply 1 1 1 10)
+    ∷ []
     )
 
 pub replied-outs : outs_of 1 (view read_then_write replied 1) (event.Deliver 2 (reply 1 1 1 10)) ≡ out.Act (act.Taken 1 1 1 10) ∷ out.Send 1 (prepare 1 1 (1 ∷ 2 ∷ []) [] ((b, 11) ∷ [])) ∷ out.Send 2 (prepare 1 1 (1 ∷ 2 ∷ []) (a ∷ []) []) ∷ []
@@ -63,11 +63,11 @@ replied-outs = refl
 
 abbrev pub collecting : List Act
 collecting = after replied (
-      act.Got 12
-      ∷ act.Taken 1 1 1 10
-      ∷ act.Sent 13 1 1 (prepare 1 1 (1 ∷ 2 ∷ []) [] ((b, 11) ∷ []))
-      ∷ act.Sent 14 1 2 (prepare 1 1 (1 ∷ 2 ∷ []) (a ∷ []) [])
-      ∷ []
+    act.Got 12
+    ∷ act.Taken 1 1 1 10
+    ∷ act.Sent 13 1 1 (prepare 1 1 (1 ∷ 2 ∷ []) [] ((b, 11) ∷ []))
+    ∷ act.Sent 14 1 2 (prepare 1 1 (1 ∷ 2 ∷ []) (a ∷ []) [])
+    ∷ []
     )
 
 pub collecting-phases : phases read_then_write collecting ≡ Collecting ∷ []

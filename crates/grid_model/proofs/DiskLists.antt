@@ -230,7 +230,7 @@ uncompacted d (act.Up m f ∷ past) n e =
 
     same : (b : Bool) → is_compacting past n ≡ false → disklog d past n ≡ journal d past n
         → (if b then reopened (is_compacting past n) (is_kept f) (node d past n).doubt (disklog d past n)
-            else disklog d past n) ≡ (changed (where_at b (Starts (is_kept f))) (node d past n)).journal
+        else disklog d past n) ≡ (changed (where_at b (Starts (is_kept f))) (node d past n)).journal
     same true now before = rw (now, before) refl
     same false now before = before
 uncompacted d (a ∷ past) n e =

@@ -147,7 +147,8 @@ fn is_undecided_collecting(script: &Script, story: &Story) -> bool
 fn is_collecting(script: &Script, story: &Story, home: &PlainNode) -> bool
     ensures { result ≡ is_collecting (phase_at script.now (Some story.now) home.now) }
 {
-    if story.lost || later_decision(story.skipped, home.records.as_slice(), script.number).is_some() {
+    let decided = later_decision(story.skipped, home.records.as_slice(), script.number);
+    if story.lost || decided.is_some() {
         return false;
     }
     is_undecided_collecting(script, story)

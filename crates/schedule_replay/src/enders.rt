@@ -132,12 +132,7 @@ pub fn tell_outs(
 }
 
 /// What a part gives where another part asks: how the transaction ended here, where it ended.
-pub fn peer_row(
-    alloc: Global,
-    node: &PlainNode,
-    t: TxId,
-    from: NodeId,
-) -> Result<Vec<Out>, Memory>
+pub fn peer_row(alloc: Global, node: &PlainNode, t: TxId, from: NodeId) -> Result<Vec<Out>, Memory>
     ensures { IfOk result (λ outs. outs.items ≡ peer_outs t from (ended t node.now.journal)) }
 {
     let mut outs = Vec::new(alloc);

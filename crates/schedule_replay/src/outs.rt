@@ -22,7 +22,14 @@ pub fn outs_at_begin(alloc: Global, run: &RunState, script: &Script) -> Result<V
 {
     let home = script.home;
     let floor = floor_of(run, script.session);
-    begin_outs(alloc, run.doc().cluster(), home, run.node(home), script, floor)
+    begin_outs(
+        alloc,
+        run.doc().cluster(),
+        home,
+        run.node(home),
+        script,
+        floor,
+    )
 }
 
 /// What the receiver of a message gives.
