@@ -28,17 +28,20 @@ open-begun : (o : Option ℕ) → open_phase o ≡ Unbegun → ⊥
 open-begun None e = cc
 open-begun (Some j) e = cc
 
-undecided-begun : (ops : List Op) (x : Story) (a f : Bool) → (if a then Aborted else (if f then Answered else open_phase (waiting ops x.progress.values))) ≡ Unbegun → ⊥
+undecided-begun : (ops : List Op) (x : Story) (a f : Bool)
+    → (if a then Aborted else (if f then Answered else open_phase (waiting ops x.progress.values))) ≡ Unbegun → ⊥
 undecided-begun ops x true f e = cc
 undecided-begun ops x false true e = cc
 undecided-begun ops x false false e = open-begun (waiting ops x.progress.values) e
 
-decided-begun : (ops : List Op) (x : Story) (closed : Bool) (o : Option Decision) → decided_phase ops x closed o ≡ Unbegun → ⊥
+decided-begun : (ops : List Op) (x : Story) (closed : Bool) (o : Option Decision)
+    → decided_phase ops x closed o ≡ Unbegun → ⊥
 decided-begun ops x closed None e = undecided-begun ops x x.aborted (x.finished && not (is_update ops)) e
 decided-begun ops x true (Some y) e = cc
 decided-begun ops x false (Some y) e = cc
 
-begun : (ops : List Op) (o : Option Story) (closed : Bool) (y : Option Decision) → is_some o ≡ true → phase_by ops o closed y ≡ Unbegun → ⊥
+begun : (ops : List Op) (o : Option Story) (closed : Bool) (y : Option Decision) → is_some o ≡ true
+    → phase_by ops o closed y ≡ Unbegun → ⊥
 begun ops None closed y h e = cc
 begun ops (Some x) closed y h e = go x.lost e
   where

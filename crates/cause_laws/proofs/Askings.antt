@@ -39,17 +39,22 @@ use Rattle.std.specs.Prelude.{if◌then◌else◌, ◌==◌}
 
 -- ---- the others
 
-other-story : (d : DocumentData) (past : List Act) (s : ScriptData) (o p : Option Story) (b : Bool) → b ≡ false → IsAsked d past s p → IsAsked d past s (if b then o else p)
+other-story : (d : DocumentData) (past : List Act) (s : ScriptData) (o p : Option Story) (b : Bool) → b ≡ false
+    → IsAsked d past s p → IsAsked d past s (if b then o else p)
 other-story d past s o p true e h = cc
 other-story d past s o p false e h = h
 
-other-if : (d : DocumentData) (past : List Act) (s : ScriptData) (b : Bool) (f : Story → Story) (o : Option Story) → b ≡ false → IsAsked d past s o → IsAsked d past s (if_told b f o)
+other-if : (d : DocumentData) (past : List Act) (s : ScriptData) (b : Bool) (f : Story → Story) (o : Option Story)
+    → b ≡ false → IsAsked d past s o → IsAsked d past s (if_told b f o)
 other-if d past s b f None e h = h
 other-if d past s true f (Some x) e h = cc
 other-if d past s false f (Some x) e h = h
 
 -- what an asker leaves
-all-but : (d : DocumentData) (past now acts : List Act) (u : ScriptData) → script_of u.number d.scripts ≡ Some u → ((s : ScriptData) → u.number ≢ s.number → script_of s.number d.scripts ≡ Some s → IsAsked d now s (story d now s.number)) → list_all is_untaking acts ≡ true → IsAsked d (after now acts) u (story d (after now acts) u.number) → AllAsked d (after now acts)
+all-but : (d : DocumentData) (past now acts : List Act) (u : ScriptData) → script_of u.number d.scripts ≡ Some u
+    → ((s : ScriptData) → u.number ≢ s.number → script_of s.number d.scripts ≡ Some s
+    → IsAsked d now s (story d now s.number)) → list_all is_untaking acts ≡ true
+    → IsAsked d (after now acts) u (story d (after now acts) u.number) → AllAsked d (after now acts)
 all-but d past now acts u is others calm mine s script = elim (cases_eq u.number s.number) [
   | inl same ↦
       let P : TxId → Type 0 = λ t. script_of t d.scripts ≡ Some u in
@@ -61,7 +66,10 @@ all-but d past now acts u is others calm mine s script = elim (cases_eq u.number
 
 -- ---- each event
 
-asked-begin : (d : DocumentData) (past acts : List Act) (u : ScriptData) (b : Bool) → IsOne d → script_of u.number d.scripts ≡ Some u → acts ≡ numbered (next_number past) u.home (kept b u.home (begin_outs u.home (participant (view d past u.home)) u (floor_at d past u))) → AllAsked d past → AllAsked d (after past acts)
+asked-begin : (d : DocumentData) (past acts : List Act) (u : ScriptData) (b : Bool) → IsOne d
+    → script_of u.number d.scripts ≡ Some u → acts ≡ numbered (next_number past) u.home
+    (kept b u.home (begin_outs u.home (participant (view d past u.home)) u (floor_at d past u))) → AllAsked d past
+    → AllAsked d (after past acts)
 asked-begin d past acts u b one is k all =
     let sid0 : Ident = first_at d past u in
     let now : List Act = act.Began u.number u.home sid0 ∷ past in
@@ -73,11 +81,16 @@ asked-begin d past acts u b one is k all =
     (advance-untaking d.cluster (open_of u (begun_in d (node d past) u.number sid0)) 0 b (next_number past) u.home)
     (self-asked d now (next_number past) u.home b u (begun_in d (node d past) u.number sid0) 0 one (story-began d past u.number u.home sid0)))
   where
-    began : (b : Bool) → numbered (next_number past) u.home (kept b u.home (begin_outs u.home (participant (view d past u.home)) u (floor_at d past u))) ≡ act.Began u.number u.home (first_at d past u) ∷ numbered (next_number past) u.home (kept b u.home (advance d.cluster (open_of u (begun_in d (node d past) u.number (first_at d past u))) 0))
+    began : (b : Bool) → numbered (next_number past) u.home
+        (kept b u.home (begin_outs u.home (participant (view d past u.home)) u (floor_at d past u)))
+        ≡ act.Began u.number u.home (first_at d past u) ∷ numbered (next_number past) u.home
+        (kept b u.home (advance d.cluster (open_of u (begun_in d (node d past) u.number (first_at d past u))) 0))
     began true = refl
     began false = refl
 
-asked-taken : (d : DocumentData) (past : List Act) (m : ℕ) (n : NodeId) (b : Bool) (q : ReadRep) (o : Open) (w : Option ℕ) → IsOne d → Opens d past n q.t o w → AllAsked d past → AllAsked d (after past (numbered m n (kept b n (out.Act (act.Taken q.t q.op q.sid q.value) ∷ advance d.cluster (with_reply q o) q.op))))
+asked-taken : (d : DocumentData) (past : List Act) (m : ℕ) (n : NodeId) (b : Bool) (q : ReadRep) (o : Open)
+    (w : Option ℕ) → IsOne d → Opens d past n q.t o w → AllAsked d past → AllAsked d (after past
+    (numbered m n (kept b n (out.Act (act.Taken q.t q.op q.sid q.value) ∷ advance d.cluster (with_reply q o) q.op))))
 asked-taken d past m n b q o w one h all =
     let u : ScriptData = h.script in
     let y : Story = progressed (with_value q.op q.sid q.value) h.story in
@@ -92,7 +105,10 @@ asked-taken d past m n b q o w one h all =
     subst T (sym (kept-first m n b (act.Taken q.t q.op q.sid q.value) (advance d.cluster (with_reply q o) q.op) refl))
     (subst S (sym h.is) more)
 
-asked-answered : (d : DocumentData) (past acts : List Act) (k : ℕ) (n x : NodeId) (q : ReadRep) (b : Bool) → IsOne d → sent_at k (sent past) ≡ Some (record { from = x; to = n; message = message.ReadRep q }) → acts ≡ act.Got k ∷ numbered (next_number past) n (kept b n (answer n (view d past n) x (message.ReadRep q))) → AllAsked d past → AllAsked d (after past acts)
+asked-answered : (d : DocumentData) (past acts : List Act) (k : ℕ) (n x : NodeId) (q : ReadRep) (b : Bool) → IsOne d
+    → sent_at k (sent past) ≡ Some (record { from = x; to = n; message = message.ReadRep q })
+    → acts ≡ act.Got k ∷ numbered (next_number past) n (kept b n (answer n (view d past n) x (message.ReadRep q)))
+    → AllAsked d past → AllAsked d (after past acts)
 asked-answered d past acts k n x q b one is e all =
     let now : List Act = act.Got k ∷ past in
     let same : stage (view d now n) q.t ≡ stage (view d past n) q.t = stage-quiet d past k x n (message.ReadRep q) q.t is refl in
@@ -102,7 +118,8 @@ asked-answered d past acts k n x q b one is e all =
     (answer-reply (λ z. AllAsked d (after now z)) (next_number past) n x b (view d past n) q here
     (λ y reads. asked-taken d now (next_number past) n b q y (Some q.op) one (opens-reads d now n q.t y q.op (same ∙ reads)) here))
 
-asked-event : (d : DocumentData) (past acts : List Act) → IsOne d → Event d past acts → AllAsked d past → AllAsked d (after past acts)
+asked-event : (d : DocumentData) (past acts : List Act) → IsOne d → Event d past acts → AllAsked d past
+    → AllAsked d (after past acts)
 asked-event d past acts one event all = go (event-turn d past acts event.is)
   where
     go : IsTurn d past acts → AllAsked d (after past acts)

@@ -1,4 +1,5 @@
--- The claim on causes is not empty: it holds of a run with a refusal, and wrong causes and causeless ends do not meet it.
+-- The claim on causes is not empty: it holds of a run with a refusal, and wrong causes and causeless ends do not meet
+-- it.
 use Rattle.std.proofs.Common.{◌≡◌, Bool, true, false, IsTrue, List, [], ◌∷◌, ◌++◌, Option, Some, None, refl, sym, ap, take, drop}
 use Rattle.std.specs.List.{list_all}
 use Rattle.std.specs.Prelude.{◌==◌}
@@ -66,7 +67,8 @@ holder_in (Some (cause.Holder u)) = u
 holder_in o = 0
 
 -- a refusal, a vote and an abort that all name another holder are refuted, whichever it is
-pub wrong_holder-refuted : (u : TxId) → (u ≡ 1 → ⊥) → Caused write_conflict (both_prepare ++ refused_for (cause.Holder u) (cause.Holder u)) → ⊥
+pub wrong_holder-refuted : (u : TxId) → (u ≡ 1 → ⊥)
+    → Caused write_conflict (both_prepare ++ refused_for (cause.Holder u) (cause.Holder u)) → ⊥
 wrong_holder-refuted u other caused =
     let e : Some (cause.Holder 1) ≡ Some (cause.Holder u) = caused.1.1.1.0 in
     other (sym (ap holder_in e))
@@ -76,7 +78,8 @@ pub wrong_abort-refuted : Caused write_conflict (both_prepare ++ refused_for (ca
 wrong_abort-refuted caused = let is : false ≡ true = caused.0 in false≢true is
 
 -- a refusal where the holder's Prepared is gone is refuted
-pub no_holder-refuted : Caused write_conflict (act.Up 1 flag.Untouched ∷ act.Up 2 flag.Untouched ∷ act.Began 2 2 0 ∷ act.Sent 1 2 2 (prepare 2 0 (2 ∷ []) [] ((a, 2) ∷ [])) ∷ act.Got 1 ∷ act.Refused 2 2 (cause.Holder 1) ∷ []) → ⊥
+pub no_holder-refuted : Caused write_conflict (act.Up 1 flag.Untouched ∷ act.Up 2 flag.Untouched ∷ act.Began 2 2 0
+    ∷ act.Sent 1 2 2 (prepare 2 0 (2 ∷ []) [] ((a, 2) ∷ [])) ∷ act.Got 1 ∷ act.Refused 2 2 (cause.Holder 1) ∷ []) → ⊥
 no_holder-refuted caused = let e : None ≡ Some (cause.Holder 1) = caused.0 in none-some (cause.Holder 1) e
 
 -- a transaction that is lost where no opening of its home stands before is refuted
@@ -84,11 +87,13 @@ pub lost-refuted : Caused write_conflict (both_prepare ++ act.Lost 2 ∷ []) →
 lost-refuted caused = let is : false ≡ true = caused.0 in false≢true is
 
 -- so is one whose home is opened, but that was not begun
-pub lost_unbegun-refuted : Caused write_conflict (act.Up 1 flag.Untouched ∷ act.Lost 1 ∷ act.Up 2 flag.Untouched ∷ []) → ⊥
+pub lost_unbegun-refuted : Caused write_conflict (act.Up 1 flag.Untouched ∷ act.Lost 1 ∷ act.Up 2 flag.Untouched ∷ [])
+    → ⊥
 lost_unbegun-refuted caused = let is : false ≡ true = caused.1.0 in false≢true is
 
 -- an abort of a transaction that only reads is refuted, even behind its refusal
-pub reader_aborted-refuted : Caused first_read (first_read_acts ++ act.Refused 2 1 (cause.Holder 2) ∷ act.Aborted 1 2 (cause.Holder 2) ∷ []) → ⊥
+pub reader_aborted-refuted : Caused first_read
+    (first_read_acts ++ act.Refused 2 1 (cause.Holder 2) ∷ act.Aborted 1 2 (cause.Holder 2) ∷ []) → ⊥
 reader_aborted-refuted caused = let is : false ≡ true = caused.0 in false≢true is
 
 -- is this act one that needs no cause?

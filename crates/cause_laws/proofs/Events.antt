@@ -49,11 +49,15 @@ pub record Event (d : DocumentData) (past acts : List Act) : Type 0 where
   pub is : IsEvent d past acts
 
 -- what holds of each act of a past held of each act before
-pub fit-before : (P : Act → List Act → Type 0) (past acts : List Act) → EachBehind P (after past acts) → EachBehind P past
+pub fit-before : (P : Act → List Act → Type 0) (past acts : List Act) → EachBehind P (after past acts)
+    → EachBehind P past
 fit-before P past [] h = h
 fit-before P past (a ∷ acts) h = (fit-before P (a ∷ past) acts h).1
 
-rows-hold : (d : DocumentData) (B : List Act → Type 0) → ((past acts : List Act) → Event d past acts → B past → B (after past acts)) → (past : List Act) (es : List Item) (h : List Act) → AllDue d (after past h) → AllTold d past → B past → AllFit d (after past h) → Rows d past es h → B (after past h)
+rows-hold : (d : DocumentData) (B : List Act → Type 0)
+    → ((past acts : List Act) → Event d past acts → B past → B (after past acts))
+    → (past : List Act) (es : List Item) (h : List Act) → AllDue d (after past h) → AllTold d past → B past
+    → AllFit d (after past h) → Rows d past es h → B (after past h)
 unfolding Rows
 rows-hold d B step past [] h due told here fit rows = rw rows here
 rows-hold d B step past (e ∷ es) h due told here fit rows =
@@ -70,7 +74,10 @@ rows-hold d B step past (e ∷ es) h due told here fit rows =
     rw rows.2 (subst B (sym (after-append past acts rows.1)) more)
 
 -- what holds behind each start, and is left true by each event
-pub run-holds : (d : DocumentData) (B : List Act → Type 0) → ((ups : NodeId → Bool) → B (after [] (start_row d.cluster.nodes ups))) → ((past acts : List Act) → Event d past acts → B past → B (after past acts)) → (h : List Act) → IsOne d → IsRun d d.items h → B (after [] h)
+pub run-holds : (d : DocumentData) (B : List Act → Type 0)
+    → ((ups : NodeId → Bool) → B (after [] (start_row d.cluster.nodes ups)))
+    → ((past acts : List Act) → Event d past acts → B past → B (after past acts)) → (h : List Act) → IsOne d
+    → IsRun d d.items h → B (after [] h)
 run-holds d B start step h one run =
     let first : List Act = start_row d.cluster.nodes run.opens in
     let told : AllTold d (after [] first) = untaking-all d [] first (untaking-starts run.opens (range_with_len 1 d.cluster.nodes)) (λ t s e. refl) in

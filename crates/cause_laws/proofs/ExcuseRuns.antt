@@ -1,4 +1,5 @@
--- The claim on excuses is not empty: to collect with all votes, to read what was answered, or to ask who neither holds nor answers the home is no excuse.
+-- The claim on excuses is not empty: to collect with all votes, to read what was answered, or to ask who neither holds
+-- nor answers the home is no excuse.
 use Rattle.cause_laws.proofs.CauseRuns.{both_prepare}
 use Rattle.std.proofs.Common.{inl, inr, ◌≡◌, ℕ, true, false, IsTrue, List, [], ◌∷◌, ◌++◌, refl, ap, sym, subst, arith, drop, ◌==◌, ◌&&◌}
 use Rattle.std.proofs.lemmas.Bool.{false≢true}
@@ -28,11 +29,14 @@ use Rattle.grid_model.proofs.RunsWithConflicts.{write_conflict, write_conflict_a
 
 -- the second of two that write one key
 abbrev pub second_script : ScriptData
-second_script = record { number = 2; home = 2; session = 0; ops = (op.Write a (record { first = atom.Number 2; steps = [] }) ∷ []) }
+second_script =
+    record { number = 2; home = 2; session = 0; ops = (op.Write a (record { first = atom.Number 2; steps = [] }) ∷ []) }
 
 -- the acts of the run but for the last, its abort
 abbrev pub unaborted_acts : List Act
-unaborted_acts = both_prepare ++ (act.Refused 2 2 (cause.Holder 1) ∷ act.Sent 4 2 2 (message.Vote 2 (ballot.No (cause.Holder 1))) ∷ act.Got 4 ∷ [])
+unaborted_acts =
+    both_prepare ++ (act.Refused 2 2 (cause.Holder 1) ∷ act.Sent 4 2 2 (message.Vote 2 (ballot.No (cause.Holder 1)))
+    ∷ act.Got 4 ∷ [])
 
 -- with the abort these are the acts of the run
 pub unaborted-acts : unaborted_acts ++ act.Aborted 2 2 (cause.Holder 1) ∷ [] ≡ write_conflict_acts
@@ -42,7 +46,8 @@ abbrev pub unaborted : List Act
 unaborted = after [] unaborted_acts
 
 -- it is collecting, and its home is up
-pub unaborted-open : (phase write_conflict unaborted second_script ≡ Collecting) × ((node write_conflict unaborted 2).up ≡ true)
+pub unaborted-open : (phase write_conflict unaborted second_script ≡ Collecting) ×
+    ((node write_conflict unaborted 2).up ≡ true)
 unaborted-open = (refl, refl)
 
 only-two : (n : NodeId) → IsTrue (is_among n (2 ∷ [])) → 2 ≡ n

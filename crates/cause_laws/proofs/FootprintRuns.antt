@@ -38,7 +38,8 @@ pub conflict-genuine : Genuine write_conflict write_conflict_acts
 conflict-genuine = tested-genuine write_conflict write_conflict_acts refl
 
 -- one message of the transaction to the bystander is refuted, whatever it says and whoever sends it
-pub bystander-told-refuted : (m : ℕ) (x : NodeId) (said : Message) → tx_in said ≡ 1 → Genuine bystander_gets_nothing (bystander_gets_nothing_acts ++ act.Sent m x 3 said ∷ []) → ⊥
+pub bystander-told-refuted : (m : ℕ) (x : NodeId) (said : Message) → tx_in said ≡ 1
+    → Genuine bystander_gets_nothing (bystander_gets_nothing_acts ++ act.Sent m x 3 said ∷ []) → ⊥
 bystander-told-refuted m x said of_it genuine =
     let last : IsGenuineAct bystander_gets_nothing (act.Sent m x 3 said) = claim-at (IsGenuineAct bystander_gets_nothing) bystander_gets_nothing_acts (act.Sent m x 3 said) [] genuine in
     let to_it : IsTrue (is_end bystander_gets_nothing (tx_in said) 3) = (and_parts (is_end bystander_gets_nothing (tx_in said) x) (is_end bystander_gets_nothing (tx_in said) 3) last).1 in
@@ -47,7 +48,8 @@ bystander-told-refuted m x said of_it genuine =
     cc
 
 -- so is one message from it
-pub bystander-says-refuted : (m : ℕ) (y : NodeId) (said : Message) → tx_in said ≡ 1 → Genuine bystander_gets_nothing (bystander_gets_nothing_acts ++ act.Sent m 3 y said ∷ []) → ⊥
+pub bystander-says-refuted : (m : ℕ) (y : NodeId) (said : Message) → tx_in said ≡ 1
+    → Genuine bystander_gets_nothing (bystander_gets_nothing_acts ++ act.Sent m 3 y said ∷ []) → ⊥
 bystander-says-refuted m y said of_it genuine =
     let last : IsGenuineAct bystander_gets_nothing (act.Sent m 3 y said) = claim-at (IsGenuineAct bystander_gets_nothing) bystander_gets_nothing_acts (act.Sent m 3 y said) [] genuine in
     let by_it : IsTrue (is_end bystander_gets_nothing (tx_in said) 3) = (and_parts (is_end bystander_gets_nothing (tx_in said) 3) (is_end bystander_gets_nothing (tx_in said) y) last).0 in

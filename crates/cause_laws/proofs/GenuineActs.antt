@@ -31,7 +31,8 @@ home-end d t x y h = and_from (is_end d t x) (is_end d t y) (or_left (is_home d 
 part-end : (d : DocumentData) (t : TxId) (x y : NodeId) → HomeAndPart d t y x → IsTrue (is_end d t x && is_end d t y)
 part-end d t x y h = and_from (is_end d t x) (is_end d t y) (or_right (is_home d t x) (is_among x (parts_at d t)) h.part) (or_left (is_home d t y) (is_among y (parts_at d t)) h.home)
 
-genuine-sent : (d : DocumentData) (m : ℕ) (x y : NodeId) (said : Message) → HasEnds d x y said → is_told_well d x y said ≡ true → IsGenuineAct d (act.Sent m x y said)
+genuine-sent : (d : DocumentData) (m : ℕ) (x y : NodeId) (said : Message) → HasEnds d x y said
+    → is_told_well d x y said ≡ true → IsGenuineAct d (act.Sent m x y said)
 genuine-sent d m x y (message.ReadReq q) h well = home-end d q.t x y h
 genuine-sent d m x y (message.ReadRep q) h well = part-end d q.t x y h
 genuine-sent d m x y (message.Prepare q) h well = home-end d q.t x y h
@@ -41,12 +42,14 @@ genuine-sent d m x y (message.Ack t) h well = part-end d t x y h
 genuine-sent d m x y (message.Ask t) h well = part-end d t x y h
 genuine-sent d m x y (message.AskPeer t) h well = and_from (is_end d t x) (is_end d t y) (or_right (is_home d t x) (is_among x (parts_at d t)) h.asker) (or_right (is_home d t y) (is_among y (parts_at d t)) h.asked)
 
-genuine-act : (d : DocumentData) (past : List Act) (a : Act) → IsOne d → AllDue d past → IsDue d past a → is_well_act d a ≡ true → IsGenuineAct d a
+genuine-act : (d : DocumentData) (past : List Act) (a : Act) → IsOne d → AllDue d past → IsDue d past a
+    → is_well_act d a ≡ true → IsGenuineAct d a
 genuine-act d past (act.Sent m x y said) one all due well = genuine-sent d m x y said (ends-due d past x y said one all due) well
 genuine-act d past a one all due well = tt
 
 -- each act of a past whose outcomes have both ends
-genuine-past : (d : DocumentData) (past : List Act) → IsOne d → AllDue d past → list_all (is_well_act d) past ≡ true → EachAct (IsGenuineAct d) past
+genuine-past : (d : DocumentData) (past : List Act) → IsOne d → AllDue d past → list_all (is_well_act d) past ≡ true
+    → EachAct (IsGenuineAct d) past
 genuine-past d [] one due well = tt
 genuine-past d (a ∷ past) one due well = let both = and_parts (is_well_act d a) (list_all (is_well_act d) past) well in (genuine-act d past a one due.1 due.0 both.0, genuine-past d past one due.1 both.1)
 

@@ -23,14 +23,17 @@ same-first : (a c : Act) (xs ys : List Act) → a ∷ xs ≡ c ∷ ys → (a ≡
 same-first a c xs ys e = (cc, cc)
 
 -- acts that get nothing come behind
-split-got : (past acts later before : List Act) (m : ℕ) → list_all is_ungot acts ≡ true → after past acts ≡ later ++ act.Got m ∷ before → (more : List Act) × (later ≡ after more acts) × (past ≡ more ++ act.Got m ∷ before)
+split-got : (past acts later before : List Act) (m : ℕ) → list_all is_ungot acts ≡ true
+    → after past acts ≡ later ++ act.Got m ∷ before
+    → (more : List Act) × (later ≡ after more acts) × (past ≡ more ++ act.Got m ∷ before)
 split-got past [] later before m h e = (later, refl, e)
 split-got past (a ∷ acts) later before m h e =
     let both = and_parts (is_ungot a) (list_all is_ungot acts) h in
     let w = split-got (a ∷ past) acts later before m both.1 e in
     go w.0 both.0 w.1 w.2
   where
-    go : (more : List Act) → is_ungot a ≡ true → later ≡ after more acts → a ∷ past ≡ more ++ act.Got m ∷ before → (more : List Act) × (later ≡ after more (a ∷ acts)) × (past ≡ more ++ act.Got m ∷ before)
+    go : (more : List Act) → is_ungot a ≡ true → later ≡ after more acts → a ∷ past ≡ more ++ act.Got m ∷ before
+        → (more : List Act) × (later ≡ after more (a ∷ acts)) × (past ≡ more ++ act.Got m ∷ before)
     go [] u l e = absurd (same-got a m u (same-first a (act.Got m) past before e).0)
     go (c ∷ more) u l e =
         let w = same-first a c past (more ++ act.Got m ∷ before) e in
@@ -41,7 +44,8 @@ split-got past (a ∷ acts) later before m h e =
 abbrev pub GotBefore : (NodeId → NodeId → Message → Bool) → List Act → List Act → NodeId → List Act → Type 0
 GotBefore p past acts n later = (more : List Act) × GotAt p past n more × (later ≡ after more acts)
 
-passes-some : (p : NodeId → NodeId → Message → Bool) (n : NodeId) (o : Option Envelope) (e : Envelope) → o ≡ Some e → passes (λ x y said. y == n && p x y said) o ≡ true → (e.to ≡ n) × (p e.from e.to e.message ≡ true)
+passes-some : (p : NodeId → NodeId → Message → Bool) (n : NodeId) (o : Option Envelope) (e : Envelope) → o ≡ Some e
+    → passes (λ x y said. y == n && p x y said) o ≡ true → (e.to ≡ n) × (p e.from e.to e.message ≡ true)
 passes-some p n None e i h = cc
 passes-some p n (Some z) e i h =
     let same : z ≡ e = cc in
@@ -51,11 +55,15 @@ passes-some p n (Some z) e i h =
     subst P same (grind (arith, nat_tests, at), both.1)
 
 -- where an event gets nothing
-pub got-none-by : (p : NodeId → NodeId → Message → Bool) (past acts : List Act) (n : NodeId) (later : List Act) → list_all is_ungot acts ≡ true → GotAt p (after past acts) n later → GotBefore p past acts n later
+pub got-none-by : (p : NodeId → NodeId → Message → Bool) (past acts : List Act) (n : NodeId) (later : List Act)
+    → list_all is_ungot acts ≡ true → GotAt p (after past acts) n later → GotBefore p past acts n later
 got-none-by p past acts n later h g = let w = split-got past acts later g.before g.m h g.there in (w.0, record { m = g.m; before = g.before; there = w.2; said = g.said }, w.1)
 
 -- where an event gets one message
-pub got-one-by : (p : NodeId → NodeId → Message → Bool) (past acts rest : List Act) (m : ℕ) (e : Envelope) (n : NodeId) (later : List Act) → sent_at m (sent past) ≡ Some e → acts ≡ act.Got m ∷ rest → list_all is_ungot rest ≡ true → GotAt p (after past acts) n later → GotBefore p past acts n later ⊎ ((later ≡ after [] rest) × (e.to ≡ n) × (p e.from e.to e.message ≡ true))
+pub got-one-by : (p : NodeId → NodeId → Message → Bool) (past acts rest : List Act) (m : ℕ) (e : Envelope) (n : NodeId)
+    (later : List Act) → sent_at m (sent past) ≡ Some e → acts ≡ act.Got m ∷ rest → list_all is_ungot rest ≡ true
+    → GotAt p (after past acts) n later
+    → GotBefore p past acts n later ⊎ ((later ≡ after [] rest) × (e.to ≡ n) × (p e.from e.to e.message ≡ true))
 got-one-by p past acts rest m e n later is k h g =
     let P : List Act → Type 0 = λ z. after past z ≡ later ++ act.Got g.m ∷ g.before in
     let w = split-got (act.Got m ∷ past) rest later g.before g.m h (subst P k g.there) in
@@ -64,7 +72,8 @@ got-one-by p past acts rest m e n later is k h g =
     same-number' : (a b : ℕ) → act.Got a ≡ act.Got b → a ≡ b
     same-number' a b e = cc
 
-    go : (more : List Act) → later ≡ after more rest → act.Got m ∷ past ≡ more ++ act.Got g.m ∷ g.before → GotBefore p past acts n later ⊎ ((later ≡ after [] rest) × (e.to ≡ n) × (p e.from e.to e.message ≡ true))
+    go : (more : List Act) → later ≡ after more rest → act.Got m ∷ past ≡ more ++ act.Got g.m ∷ g.before
+        → GotBefore p past acts n later ⊎ ((later ≡ after [] rest) × (e.to ≡ n) × (p e.from e.to e.message ≡ true))
     go [] l e' =
         let w = same-first (act.Got m) (act.Got g.m) past g.before e' in
         let number : g.m ≡ m = sym (same-number' m g.m w.0) in
@@ -80,7 +89,8 @@ got-one-by p past acts rest m e n later is k h g =
         inl (more, record { m = g.m; before = g.before; there = w.1; said = g.said }, subst R (sym k) (subst Q (sym w.0) l))
 
 -- nothing was got where no test finds it
-pub got-in : (p : NodeId → NodeId → Message → Bool) (past : List Act) (n : NodeId) (later : List Act) → GotAt p past n later → has_got p past ≡ true
+pub got-in : (p : NodeId → NodeId → Message → Bool) (past : List Act) (n : NodeId) (later : List Act)
+    → GotAt p past n later → has_got p past ≡ true
 got-in p past n later g =
     let P : List Act → Type 0 = λ z. has_got p z ≡ true in
     subst P (sym g.there) (from later)

@@ -1,4 +1,5 @@
--- A vote that is got is counted, or its transaction is settled, or its home is down; and while one collects, some part has not voted.
+-- A vote that is got is counted, or its transaction is settled, or its home is down; and while one collects, some part
+-- has not voted.
 use Rattle.grid_laws.proofs.DueActs.{due-before}
 use Rattle.cause_laws.proofs.KeyHolders.{holders-some}
 use Rattle.cause_laws.proofs.LossesSettle.{HasBegun, begun-more}
@@ -53,7 +54,8 @@ have-none y [] h = cc
 have-none y (n ∷ ns) h = refl
 
 -- no votes are not those of all parts
-pub some-part : (d : DocumentData) (s : ScriptData) → IsOne d → script_of s.number d.scripts ≡ Some s → have_voted (parts_of d s) [] ≡ false
+pub some-part : (d : DocumentData) (s : ScriptData) → IsOne d → script_of s.number d.scripts ≡ Some s
+    → have_voted (parts_of d s) [] ≡ false
 some-part d s one is = go s.ops refl (script-all (λ z. is_body z.ops) s.number d.scripts s one.bodies is)
   where
     go : (ops : List Op) → s.ops ≡ ops → is_body s.ops ≡ true → have_voted (parts_of d s) [] ≡ false
@@ -70,28 +72,34 @@ abbrev pub NotFull : DocumentData → List Act → ScriptData → Type 0
 NotFull d past s = (is_settled d past s ≡ true) ⊎ (is_unvoted d s (story d past s.number) ≡ true)
 
 -- what a vote leaves
-pub record VoteLeaves (d : DocumentData) (past : List Act) (m : ℕ) (s : ScriptData) (x : NodeId) (rest : List Act) : Type 0 where
+pub record VoteLeaves (d : DocumentData) (past : List Act) (m : ℕ) (s : ScriptData) (x : NodeId) (rest : List Act) :
+    Type 0 where
   pub counted : Counted d (after (act.Got m ∷ past) rest) s x
   pub waits : NotFull d past s → NotFull d (after (act.Got m ∷ past) rest) s
 
-settled-leaves : (d : DocumentData) (past : List Act) (m : ℕ) (s : ScriptData) (x : NodeId) (rest : List Act) → is_settled d (after (act.Got m ∷ past) rest) s ≡ true → VoteLeaves d past m s x rest
+settled-leaves : (d : DocumentData) (past : List Act) (m : ℕ) (s : ScriptData) (x : NodeId) (rest : List Act)
+    → is_settled d (after (act.Got m ∷ past) rest) s ≡ true → VoteLeaves d past m s x rest
 settled-leaves d past m s x rest h = record { counted = is_done h; waits = λ w. inl h }
 
-shut-settled : (d : DocumentData) (past : List Act) (s : ScriptData) → is_shut s (story d past s.number) ≡ true → is_settled d past s ≡ true
+shut-settled : (d : DocumentData) (past : List Act) (s : ScriptData) → is_shut s (story d past s.number) ≡ true
+    → is_settled d past s ≡ true
 shut-settled d past s h = or_left (is_shut s (story d past s.number)) (is_some (decision s.number (journal d past s.home))) h
 
-aborted-settled : (d : DocumentData) (past : List Act) (s : ScriptData) (x : NodeId) (why : Cause) → HasBegun d past s.number → is_settled d (act.Aborted s.number x why ∷ past) s ≡ true
+aborted-settled : (d : DocumentData) (past : List Act) (s : ScriptData) (x : NodeId) (why : Cause)
+    → HasBegun d past s.number → is_settled d (act.Aborted s.number x why ∷ past) s ≡ true
 aborted-settled d past s x why k = shut-settled d (act.Aborted s.number x why ∷ past) s (go (story d past s.number) k)
   where
     aborts : (l : Bool) → (l || true) ≡ true
     aborts true = refl
     aborts false = refl
 
-    go : (o : Option Story) → OfStory ⊥ (λ i values. Unit {0}) o → is_shut s (if_told (s.number == s.number) (λ y. record y { aborted = true }) o) ≡ true
+    go : (o : Option Story) → OfStory ⊥ (λ i values. Unit {0}) o
+        → is_shut s (if_told (s.number == s.number) (λ y. record y { aborted = true }) o) ≡ true
     go None k = absurd k
     go (Some y) k = rw (same-number s.number) (aborts y.lost)
 
-decided-settled : (d : DocumentData) (past : List Act) (s : ScriptData) (f : Ident) → script_of s.number d.scripts ≡ Some s → is_settled d (act.Decided s.number f ∷ past) s ≡ true
+decided-settled : (d : DocumentData) (past : List Act) (s : ScriptData) (f : Ident)
+    → script_of s.number d.scripts ≡ Some s → is_settled d (act.Decided s.number f ∷ past) s ≡ true
 decided-settled d past s f is =
     let home : is_home d s.number s.home ≡ true = home-is d s.number s.home s is refl in
     let y : Record = record'.Decided s.number f (parts_in d (script_of s.number d.scripts)) in
@@ -99,12 +107,16 @@ decided-settled d past s f is =
     let Q : Option Decision → Type 0 = λ o. is_some o ≡ true in
     or_right (is_shut s (story d (act.Decided s.number f ∷ past) s.number)) (is_some (decision s.number (journal d (act.Decided s.number f ∷ past) s.home))) (subst P (sym home) (subst Q (sym (decided-here s.number f (parts_in d (script_of s.number d.scripts)) (journal d past s.home))) refl))
 
-without-unvoted : (d : DocumentData) (s : ScriptData) (b : Bool) (o : Option Story) → b ≡ true → have_voted (parts_of d s) [] ≡ false → is_unvoted d s (if_told b without_answers o) ≡ true
+without-unvoted : (d : DocumentData) (s : ScriptData) (b : Bool) (o : Option Story) → b ≡ true
+    → have_voted (parts_of d s) [] ≡ false → is_unvoted d s (if_told b without_answers o) ≡ true
 without-unvoted d s b None e some = refl
 without-unvoted d s true (Some x) e some = none-unvoted d s (without_answers x) some refl
 without-unvoted d s false (Some x) e some = cc
 
-result-leaves : (d : DocumentData) (past : List Act) (m : ℕ) (n x : NodeId) (s : ScriptData) (rest : List Act) → script_of s.number d.scripts ≡ Some s → s.home ≡ n → have_voted (parts_of d s) [] ≡ false → HasBegun d (act.Got m ∷ past) s.number → AllDue d (after (act.Got m ∷ past) rest) → VoteResult d past m n x s rest → VoteLeaves d past m s x rest
+result-leaves : (d : DocumentData) (past : List Act) (m : ℕ) (n x : NodeId) (s : ScriptData) (rest : List Act)
+    → script_of s.number d.scripts ≡ Some s → s.home ≡ n → have_voted (parts_of d s) [] ≡ false
+    → HasBegun d (act.Got m ∷ past) s.number → AllDue d (after (act.Got m ∷ past) rest) → VoteResult d past m n x s rest
+    → VoteLeaves d past m s x rest
 result-leaves d past m n x s rest is home some begun due (known_vote k voted same) =
     let now : List Act = act.Got m ∷ past in
     let P : List Act → Type 0 = λ z. VoteLeaves d past m s x z in
@@ -146,7 +158,12 @@ result-leaves d past m n x s rest is home some begun due (stops_now f k) =
     })
 
 -- a vote on s that is got
-vote-leaves : (d : DocumentData) (past : List Act) (m : ℕ) (n x : NodeId) (b : Bool) (s : ScriptData) (a : Ballot) (rest : List Act) → IsOne d → script_of s.number d.scripts ≡ Some s → sent_at m (sent past) ≡ Some (record { from = x; to = n; message = message.Vote s.number a }) → is_fit n (view d past n) x (message.Vote s.number a) ≡ true → rest ≡ numbered (next_number past) n (kept b n (answer n (view d past n) x (message.Vote s.number a))) → AllDue d (after (act.Got m ∷ past) rest) → VoteLeaves d past m s x rest
+vote-leaves : (d : DocumentData) (past : List Act) (m : ℕ) (n x : NodeId) (b : Bool) (s : ScriptData) (a : Ballot)
+    (rest : List Act) → IsOne d → script_of s.number d.scripts ≡ Some s
+    → sent_at m (sent past) ≡ Some (record { from = x; to = n; message = message.Vote s.number a })
+    → is_fit n (view d past n) x (message.Vote s.number a) ≡ true
+    → rest ≡ numbered (next_number past) n (kept b n (answer n (view d past n) x (message.Vote s.number a)))
+    → AllDue d (after (act.Got m ∷ past) rest) → VoteLeaves d past m s x rest
 vote-leaves d past m n x b s a rest one is got fit r due = go (is_settled d past s) refl
   where
     now : AllDue d (act.Got m ∷ past)
@@ -177,7 +194,12 @@ vote-of t (message.Vote u a) h = let same : u ≡ t = grind (arith, nat_tests, h
 vote-of t said h = cc
 
 -- the same of an envelope
-pub env-leaves : (d : DocumentData) (past : List Act) (m : ℕ) (e : Envelope) (b : Bool) (s : ScriptData) (rest : List Act) → IsOne d → script_of s.number d.scripts ≡ Some s → sent_at m (sent past) ≡ Some e → is_fit e.to (view d past e.to) e.from e.message ≡ true → rest ≡ numbered (next_number past) e.to (kept b e.to (answer e.to (view d past e.to) e.from e.message)) → AllDue d (after (act.Got m ∷ past) rest) → is_vote_of s.number e.message ≡ true → VoteLeaves d past m s e.from rest
+pub env-leaves : (d : DocumentData) (past : List Act) (m : ℕ) (e : Envelope) (b : Bool) (s : ScriptData)
+    (rest : List Act) → IsOne d → script_of s.number d.scripts ≡ Some s → sent_at m (sent past) ≡ Some e
+    → is_fit e.to (view d past e.to) e.from e.message ≡ true
+    → rest ≡ numbered (next_number past) e.to (kept b e.to (answer e.to (view d past e.to) e.from e.message))
+    → AllDue d (after (act.Got m ∷ past) rest) → is_vote_of s.number e.message ≡ true
+    → VoteLeaves d past m s e.from rest
 env-leaves d past m e b s rest one is got fit r due h =
     let w = vote-of s.number e.message h in
     let n : NodeId = e.to in

@@ -1,4 +1,5 @@
--- Each event leaves the held reads waiting, and each read that was held is held still, or answered, or its node stopped.
+-- Each event leaves the held reads waiting, and each read that was held is held still, or answered, or its node
+-- stopped.
 use Rattle.cause_laws.proofs.Events.{Event, of-event}
 use Rattle.grid_model.proofs.EventShapes.{Shape, acts_by, again, arms, begins, crashes, delivers, idle, restarts}
 use Rattle.grid_model.specs.declared.items.Item.{Item}
@@ -44,7 +45,10 @@ mine_of (message.ReadReq q) t j = this_read q t j
 mine_of said t j = false
 
 -- a message that is got leaves its node with reads that wait, and keeps, answers or takes up each
-pub got-row : (d : DocumentData) (past : List Act) (g m : ℕ) (k x : NodeId) (said : Message) (b : Bool) → sent_at g (sent past) ≡ Some (record { from = x; to = k; message = said }) → is_fit k (view d past k) x said ≡ true → (node d past k).up ≡ true → HoldsWaiting (node d past k) → RowKept d (act.Got g ∷ past) (numbered m k (kept b k (answer k (view d past k) x said))) k (mine_of said)
+pub got-row : (d : DocumentData) (past : List Act) (g m : ℕ) (k x : NodeId) (said : Message) (b : Bool)
+    → sent_at g (sent past) ≡ Some (record { from = x; to = k; message = said })
+    → is_fit k (view d past k) x said ≡ true → (node d past k).up ≡ true → HoldsWaiting (node d past k)
+    → RowKept d (act.Got g ∷ past) (numbered m k (kept b k (answer k (view d past k) x said))) k (mine_of said)
 got-row d past g m k x (message.ReadReq q) b at fit up h =
     let v : View = view d past k in
     let sid : Ident = dated q.date (commit_id (journal d past k)) in
@@ -67,31 +71,37 @@ pub record EventKept (d : DocumentData) (past acts : List Act) : Type 0 where
   pub holds : (n : NodeId) → HoldsWaiting (node d (after past acts) n)
   pub kept : (n : NodeId) (t : TxId) (j : ℕ) → has_read t j (node d past n).held ≡ true → IsKeptRead d past acts n t j
 
-unheld-event : (d : DocumentData) (past acts : List Act) → list_all is_unheld acts ≡ true → ((n : NodeId) → HoldsWaiting (node d past n)) → EventKept d past acts
+unheld-event : (d : DocumentData) (past acts : List Act) → list_all is_unheld acts ≡ true
+    → ((n : NodeId) → HoldsWaiting (node d past n)) → EventKept d past acts
 unheld-event d past acts u h = record { holds = λ n. waiting-later d past acts n u (h n); kept = λ n t j r. unheld-kept d past acts n t j u r }
 
-stays-waiting : (b : Bool) (x : Node) → (b ≡ true → x.up ≡ false) → HoldsWaiting x → HoldsWaiting (changed (where_at b Stays) x)
+stays-waiting : (b : Bool) (x : Node) → (b ≡ true → x.up ≡ false) → HoldsWaiting x
+    → HoldsWaiting (changed (where_at b Stays) x)
 stays-waiting true x down h = record { waits = h.waits; down = λ e. h.down (down refl) }
 stays-waiting false x down h = h
 
-starts-waiting : (b k : Bool) (x : Node) → (b ≡ true → x.up ≡ false) → HoldsWaiting x → HoldsWaiting (changed (where_at b (Starts k)) x)
+starts-waiting : (b k : Bool) (x : Node) → (b ≡ true → x.up ≡ false) → HoldsWaiting x
+    → HoldsWaiting (changed (where_at b (Starts k)) x)
 starts-waiting true k x down h =
     let none : x.held ≡ [] = h.down (down refl) in
     let P : List HeldRead → Type 0 = λ hs. list_all (is_waiting_read (found k x.doubt x.journal)) hs ≡ true in
     record { waits = subst P (sym none) refl; down = λ e. none }
 starts-waiting false k x down h = h
 
-at-down : (d : DocumentData) (past : List Act) (m n : NodeId) → (node d past m).up ≡ false → (m == n) ≡ true → (node d past n).up ≡ false
+at-down : (d : DocumentData) (past : List Act) (m n : NodeId) → (node d past m).up ≡ false → (m == n) ≡ true
+    → (node d past n).up ≡ false
 at-down d past m n down e = let same : m ≡ n = grind (arith, nat_tests, e) in let P : NodeId → Type 0 = λ k. (node d past k).up ≡ false in subst P same down
 
-failed-event : (d : DocumentData) (past : List Act) (m : NodeId) → (node d past m).up ≡ false → ((n : NodeId) → HoldsWaiting (node d past n)) → EventKept d past (act.StillDown m ∷ [])
+failed-event : (d : DocumentData) (past : List Act) (m : NodeId) → (node d past m).up ≡ false
+    → ((n : NodeId) → HoldsWaiting (node d past n)) → EventKept d past (act.StillDown m ∷ [])
 failed-event d past m down h =
     record {
       holds = λ n. stays-waiting (m == n) (node d past n) (at-down d past m n down) (h n);
       kept = λ n t j r. let P : List HeldRead → Type 0 = λ hs. has_read t j hs ≡ true in subst P (sym (held-stays d (got past) (act.StillDown m) n (node d past n) refl)) r;
     }
 
-opened-event : (d : DocumentData) (past : List Act) (m : NodeId) (f : Flag) → (node d past m).up ≡ false → ((n : NodeId) → HoldsWaiting (node d past n)) → EventKept d past (opened_row d past m f)
+opened-event : (d : DocumentData) (past : List Act) (m : NodeId) (f : Flag) → (node d past m).up ≡ false
+    → ((n : NodeId) → HoldsWaiting (node d past n)) → EventKept d past (opened_row d past m f)
 opened-event d past m f down h =
     let now : List Act = act.Up m f ∷ past in
     let u = pass-losses is_unheld d now m (number_order (script_numbers d.scripts)) (λ t. refl) in
@@ -100,7 +110,10 @@ opened-event d past m f down h =
       kept = λ n t j r. let P : List HeldRead → Type 0 = λ hs. has_read t j hs ≡ true in unheld-kept d now (losses d now m) n t j u (subst P (sym (held-stays d (got past) (act.Up m f) n (node d past n) refl)) r);
     }
 
-got-event : (d : DocumentData) (past : List Act) (m : ℕ) (e : Envelope) (b : Bool) → sent_at m (sent past) ≡ Some e → is_fit e.to (view d past e.to) e.from e.message ≡ true → (node d past e.to).up ≡ true → ((n : NodeId) → HoldsWaiting (node d past n)) → EventKept d past (act.Got m ∷ numbered (next_number past) e.to (kept b e.to (answer e.to (view d past e.to) e.from e.message)))
+got-event : (d : DocumentData) (past : List Act) (m : ℕ) (e : Envelope) (b : Bool) → sent_at m (sent past) ≡ Some e
+    → is_fit e.to (view d past e.to) e.from e.message ≡ true → (node d past e.to).up ≡ true
+    → ((n : NodeId) → HoldsWaiting (node d past n)) → EventKept d past
+    (act.Got m ∷ numbered (next_number past) e.to (kept b e.to (answer e.to (view d past e.to) e.from e.message)))
 got-event d past m e b at fit up h = go (is_touching e.message) refl
   where
     k : NodeId
@@ -138,11 +151,13 @@ got-event d past m e b at fit up h = go (is_touching e.message) refl
         same n other = local-later d (act.Got m ∷ past) rest k n (local-acts k (next_number past) b os (local-answer k (view d past k) e.from e.message q)) other
 
 restart-event : (d : DocumentData) (past : List Act) (n : NodeId) (f : Flag) (opens : Bool) → (node d past n).up ≡ false
-    → ((m : NodeId) → HoldsWaiting (node d past m)) → EventKept d past (if opens then opened_row d past n f else act.StillDown n ∷ [])
+    → ((m : NodeId) → HoldsWaiting (node d past m))
+    → EventKept d past (if opens then opened_row d past n f else act.StillDown n ∷ [])
 restart-event d past n f true up h = opened-event d past n f up h
 restart-event d past n f false up h = failed-event d past n up h
 
-shape-kept : (d : DocumentData) (past : List Act) → ((n : NodeId) → HoldsWaiting (node d past n)) → (i : Item) (c : Choice)
+shape-kept : (d : DocumentData) (past : List Act) → ((n : NodeId) → HoldsWaiting (node d past n))
+    → (i : Item) (c : Choice)
     (s : Shape d past i) → AllFit d (after past (acts_by d past i c s)) → EventKept d past (acts_by d past i c s)
 shape-kept d past h i c (idle acts is) fit = unheld-event d past acts (unheld-idle acts is) h
 shape-kept d past h i c (arms n k how is) fit = unheld-event d past (act.Armed n k how ∷ []) refl h
@@ -155,6 +170,7 @@ shape-kept d past h i c (again n os up is) fit =
     unheld-event d past (acts_of past c n os)
     (unheld-acts (next_number past) n c.keeps os (pass-again is_unheld (λ m. refl) d past n os is)) h
 
-pub event-kept : (d : DocumentData) (past acts : List Act) → Event d past acts → ((n : NodeId) → HoldsWaiting (node d past n)) → EventKept d past acts
+pub event-kept : (d : DocumentData) (past acts : List Act) → Event d past acts
+    → ((n : NodeId) → HoldsWaiting (node d past n)) → EventKept d past acts
 event-kept d past acts event h =
     of-event d past acts (λ z. AllFit d (after past z) → EventKept d past z) (shape-kept d past h) event.is event.fit

@@ -41,7 +41,8 @@ abbrev is_no_end : Option Record → Bool
 is_no_end (Some (record'.Ended t o)) = false
 is_no_end o = true
 
-clear-before : (sid : Ident) (y : Record) (r : List Record) → is_no_end (Some y) ≡ true → not (is_clear sid r) ≡ true → not (is_clear sid (y ∷ r)) ≡ true
+clear-before : (sid : Ident) (y : Record) (r : List Record) → is_no_end (Some y) ≡ true → not (is_clear sid r) ≡ true
+    → not (is_clear sid (y ∷ r)) ≡ true
 clear-before sid (record'.Prepared u home ns i p rs ws) r e h = go (nat_lt sid p) (is_clear sid r) h
   where
     go : (a b : Bool) → not b ≡ true → not (a && b) ≡ true
@@ -50,7 +51,8 @@ clear-before sid (record'.Prepared u home ns i p rs ws) r e h = go (nat_lt sid p
 clear-before sid (record'.Ended u o) r e h = cc
 clear-before sid y r e h = h
 
-waits-before : (y : Record) (r : List Record) (hs : List HeldRead) → is_no_end (Some y) ≡ true → list_all (is_waiting_read r) hs ≡ true → list_all (is_waiting_read (y ∷ r)) hs ≡ true
+waits-before : (y : Record) (r : List Record) (hs : List HeldRead) → is_no_end (Some y) ≡ true
+    → list_all (is_waiting_read r) hs ≡ true → list_all (is_waiting_read (y ∷ r)) hs ≡ true
 waits-before y r [] e h = refl
 waits-before y r (x ∷ hs) e h = let both = and_parts (is_waiting_read r x) (list_all (is_waiting_read r) hs) h in and_from (is_waiting_read (y ∷ r) x) (list_all (is_waiting_read (y ∷ r)) hs) (clear-before x.sid y r e both.0) (waits-before y r hs e both.1)
 
@@ -89,7 +91,8 @@ mild-prepared (Some e) t p = from e.from e.message
     from x (message.Ask u) = refl
     from x (message.AskPeer u) = refl
 
-mild-change : (d : DocumentData) (e : Option Envelope) (a : Act) (n : NodeId) → is_unheld a ≡ true → is_mild (change d e a n) ≡ true
+mild-change : (d : DocumentData) (e : Option Envelope) (a : Act) (n : NodeId) → is_unheld a ≡ true
+    → is_mild (change d e a n) ≡ true
 mild-change d e (act.Prepared m t p) n h = mild-where (m == n) (Writes (prepared_by e t p)) (mild-prepared e t p)
 mild-change d e (act.Ended m t o) n h = cc
 mild-change d e (act.Ceiling m c) n h = mild-where (m == n) (Writes (Some (record'.Ceiling c))) refl
@@ -103,10 +106,12 @@ mild-change d e (act.Up m f) n h = cc
 mild-change d e (act.StillDown m) n h = cc
 mild-change d e a n h = refl
 
-pub unheld-waiting : (d : DocumentData) (past : List Act) (a : Act) (n : NodeId) → is_unheld a ≡ true → HoldsWaiting (node d past n) → HoldsWaiting (node d (a ∷ past) n)
+pub unheld-waiting : (d : DocumentData) (past : List Act) (a : Act) (n : NodeId) → is_unheld a ≡ true
+    → HoldsWaiting (node d past n) → HoldsWaiting (node d (a ∷ past) n)
 unheld-waiting d past a n u h = mild-changed (change d (got past) a n) (node d past n) (mild-change d (got past) a n u) h
 
-pub waiting-later : (d : DocumentData) (past acts : List Act) (n : NodeId) → list_all is_unheld acts ≡ true → HoldsWaiting (node d past n) → HoldsWaiting (node d (after past acts) n)
+pub waiting-later : (d : DocumentData) (past acts : List Act) (n : NodeId) → list_all is_unheld acts ≡ true
+    → HoldsWaiting (node d past n) → HoldsWaiting (node d (after past acts) n)
 waiting-later d past [] n u h = h
 waiting-later d past (a ∷ acts) n u h = let both = and_parts (is_unheld a) (list_all is_unheld acts) u in waiting-later d (a ∷ past) acts n both.1 (unheld-waiting d past a n both.0 h)
 
@@ -118,16 +123,19 @@ is_serving n t j (act.Sent m x y said) = x == n && is_reply_of t j said
 is_serving n t j (act.Down m h) = m == n
 is_serving n t j a = false
 
-stop-read : (t : TxId) (j : ℕ) (b : Bool) (o : Option Record) (x : Node) → has_read t j x.held ≡ true → (b || has_read t j (changed (where_at b (Stops o)) x).held) ≡ true
+stop-read : (t : TxId) (j : ℕ) (b : Bool) (o : Option Record) (x : Node) → has_read t j x.held ≡ true
+    → (b || has_read t j (changed (where_at b (Stops o)) x).held) ≡ true
 stop-read t j true o x h = refl
 stop-read t j false o x h = h
 
-still-read : (d : DocumentData) (past : List Act) (a : Act) (n : NodeId) (t : TxId) (j : ℕ) → is_still a ≡ true → has_read t j (node d past n).held ≡ true → (is_serving n t j a || has_read t j (node d (a ∷ past) n).held) ≡ true
+still-read : (d : DocumentData) (past : List Act) (a : Act) (n : NodeId) (t : TxId) (j : ℕ) → is_still a ≡ true
+    → has_read t j (node d past n).held ≡ true → (is_serving n t j a || has_read t j (node d (a ∷ past) n).held) ≡ true
 still-read d past a n t j s h =
     let P : List HeldRead → Type 0 = λ hs. has_read t j hs ≡ true in
     or_right (is_serving n t j a) (has_read t j (node d (a ∷ past) n).held) (subst P (sym (held-stays d (got past) a n (node d past n) s)) h)
 
-pub unheld-read : (d : DocumentData) (past : List Act) (a : Act) (n : NodeId) (t : TxId) (j : ℕ) → is_unheld a ≡ true → has_read t j (node d past n).held ≡ true → (is_serving n t j a || has_read t j (node d (a ∷ past) n).held) ≡ true
+pub unheld-read : (d : DocumentData) (past : List Act) (a : Act) (n : NodeId) (t : TxId) (j : ℕ) → is_unheld a ≡ true
+    → has_read t j (node d past n).held ≡ true → (is_serving n t j a || has_read t j (node d (a ∷ past) n).held) ≡ true
 unheld-read d past (act.Down m o) n t j u h = stop-read t j (m == n) (doubt_of d (got past) o) (node d past n) h
 unheld-read d past (act.Held m v op sid) n t j u h = cc
 unheld-read d past (act.Served m v op k sid vn w) n t j u h = cc
@@ -135,10 +143,14 @@ unheld-read d past a n t j u h = still-read d past a n t j refl h
 
 -- these acts serve it, or it is held behind them
 abbrev pub IsKeptRead : DocumentData → List Act → List Act → NodeId → TxId → ℕ → Type 0
-IsKeptRead d past acts n t j = (list_any (is_serving n t j) acts || has_read t j (node d (after past acts) n).held) ≡ true
+IsKeptRead d past acts n t j =
+    (list_any (is_serving n t j) acts || has_read t j (node d (after past acts) n).held) ≡ true
 
 -- a read that is served by an act, or that later acts keep, is kept by all of them
-pub kept-behind : (d : DocumentData) (past : List Act) (a : Act) (acts : List Act) (n : NodeId) (t : TxId) (j : ℕ) → (is_serving n t j a || has_read t j (node d (a ∷ past) n).held) ≡ true → (has_read t j (node d (a ∷ past) n).held ≡ true → IsKeptRead d (a ∷ past) acts n t j) → IsKeptRead d past (a ∷ acts) n t j
+pub kept-behind : (d : DocumentData) (past : List Act) (a : Act) (acts : List Act) (n : NodeId) (t : TxId) (j : ℕ)
+    → (is_serving n t j a || has_read t j (node d (a ∷ past) n).held) ≡ true
+    → (has_read t j (node d (a ∷ past) n).held ≡ true → IsKeptRead d (a ∷ past) acts n t j)
+    → IsKeptRead d past (a ∷ acts) n t j
 kept-behind d past a acts n t j h go = elim (or_cases (is_serving n t j a) (has_read t j (node d (a ∷ past) n).held) h) [
   | inl here ↦ or_left (is_serving n t j a || list_any (is_serving n t j) acts) (has_read t j (node d (after past (a ∷ acts)) n).held) (or_left (is_serving n t j a) (list_any (is_serving n t j) acts) here)
   | inr later ↦ moved (is_serving n t j a) (list_any (is_serving n t j) acts) (has_read t j (node d (after past (a ∷ acts)) n).held) (go later)
@@ -148,6 +160,7 @@ kept-behind d past a acts n t j h go = elim (or_cases (is_serving n t j a) (has_
     moved true y z e = refl
     moved false y z e = e
 
-pub unheld-kept : (d : DocumentData) (past acts : List Act) (n : NodeId) (t : TxId) (j : ℕ) → list_all is_unheld acts ≡ true → has_read t j (node d past n).held ≡ true → IsKeptRead d past acts n t j
+pub unheld-kept : (d : DocumentData) (past acts : List Act) (n : NodeId) (t : TxId) (j : ℕ)
+    → list_all is_unheld acts ≡ true → has_read t j (node d past n).held ≡ true → IsKeptRead d past acts n t j
 unheld-kept d past [] n t j u h = h
 unheld-kept d past (a ∷ acts) n t j u h = let both = and_parts (is_unheld a) (list_all is_unheld acts) u in kept-behind d past a acts n t j (unheld-read d past a n t j both.0 h) (λ k. unheld-kept d (a ∷ past) acts n t j both.1 k)

@@ -35,22 +35,26 @@ stopped-single : (n : NodeId) (a : Act) (more : List Act) → has_stopped n more
 stopped-single n (act.Down m h) more e = or_right (m == n) (has_stopped n more) e
 stopped-single n a more e = e
 
-served-single : (n : NodeId) (t : TxId) (j : ℕ) (a : Act) (more : List Act) → is_served n t j more ≡ true → is_served n t j (a ∷ more) ≡ true
+served-single : (n : NodeId) (t : TxId) (j : ℕ) (a : Act) (more : List Act) → is_served n t j more ≡ true
+    → is_served n t j (a ∷ more) ≡ true
 served-single n t j a more h = elim (or_cases (has_sent (λ x y said. x == n && is_reply_of t j said) more) (has_stopped n more) h) [
   | inl sends ↦ or_left (has_sent (λ x y said. x == n && is_reply_of t j said) (a ∷ more)) (has_stopped n (a ∷ more)) (sent-later (λ x y said. x == n && is_reply_of t j said) more (a ∷ []) sends)
   | inr stops ↦ or_right (has_sent (λ x y said. x == n && is_reply_of t j said) (a ∷ more)) (has_stopped n (a ∷ more)) (stopped-single n a more stops)
 ]
 
-served-later : (n : NodeId) (t : TxId) (j : ℕ) (more acts : List Act) → is_served n t j more ≡ true → is_served n t j (after more acts) ≡ true
+served-later : (n : NodeId) (t : TxId) (j : ℕ) (more acts : List Act) → is_served n t j more ≡ true
+    → is_served n t j (after more acts) ≡ true
 served-later n t j more [] h = h
 served-later n t j more (a ∷ acts) h = served-later n t j (a ∷ more) acts (served-single n t j a more h)
 
-served-now : (n : NodeId) (t : TxId) (j : ℕ) (a : Act) (more : List Act) → is_serving n t j a ≡ true → is_served n t j (a ∷ more) ≡ true
+served-now : (n : NodeId) (t : TxId) (j : ℕ) (a : Act) (more : List Act) → is_serving n t j a ≡ true
+    → is_served n t j (a ∷ more) ≡ true
 served-now n t j (act.Sent m x y said) more h = or_left (has_sent (λ x y said. x == n && is_reply_of t j said) (act.Sent m x y said ∷ more)) (has_stopped n more) (or_left (x == n && is_reply_of t j said) (has_sent (λ x y said. x == n && is_reply_of t j said) more) h)
 served-now n t j (act.Down m o) more h = or_right (has_sent (λ x y said. x == n && is_reply_of t j said) more) ((m == n) || has_stopped n more) (or_left (m == n) (has_stopped n more) h)
 served-now n t j a more h = cc
 
-served-acts : (n : NodeId) (t : TxId) (j : ℕ) (more acts : List Act) → list_any (is_serving n t j) acts ≡ true → is_served n t j (after more acts) ≡ true
+served-acts : (n : NodeId) (t : TxId) (j : ℕ) (more acts : List Act) → list_any (is_serving n t j) acts ≡ true
+    → is_served n t j (after more acts) ≡ true
 served-acts n t j more [] h = cc
 served-acts n t j more (a ∷ acts) h = elim (or_cases (is_serving n t j a) (list_any (is_serving n t j) acts) h) [
   | inl here ↦ served-later n t j (a ∷ more) acts (served-now n t j a more here)
@@ -62,19 +66,24 @@ served-acts n t j more (a ∷ acts) h = elim (or_cases (is_serving n t j a) (lis
 -- held reads wait, and each request that was got was served or is held
 pub record ReadsHeld (d : DocumentData) (past : List Act) : Type 0 where
   pub holds : (n : NodeId) → HoldsWaiting (node d past n)
-  pub served : (t : TxId) (j : ℕ) (n : NodeId) (later : List Act) → GotAt (λ x y said. is_request_of t j said) past n later → (is_served n t j later || has_read t j (node d past n).held) ≡ true
+  pub served : (t : TxId) (j : ℕ) (n : NodeId) (later : List Act)
+      → GotAt (λ x y said. is_request_of t j said) past n later
+      → (is_served n t j later || has_read t j (node d past n).held) ≡ true
 
 mine-is : (t : TxId) (j : ℕ) (said : Message) → is_request_of t j said ≡ true → mine_of said t j ≡ true
 mine-is t j (message.ReadReq q) h = h
 mine-is t j said h = cc
 
-held-event : (d : DocumentData) (past acts : List Act) → IsOne d → Event d past acts → ReadsHeld d past → ReadsHeld d (after past acts)
+held-event : (d : DocumentData) (past acts : List Act) → IsOne d → Event d past acts → ReadsHeld d past
+    → ReadsHeld d (after past acts)
 held-event d past acts one event all = record { holds = left.holds; served = λ t j n later g. served t j n later g (event-getting d past acts one event) }
   where
     left : EventKept d past acts
     left = event-kept d past acts event all.holds
 
-    served : (t : TxId) (j : ℕ) (n : NodeId) (later : List Act) → GotAt (λ x y said. is_request_of t j said) (after past acts) n later → IsGetting d past acts → (is_served n t j later || has_read t j (node d (after past acts) n).held) ≡ true
+    served : (t : TxId) (j : ℕ) (n : NodeId) (later : List Act)
+        → GotAt (λ x y said. is_request_of t j said) (after past acts) n later → IsGetting d past acts
+        → (is_served n t j later || has_read t j (node d (after past acts) n).held) ≡ true
     served t j n later g getting = go getting
       where
         p : NodeId → NodeId → Message → Bool
@@ -121,7 +130,8 @@ still-where : (b : Bool) (x : Node) → x.held ≡ [] → (changed (where_at b S
 still-where true x h = h
 still-where false x h = h
 
-start-held : (d : DocumentData) (ups : NodeId → Bool) (n : NodeId) → (node d (after [] (start_row d.cluster.nodes ups)) n).held ≡ []
+start-held : (d : DocumentData) (ups : NodeId → Bool) (n : NodeId)
+    → (node d (after [] (start_row d.cluster.nodes ups)) n).held ≡ []
 start-held d ups n =
     behind-start (λ z. (node d z n).held ≡ []) d ups
     (record { opens = λ past m h. none-where (m == n) false (node d past n) h; fails = λ past m h. still-where (m == n) (node d past n) h })

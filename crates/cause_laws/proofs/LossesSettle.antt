@@ -31,7 +31,8 @@ use Rattle.std.specs.declared.cmp.Ordering.{Ordering}
 
 -- ---- the numbers of the scripts
 
-insert-among : (t k : TxId) (ks : List TxId) → ((k == t) || list_any (λ u. u == t) ks) ≡ true → list_any (λ u. u == t) (insert_key nat_cmp ks k) ≡ true
+insert-among : (t k : TxId) (ks : List TxId) → ((k == t) || list_any (λ u. u == t) ks) ≡ true
+    → list_any (λ u. u == t) (insert_key nat_cmp ks k) ≡ true
 insert-among t k [] h = h
 insert-among t k (x ∷ xs) h = by (nat_cmp k x) refl (insert-among t k xs)
   where
@@ -43,7 +44,9 @@ insert-among t k (x ∷ xs) h = by (nat_cmp k x) refl (insert-among t k xs)
     turned true false c i = inr refl
     turned false false c i = inr i
 
-    by : (r : Ordering) → nat_cmp k x ≡ r → (((k == t) || rest) ≡ true → list_any (λ u. u == t) (insert_key nat_cmp xs k) ≡ true) → list_any (λ u. u == t) (match_ordering r (k ∷ x ∷ xs) (x ∷ xs) (x ∷ insert_key nat_cmp xs k)) ≡ true
+    by : (r : Ordering) → nat_cmp k x ≡ r
+        → (((k == t) || rest) ≡ true → list_any (λ u. u == t) (insert_key nat_cmp xs k) ≡ true)
+        → list_any (λ u. u == t) (match_ordering r (k ∷ x ∷ xs) (x ∷ xs) (x ∷ insert_key nat_cmp xs k)) ≡ true
     by Less e go = h
     by Equal e go =
         let same : k ≡ x = exact_unsigned k x e in
@@ -56,7 +59,8 @@ insert-among t k (x ∷ xs) h = by (nat_cmp k x) refl (insert-among t k xs)
       | inr there ↦ or_right (x == t) (list_any (λ u. u == t) (insert_key nat_cmp xs k)) (go there)
     ]
 
-fold-among : (t : TxId) (acc ks : List TxId) → (list_any (λ u. u == t) acc || list_any (λ u. u == t) ks) ≡ true → list_any (λ u. u == t) (fold (insert_key nat_cmp) acc ks) ≡ true
+fold-among : (t : TxId) (acc ks : List TxId) → (list_any (λ u. u == t) acc || list_any (λ u. u == t) ks) ≡ true
+    → list_any (λ u. u == t) (fold (insert_key nat_cmp) acc ks) ≡ true
 fold-among t acc [] h = or-none (list_any (λ u. u == t) acc) h
   where
     or-none : (b : Bool) → (b || false) ≡ true → b ≡ true
@@ -70,11 +74,14 @@ fold-among t acc (k ∷ ks) h = fold-among t (insert_key nat_cmp acc k) ks (elim
   ]
 ])
 
-script-among : (t : TxId) (ss : List ScriptData) (s : ScriptData) → script_of t ss ≡ Some s → list_any (λ u. u == t) (script_numbers ss) ≡ true
+script-among : (t : TxId) (ss : List ScriptData) (s : ScriptData) → script_of t ss ≡ Some s
+    → list_any (λ u. u == t) (script_numbers ss) ≡ true
 script-among t [] s e = cc
 script-among t (x ∷ ss) s e = go (x.number == t) refl e (λ i. script-among t ss s i)
   where
-    go : (b : Bool) → (x.number == t) ≡ b → (if b then Some x else script_of t ss) ≡ Some s → (script_of t ss ≡ Some s → list_any (λ u. u == t) (script_numbers ss) ≡ true) → ((x.number == t) || list_any (λ u. u == t) (script_numbers ss)) ≡ true
+    go : (b : Bool) → (x.number == t) ≡ b → (if b then Some x else script_of t ss) ≡ Some s
+        → (script_of t ss ≡ Some s → list_any (λ u. u == t) (script_numbers ss) ≡ true)
+        → ((x.number == t) || list_any (λ u. u == t) (script_numbers ss)) ≡ true
     go true i e more = or_left (x.number == t) (list_any (λ u. u == t) (script_numbers ss)) i
     go false i e more = or_right (x.number == t) (list_any (λ u. u == t) (script_numbers ss)) (more e)
 
@@ -84,7 +91,8 @@ abbrev is_loss : TxId → Act → Bool
 is_loss t (act.Lost u) = u == t
 is_loss t a = false
 
-any-flat : (p : Act → Bool) (f : TxId → List Act) (t : TxId) (ts : List TxId) → list_any (λ u. u == t) ts ≡ true → list_any p (f t) ≡ true → list_any p (flat_map f ts) ≡ true
+any-flat : (p : Act → Bool) (f : TxId → List Act) (t : TxId) (ts : List TxId) → list_any (λ u. u == t) ts ≡ true
+    → list_any p (f t) ≡ true → list_any p (flat_map f ts) ≡ true
 any-flat p f t [] h k = cc
 any-flat p f t (u ∷ ts) h k = list_any-append p (f u) (flat_map f ts) ∙ elim (or_cases (u == t) (list_any (λ v. v == t) ts) h) [
   | inl here ↦ (let same : u ≡ t = grind (arith, nat_tests, here) in or_left (list_any p (f u)) (list_any p (flat_map f ts)) (subst (λ z. list_any p (f z) ≡ true) (sym same) k))
@@ -96,22 +104,27 @@ abbrev pub HasBegun : DocumentData → List Act → TxId → Type 0
 HasBegun d past t = OfStory ⊥ (λ o values. Unit {0}) (story d past t)
 
 -- who began, began
-pub begun-more : (d : DocumentData) (past : List Act) (a : Act) (t : TxId) → AllDue d (a ∷ past) → HasBegun d past t → HasBegun d (a ∷ past) t
+pub begun-more : (d : DocumentData) (past : List Act) (a : Act) (t : TxId) → AllDue d (a ∷ past) → HasBegun d past t
+    → HasBegun d (a ∷ past) t
 begun-more d past a t due k = of-more ⊥ (λ o values. Unit {0}) d past a t (λ n. absurd n) (λ op sid v w h. tt) due k
 
-shut-later : (s : ScriptData) (d : DocumentData) (past acts : List Act) (t : TxId) → AllDue d (after past acts) → is_shut s (story d past t) ≡ true → is_shut s (story d (after past acts) t) ≡ true
+shut-later : (s : ScriptData) (d : DocumentData) (past acts : List Act) (t : TxId) → AllDue d (after past acts)
+    → is_shut s (story d past t) ≡ true → is_shut s (story d (after past acts) t) ≡ true
 shut-later s d past [] t due h = h
 shut-later s d past (a ∷ acts) t due h = shut-later s d (a ∷ past) acts t due (shut-more s d past a t (due-before d (a ∷ past) acts due).0 h)
 
-loss-shuts : (s : ScriptData) (d : DocumentData) (past : List Act) (a : Act) (t : TxId) → is_loss t a ≡ true → HasBegun d past t → is_shut s (story d (a ∷ past) t) ≡ true
+loss-shuts : (s : ScriptData) (d : DocumentData) (past : List Act) (a : Act) (t : TxId) → is_loss t a ≡ true
+    → HasBegun d past t → is_shut s (story d (a ∷ past) t) ≡ true
 loss-shuts s d past (act.Lost u) t h k = go (story d past t) k
   where
-    go : (o : Option Story) → OfStory ⊥ (λ i values. Unit {0}) o → is_shut s (if_told (u == t) (λ x. record x { lost = true }) o) ≡ true
+    go : (o : Option Story) → OfStory ⊥ (λ i values. Unit {0}) o
+        → is_shut s (if_told (u == t) (λ x. record x { lost = true }) o) ≡ true
     go None k = absurd k
     go (Some x) k = rw h refl
 loss-shuts s d past a t h k = cc
 
-losses-shut : (s : ScriptData) (d : DocumentData) (past acts : List Act) (t : TxId) → AllDue d (after past acts) → HasBegun d past t → list_any (is_loss t) acts ≡ true → is_shut s (story d (after past acts) t) ≡ true
+losses-shut : (s : ScriptData) (d : DocumentData) (past acts : List Act) (t : TxId) → AllDue d (after past acts)
+    → HasBegun d past t → list_any (is_loss t) acts ≡ true → is_shut s (story d (after past acts) t) ≡ true
 losses-shut s d past [] t due k h = cc
 losses-shut s d past (a ∷ acts) t due k h =
     let now : AllDue d (a ∷ past) = due-before d (a ∷ past) acts due in
@@ -121,7 +134,9 @@ losses-shut s d past (a ∷ acts) t due k h =
     ]
 
 -- each transaction of a home that is opened, which began
-pub opened-settles : (d : DocumentData) (past : List Act) (n : NodeId) (f : Flag) (s : ScriptData) → AllDue d (after past (opened_row d past n f)) → script_of s.number d.scripts ≡ Some s → s.home ≡ n → HasBegun d past s.number → is_settled d (after past (opened_row d past n f)) s ≡ true
+pub opened-settles : (d : DocumentData) (past : List Act) (n : NodeId) (f : Flag) (s : ScriptData)
+    → AllDue d (after past (opened_row d past n f)) → script_of s.number d.scripts ≡ Some s → s.home ≡ n
+    → HasBegun d past s.number → is_settled d (after past (opened_row d past n f)) s ≡ true
 opened-settles d past n f s due is home begun = go (is_settled d now s) refl (story d now s.number) refl here
   where
     now : List Act
@@ -133,7 +148,8 @@ opened-settles d past n f s due is home begun = go (is_settled d now s) refl (st
     here : HasBegun d now s.number
     here = begun-more d past (act.Up n f) s.number (due-before d now acts due) begun
 
-    go : (b : Bool) → is_settled d now s ≡ b → (o : Option Story) → story d now s.number ≡ o → OfStory ⊥ (λ i values. Unit {0}) o → is_settled d (after now acts) s ≡ true
+    go : (b : Bool) → is_settled d now s ≡ b → (o : Option Story) → story d now s.number ≡ o
+        → OfStory ⊥ (λ i values. Unit {0}) o → is_settled d (after now acts) s ≡ true
     go true e o told k = settled-later d now acts s due e
     go false e None told k = absurd k
     go false e (Some x) told k =

@@ -45,16 +45,24 @@ use Rattle.std.specs.Prelude.{if◌then◌else◌, is_some, ◌==◌}
 
 -- each reply that was got is of a transaction that is settled, or that has the value
 abbrev RepliesTaken : DocumentData → List Act → Type 0
-RepliesTaken d past = (s : ScriptData) (j : ℕ) → script_of s.number d.scripts ≡ Some s → has_got (λ x y said. is_reply_of s.number j said) past ≡ true → (is_settled d past s ≡ true) ⊎ HasTaken d past s.number j
+RepliesTaken d past =
+    (s : ScriptData) (j : ℕ) → script_of s.number d.scripts ≡ Some s
+    → has_got (λ x y said. is_reply_of s.number j said) past ≡ true
+    → (is_settled d past s ≡ true) ⊎ HasTaken d past s.number j
 
-later-taken : (d : DocumentData) (past acts : List Act) (s : ScriptData) (j : ℕ) → AllDue d (after past acts) → (is_settled d past s ≡ true) ⊎ HasTaken d past s.number j → (is_settled d (after past acts) s ≡ true) ⊎ HasTaken d (after past acts) s.number j
+later-taken : (d : DocumentData) (past acts : List Act) (s : ScriptData) (j : ℕ) → AllDue d (after past acts)
+    → (is_settled d past s ≡ true) ⊎ HasTaken d past s.number j
+    → (is_settled d (after past acts) s ≡ true) ⊎ HasTaken d (after past acts) s.number j
 later-taken d past acts s j due (inl settled) = inl (settled-later d past acts s due settled)
 later-taken d past acts s j due (inr taken) = inr (taken-later d past acts s.number j due taken)
 
 -- ---- the reply that is got
 
 -- what is answered to a fit reply by a home that reads its operation
-reply-taken : (d : DocumentData) (past : List Act) (m : ℕ) (n x : NodeId) (b : Bool) (q : ReadRep) (o : Open) → stage (view d past n) q.t ≡ Reads o q.op → is_fit n (view d past n) x (message.ReadRep q) ≡ true → (rest : List Act) × (numbered m n (kept b n (answer n (view d past n) x (message.ReadRep q))) ≡ act.Taken q.t q.op q.sid q.value ∷ rest)
+reply-taken : (d : DocumentData) (past : List Act) (m : ℕ) (n x : NodeId) (b : Bool) (q : ReadRep) (o : Open)
+    → stage (view d past n) q.t ≡ Reads o q.op → is_fit n (view d past n) x (message.ReadRep q) ≡ true
+    → (rest : List Act) × (numbered m n (kept b n (answer n (view d past n) x (message.ReadRep q)))
+    ≡ act.Taken q.t q.op q.sid q.value ∷ rest)
 reply-taken d past m n x b q o e fit =
     let v : View = view d past n in
     let os : List Out = advance d.cluster (with_reply q o) q.op in
@@ -69,16 +77,25 @@ reply-taken d past m n x b q o e fit =
     same-op true h os = refl
     same-op false h os = cc
 
-story-got : (d : DocumentData) (past : List Act) (m : ℕ) (x n : NodeId) (q : ReadRep) (y : Story) → sent_at m (sent past) ≡ Some (record { from = x; to = n; message = message.ReadRep q }) → story d past q.t ≡ Some y → story d (act.Got m ∷ past) q.t ≡ Some y
+story-got : (d : DocumentData) (past : List Act) (m : ℕ) (x n : NodeId) (q : ReadRep) (y : Story)
+    → sent_at m (sent past) ≡ Some (record { from = x; to = n; message = message.ReadRep q })
+    → story d past q.t ≡ Some y → story d (act.Got m ∷ past) q.t ≡ Some y
 story-got d past m x n q y is told = story-quiet d past m x n (message.ReadRep q) q.t is refl ∙ told
 
-taken-now : (d : DocumentData) (past : List Act) (q : ReadRep) (x : Story) → story d past q.t ≡ Some x → value_taken q.op x.progress.values ≡ None → HasTaken d (act.Taken q.t q.op q.sid q.value ∷ past) q.t q.op
+taken-now : (d : DocumentData) (past : List Act) (q : ReadRep) (x : Story) → story d past q.t ≡ Some x
+    → value_taken q.op x.progress.values ≡ None → HasTaken d (act.Taken q.t q.op q.sid q.value ∷ past) q.t q.op
 taken-now d past q x told none =
     let P : Option Story → Type 0 = λ o. OfStory ⊥ (λ i values. is_some (value_taken q.op values) ≡ true) o in
     subst P (sym (story-taken d past q x told)) (rw (taken-new q.op q.value x.progress.values none) refl)
 
 -- a home that reads takes the reply in the same event
-reading-takes : (d : DocumentData) (past : List Act) (m : ℕ) (n x : NodeId) (b : Bool) (q : ReadRep) (s : ScriptData) (y : Story) (rest : List Act) → script_of q.t d.scripts ≡ Some s → s.home ≡ n → sent_at m (sent past) ≡ Some (record { from = x; to = n; message = message.ReadRep q }) → is_fit n (view d past n) x (message.ReadRep q) ≡ true → rest ≡ numbered (next_number past) n (kept b n (answer n (view d past n) x (message.ReadRep q))) → AllDue d (after (act.Got m ∷ past) rest) → story d past q.t ≡ Some y → is_settled d past s ≡ false → waiting s.ops y.progress.values ≡ Some q.op → HasTaken d (after (act.Got m ∷ past) rest) q.t q.op
+reading-takes : (d : DocumentData) (past : List Act) (m : ℕ) (n x : NodeId) (b : Bool) (q : ReadRep) (s : ScriptData)
+    (y : Story) (rest : List Act) → script_of q.t d.scripts ≡ Some s → s.home ≡ n
+    → sent_at m (sent past) ≡ Some (record { from = x; to = n; message = message.ReadRep q })
+    → is_fit n (view d past n) x (message.ReadRep q) ≡ true
+    → rest ≡ numbered (next_number past) n (kept b n (answer n (view d past n) x (message.ReadRep q)))
+    → AllDue d (after (act.Got m ∷ past) rest) → story d past q.t ≡ Some y → is_settled d past s ≡ false
+    → waiting s.ops y.progress.values ≡ Some q.op → HasTaken d (after (act.Got m ∷ past) rest) q.t q.op
 reading-takes d past m n x b q s y rest is home sent fit r due told unsettled reads =
     let e : stage (view d past n) q.t ≡ Reads (open_of s y) q.op = stage-open d past n q.t s y is home told unsettled ∙ ap (λ w. open_stage (open_of s y) w) reads in
     let w = reply-taken d past (next_number past) n x b q (open_of s y) e fit in
@@ -89,7 +106,13 @@ reading-takes d past m n x b q s y rest is home sent fit r due told unsettled re
     let Q : List Act → Type 0 = λ z. HasTaken d (after (act.Got m ∷ past) z) q.t q.op in
     subst Q (sym k) (taken-later d (act.Taken q.t q.op q.sid q.value ∷ (act.Got m ∷ past)) w.0 q.t q.op (subst P k due) now)
 
-reply-got : (d : DocumentData) (past : List Act) (m : ℕ) (n x : NodeId) (b : Bool) (q : ReadRep) (s : ScriptData) (rest : List Act) → IsOne d → script_of q.t d.scripts ≡ Some s → sent_at m (sent past) ≡ Some (record { from = x; to = n; message = message.ReadRep q }) → is_fit n (view d past n) x (message.ReadRep q) ≡ true → rest ≡ numbered (next_number past) n (kept b n (answer n (view d past n) x (message.ReadRep q))) → AllDue d (after (act.Got m ∷ past) rest) → (is_settled d (after (act.Got m ∷ past) rest) s ≡ true) ⊎ HasTaken d (after (act.Got m ∷ past) rest) q.t q.op
+reply-got : (d : DocumentData) (past : List Act) (m : ℕ) (n x : NodeId) (b : Bool) (q : ReadRep) (s : ScriptData)
+    (rest : List Act) → IsOne d → script_of q.t d.scripts ≡ Some s
+    → sent_at m (sent past) ≡ Some (record { from = x; to = n; message = message.ReadRep q })
+    → is_fit n (view d past n) x (message.ReadRep q) ≡ true
+    → rest ≡ numbered (next_number past) n (kept b n (answer n (view d past n) x (message.ReadRep q)))
+    → AllDue d (after (act.Got m ∷ past) rest)
+    → (is_settled d (after (act.Got m ∷ past) rest) s ≡ true) ⊎ HasTaken d (after (act.Got m ∷ past) rest) q.t q.op
 reply-got d past m n x b q s rest one is sent fit r due = go (is_settled d past s) (story d past q.t) refl refl came.to
   where
     before : AllDue d past
@@ -107,7 +130,9 @@ reply-got d past m n x b q s rest one is sent fit r due = go (is_settled d past 
     home : s.home ≡ n
     home = (let P : Option ScriptData → Type 0 = λ o. is_home_in o n ≡ true in let h : (s.home == n) ≡ true = subst P is ends.home in grind (arith, nat_tests, h))
 
-    go : (c : Bool) (o : Option Story) → is_settled d past s ≡ c → story d past q.t ≡ o → OfStory ⊥ (λ i values. (is_some (value_taken q.op values) ≡ true) ⊎ (waiting came.script.ops values ≡ Some q.op)) o → (is_settled d (after (act.Got m ∷ past) rest) s ≡ true) ⊎ HasTaken d (after (act.Got m ∷ past) rest) q.t q.op
+    go : (c : Bool) (o : Option Story) → is_settled d past s ≡ c → story d past q.t ≡ o → OfStory ⊥
+        (λ i values. (is_some (value_taken q.op values) ≡ true) ⊎ (waiting came.script.ops values ≡ Some q.op)) o
+        → (is_settled d (after (act.Got m ∷ past) rest) s ≡ true) ⊎ HasTaken d (after (act.Got m ∷ past) rest) q.t q.op
     go true o e told to = inl (settled-later d past (act.Got m ∷ rest) s due e)
     go false None e told to = absurd to
     go false (Some y) e told (inl taken) =
@@ -119,11 +144,17 @@ reply-got d past m n x b q s rest one is sent fit r due = go (is_settled d past 
 
 -- ---- each event
 
-reply-of : (t : TxId) (j : ℕ) (said : Message) → is_reply_of t j said ≡ true → (q : ReadRep) × (said ≡ message.ReadRep q) × (q.t ≡ t) × (q.op ≡ j)
+reply-of : (t : TxId) (j : ℕ) (said : Message) → is_reply_of t j said ≡ true
+    → (q : ReadRep) × (said ≡ message.ReadRep q) × (q.t ≡ t) × (q.op ≡ j)
 reply-of t j (message.ReadRep q) h = let both = and_parts (q.t == t) (q.op == j) h in let a : (q.t == t) ≡ true = both.0 in let b : (q.op == j) ≡ true = both.1 in (q, refl, grind (arith, nat_tests, a), grind (arith, nat_tests, b))
 reply-of t j said h = cc
 
-one-taken : (d : DocumentData) (past : List Act) (m : ℕ) (e : Envelope) (b : Bool) (rest : List Act) (s : ScriptData) (j : ℕ) → IsOne d → script_of s.number d.scripts ≡ Some s → sent_at m (sent past) ≡ Some e → is_fit e.to (view d past e.to) e.from e.message ≡ true → rest ≡ numbered (next_number past) e.to (kept b e.to (answer e.to (view d past e.to) e.from e.message)) → AllDue d (after (act.Got m ∷ past) rest) → is_reply_of s.number j e.message ≡ true → (is_settled d (after (act.Got m ∷ past) rest) s ≡ true) ⊎ HasTaken d (after (act.Got m ∷ past) rest) s.number j
+one-taken : (d : DocumentData) (past : List Act) (m : ℕ) (e : Envelope) (b : Bool) (rest : List Act) (s : ScriptData)
+    (j : ℕ) → IsOne d → script_of s.number d.scripts ≡ Some s → sent_at m (sent past) ≡ Some e
+    → is_fit e.to (view d past e.to) e.from e.message ≡ true
+    → rest ≡ numbered (next_number past) e.to (kept b e.to (answer e.to (view d past e.to) e.from e.message))
+    → AllDue d (after (act.Got m ∷ past) rest) → is_reply_of s.number j e.message ≡ true
+    → (is_settled d (after (act.Got m ∷ past) rest) s ≡ true) ⊎ HasTaken d (after (act.Got m ∷ past) rest) s.number j
 one-taken d past m e b rest s j one script is fit r due h =
     let w = reply-of s.number j e.message h in
     let n : NodeId = e.to in
@@ -136,7 +167,8 @@ one-taken d past m e b rest s j one script is fit r due h =
     let J : ℕ → Type 0 = λ i. (is_settled d (after (act.Got m ∷ past) rest) s ≡ true) ⊎ HasTaken d (after (act.Got m ∷ past) rest) w.0.t i in
     subst T w.2 (subst J w.3 (reply-got d past m n x b w.0 s rest one (subst P (sym w.2) script) (subst S w.1 is) (subst F w.1 fit) (subst R w.1 r) due))
 
-taken-event : (d : DocumentData) (past acts : List Act) → IsOne d → Event d past acts → RepliesTaken d past → RepliesTaken d (after past acts)
+taken-event : (d : DocumentData) (past acts : List Act) → IsOne d → Event d past acts → RepliesTaken d past
+    → RepliesTaken d (after past acts)
 taken-event d past acts one event all s j script h = go (event-getting d past acts one event)
   where
     p : NodeId → NodeId → Message → Bool
@@ -166,7 +198,10 @@ replies-taken d h one run =
     not-both e = cc
 
 -- no reply was got for what is read
-pub quiet-read : (d : DocumentData) (h : List Act) (s : ScriptData) (x : Story) (j : ℕ) → IsOne d → IsRun d d.items h → script_of s.number d.scripts ≡ Some s → story d (after [] h) s.number ≡ Some x → is_settled d (after [] h) s ≡ false → waiting s.ops x.progress.values ≡ Some j → has_got (λ x y said. is_reply_of s.number j said) (after [] h) ≡ false
+pub quiet-read : (d : DocumentData) (h : List Act) (s : ScriptData) (x : Story) (j : ℕ) → IsOne d → IsRun d d.items h
+    → script_of s.number d.scripts ≡ Some s → story d (after [] h) s.number ≡ Some x
+    → is_settled d (after [] h) s ≡ false → waiting s.ops x.progress.values ≡ Some j
+    → has_got (λ x y said. is_reply_of s.number j said) (after [] h) ≡ false
 quiet-read d h s x j one run script told unsettled reads = go (has_got (λ x y said. is_reply_of s.number j said) (after [] h)) refl
   where
     no-taken : HasTaken d (after [] h) s.number j → ⊥

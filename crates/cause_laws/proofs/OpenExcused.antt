@@ -29,7 +29,8 @@ use Rattle.std.proofs.lemmas.Bool.{and_from, and_parts, or_cases, or_left, or_ri
 use Rattle.std.specs.List.{list_all, list_any}
 use Rattle.std.specs.Prelude.{not, ◌&&◌, ◌==◌}
 
-read-held : (r : List Record) (t : TxId) (j : ℕ) (hs : List HeldRead) → list_all (is_waiting_read r) hs ≡ true → has_read t j hs ≡ true → list_any (λ h. h.t == t && (h.op == j && not (is_clear h.sid r))) hs ≡ true
+read-held : (r : List Record) (t : TxId) (j : ℕ) (hs : List HeldRead) → list_all (is_waiting_read r) hs ≡ true
+    → has_read t j hs ≡ true → list_any (λ h. h.t == t && (h.op == j && not (is_clear h.sid r))) hs ≡ true
 read-held r t j [] w h = cc
 read-held r t j (y ∷ hs) w h =
     let both = and_parts (is_waiting_read r y) (list_all (is_waiting_read r) hs) w in
@@ -40,13 +41,16 @@ read-held r t j (y ∷ hs) w h =
       | inr later ↦ or_right (y.t == t && (y.op == j && not (is_clear y.sid r))) (list_any (λ h. h.t == t && (h.op == j && not (is_clear h.sid r))) hs) (read-held r t j hs both.1 later)
     ]
 
-turned : (a e b c d : Bool) → (a ≡ true → e ≡ true) → (c ≡ true → d ≡ true) → ((a || b) || c) ≡ true → (e || (b || d)) ≡ true
+turned : (a e b c d : Bool) → (a ≡ true → e ≡ true) → (c ≡ true → d ≡ true) → ((a || b) || c) ≡ true
+    → (e || (b || d)) ≡ true
 turned true e b c d home go h = or_left e (b || d) (home refl)
 turned false e true c d home go h = or_right e true refl
 turned false e false c d home go h = or_right e d (go h)
 
 -- the read that it waits for
-waits-read : (d : DocumentData) (h : List Act) (s : ScriptData) (j : ℕ) → IsOne d → IsRun d d.items h → script_of s.number d.scripts ≡ Some s → (w : OpenTold d (after [] h) s) → waiting s.ops w.tale.progress.values ≡ Some j → WaitsForRead d (after [] h) s.number j
+waits-read : (d : DocumentData) (h : List Act) (s : ScriptData) (j : ℕ) → IsOne d → IsRun d d.items h
+    → script_of s.number d.scripts ≡ Some s → (w : OpenTold d (after [] h) s)
+    → waiting s.ops w.tale.progress.values ≡ Some j → WaitsForRead d (after [] h) s.number j
 waits-read d h s j one run is w waits =
     record {
       asked = requests-sent d past s.number j one due asked_for;
@@ -66,7 +70,8 @@ waits-read d h s j one run is w waits =
     asked_for : AskedBy d past s (Some j)
     asked_for = (let A : Option Story → Type 0 = λ o. IsAsked d past s o in let B : Option ℕ → Type 0 = λ o. AskedBy d past s o in subst B waits (subst A w.told (all-asked d h one run s is)))
 
-excused-script : (d : DocumentData) (h : List Act) (s : ScriptData) → IsOne d → IsRun d d.items h → script_of s.number d.scripts ≡ Some s → is_open (phase d (after [] h) s) ≡ true → ExcusedOf d (after [] h) s
+excused-script : (d : DocumentData) (h : List Act) (s : ScriptData) → IsOne d → IsRun d d.items h
+    → script_of s.number d.scripts ≡ Some s → is_open (phase d (after [] h) s) ≡ true → ExcusedOf d (after [] h) s
 excused-script d h s one run is going = go (node d past s.home).up refl
   where
     past : List Act

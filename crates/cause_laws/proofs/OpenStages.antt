@@ -32,7 +32,8 @@ use Rattle.std.proofs.lemmas.Bool.{and_parts}
 use Rattle.std.specs.List.{list_all}
 use Rattle.std.specs.Prelude.{if◌then◌else◌, is_some, ◌==◌}
 
-unsettled-undecided : (d : DocumentData) (past : List Act) (s : ScriptData) → is_settled d past s ≡ false → decision s.number (journal d past s.home) ≡ None
+unsettled-undecided : (d : DocumentData) (past : List Act) (s : ScriptData) → is_settled d past s ≡ false
+    → decision s.number (journal d past s.home) ≡ None
 unsettled-undecided d past s h = go (is_shut s (story d past s.number)) (decision s.number (journal d past s.home)) h
   where
     go : (b : Bool) (o : Option Decision) → (b || is_some o) ≡ false → o ≡ None
@@ -47,13 +48,18 @@ undone-none t r e = go (is_closed t r)
     go true = refl
     go false = e
 
-stage-told : (n : NodeId) (h : Node) (s : ScriptData) (x : Story) (acks : List NodeId) (b c : Bool) → (s.home == n) ≡ b → is_open (phase_at s (Some x) h) ≡ c → b ≡ true → c ≡ true → stage_by None (if b then (if c then Some (open_of s x) else None) else None) acks ≡ open_stage (open_of s x) (waiting s.ops x.progress.values)
+stage-told : (n : NodeId) (h : Node) (s : ScriptData) (x : Story) (acks : List NodeId) (b c : Bool) → (s.home == n) ≡ b
+    → is_open (phase_at s (Some x) h) ≡ c → b ≡ true → c ≡ true
+    → stage_by None (if b then (if c then Some (open_of s x) else None) else None) acks
+    ≡ open_stage (open_of s x) (waiting s.ops x.progress.values)
 stage-told n h s x acks true true e f i j = refl
 stage-told n h s x acks true false e f i j = cc
 stage-told n h s x acks false c e f i j = cc
 
 -- a transaction of home n that is open: it reads its first remote read without a value, or collects
-pub stage-open : (d : DocumentData) (past : List Act) (n : NodeId) (t : TxId) (s : ScriptData) (x : Story) → script_of t d.scripts ≡ Some s → s.home ≡ n → story d past t ≡ Some x → is_settled d past s ≡ false → stage (view d past n) t ≡ open_stage (open_of s x) (waiting s.ops x.progress.values)
+pub stage-open : (d : DocumentData) (past : List Act) (n : NodeId) (t : TxId) (s : ScriptData) (x : Story)
+    → script_of t d.scripts ≡ Some s → s.home ≡ n → story d past t ≡ Some x → is_settled d past s ≡ false
+    → stage (view d past n) t ≡ open_stage (open_of s x) (waiting s.ops x.progress.values)
 stage-open d past n t s x is home told h =
     let number : s.number ≡ t = script-number t d.scripts s is in
     let here : story d past s.number ≡ Some x = (let P : TxId → Type 0 = λ u. story d past u ≡ Some x in subst P (sym number) told) in
@@ -85,10 +91,16 @@ middle-ungot (a ∷ acts) h = middle-ungot acts (and_parts (is_middle a) (list_a
 -- an event gets no message, or one at its begin
 pub data IsGetting (d : DocumentData) (past acts : List Act) : Type 0 where
   none_got : list_all is_ungot acts ≡ true → IsGetting d past acts
-  one_got : (m : ℕ) (e : Envelope) (b : Bool) (rest : List Act) → sent_at m (sent past) ≡ Some e → (node d past e.to).up ≡ true → rest ≡ numbered (next_number past) e.to (kept b e.to (answer e.to (view d past e.to) e.from e.message)) → acts ≡ act.Got m ∷ rest → list_all is_ungot rest ≡ true → is_fit e.to (view d past e.to) e.from e.message ≡ true → IsGetting d past acts
+  one_got : (m : ℕ) (e : Envelope) (b : Bool) (rest : List Act) → sent_at m (sent past) ≡ Some e
+      → (node d past e.to).up ≡ true
+      → rest ≡ numbered (next_number past) e.to (kept b e.to (answer e.to (view d past e.to) e.from e.message))
+      → acts ≡ act.Got m ∷ rest → list_all is_ungot rest ≡ true → is_fit e.to (view d past e.to) e.from e.message ≡ true
+      → IsGetting d past acts
 
 -- the message that an event gets was fit
-pub fit-first : (d : DocumentData) (past : List Act) (m : ℕ) (e : Envelope) (rest : List Act) → sent_at m (sent past) ≡ Some e → AllFit d (after (act.Got m ∷ past) rest) → is_fit e.to (view d past e.to) e.from e.message ≡ true
+pub fit-first : (d : DocumentData) (past : List Act) (m : ℕ) (e : Envelope) (rest : List Act)
+    → sent_at m (sent past) ≡ Some e → AllFit d (after (act.Got m ∷ past) rest)
+    → is_fit e.to (view d past e.to) e.from e.message ≡ true
 fit-first d past m e rest is fit =
     let P : Option Envelope → Type 0 = λ o. IsFitAt d past o in
     subst P is (fit-before (GotIsFit d) (act.Got m ∷ past) rest fit).0
@@ -106,11 +118,13 @@ event-getting d past acts one event = go (event-kind d past acts one event.befor
 
 -- ---- messages that were got
 
-got-single : (p : NodeId → NodeId → Message → Bool) (past : List Act) (a : Act) → is_ungot a ≡ true → has_got p (a ∷ past) ≡ has_got p past
+got-single : (p : NodeId → NodeId → Message → Bool) (past : List Act) (a : Act) → is_ungot a ≡ true
+    → has_got p (a ∷ past) ≡ has_got p past
 got-single p past (act.Got m) h = cc
 got-single p past a h = refl
 
 -- acts that get no message
-pub got-ungot : (p : NodeId → NodeId → Message → Bool) (past acts : List Act) → list_all is_ungot acts ≡ true → has_got p (after past acts) ≡ has_got p past
+pub got-ungot : (p : NodeId → NodeId → Message → Bool) (past acts : List Act) → list_all is_ungot acts ≡ true
+    → has_got p (after past acts) ≡ has_got p past
 got-ungot p past [] h = refl
 got-ungot p past (a ∷ acts) h = let both = and_parts (is_ungot a) (list_all is_ungot acts) h in got-ungot p (a ∷ past) acts both.1 ∙ got-single p past a both.0

@@ -27,7 +27,8 @@ use Rattle.std.proofs.Common.{Bool, List, Some, [], false, refl, true, ℕ, ◌�
 use Rattle.std.specs.List.{list_all}
 use Rattle.std.specs.Prelude.{if◌then◌else◌}
 
-well-outs : (d : DocumentData) (m : ℕ) (n : NodeId) (b : Bool) (os : List Out) → AreWell d n os → list_all (is_well_act d) (numbered m n (kept b n os)) ≡ true
+well-outs : (d : DocumentData) (m : ℕ) (n : NodeId) (b : Bool) (os : List Out) → AreWell d n os
+    → list_all (is_well_act d) (numbered m n (kept b n os)) ≡ true
 well-outs d m n b os h = well-numbered d m n (kept b n os) (well-kept d n b os h)
 
 well-restart : (d : DocumentData) (past : List Act) (n : NodeId) (f : Flag) (opens : Bool)
@@ -36,7 +37,8 @@ well-restart d past n f true =
     pass-losses (is_well_act d) d (act.Up n f ∷ past) n (number_order (script_numbers d.scripts)) (λ t. refl)
 well-restart d past n f false = refl
 
-well-shape : (d : DocumentData) (past : List Act) → IsOne d → AllDue d past → (i : Item) (c : Choice) (s : Shape d past i)
+well-shape : (d : DocumentData) (past : List Act) → IsOne d → AllDue d past
+    → (i : Item) (c : Choice) (s : Shape d past i)
     → list_all (is_well_act d) (acts_by d past i c s) ≡ true
 well-shape d past one all i c (idle acts is) = idle-pass (is_well_act d) (λ code. refl) (λ m. refl) (λ m. refl) acts is
 well-shape d past one all i c (arms n k how is) = refl
@@ -52,11 +54,15 @@ well-shape d past one all i c (again n os up is) = well-outs d (next_number past
 -- a message that is got and the row behind it; an opening or its failure; or none of these
 pub data IsKind (d : DocumentData) (past acts : List Act) : Type 0 where
   plain : list_all is_middle acts ≡ true → IsKind d past acts
-  got_first : (m : ℕ) (e : Envelope) (b : Bool) (rest : List Act) → sent_at m (sent past) ≡ Some e → (node d past e.to).up ≡ true → rest ≡ numbered (next_number past) e.to (kept b e.to (answer e.to (view d past e.to) e.from e.message)) → acts ≡ act.Got m ∷ rest → list_all is_middle rest ≡ true → IsKind d past acts
+  got_first : (m : ℕ) (e : Envelope) (b : Bool) (rest : List Act) → sent_at m (sent past) ≡ Some e
+      → (node d past e.to).up ≡ true
+      → rest ≡ numbered (next_number past) e.to (kept b e.to (answer e.to (view d past e.to) e.from e.message))
+      → acts ≡ act.Got m ∷ rest → list_all is_middle rest ≡ true → IsKind d past acts
   opened : (n : NodeId) (f : Flag) → (node d past n).up ≡ false → acts ≡ opened_row d past n f → IsKind d past acts
   failed : (n : NodeId) → (node d past n).up ≡ false → acts ≡ act.StillDown n ∷ [] → IsKind d past acts
 
-middle-outs : (d : DocumentData) (m : ℕ) (n : NodeId) (b : Bool) (os : List Out) → AreWell d n os → list_all is_middle (numbered m n (kept b n os)) ≡ true
+middle-outs : (d : DocumentData) (m : ℕ) (n : NodeId) (b : Bool) (os : List Out) → AreWell d n os
+    → list_all is_middle (numbered m n (kept b n os)) ≡ true
 middle-outs d m n b os h = middle-numbered d m n (kept b n os) (well-kept d n b os h)
 
 kind-restart : (d : DocumentData) (past : List Act) (n : NodeId) (f : Flag) (opens : Bool) → (node d past n).up ≡ false
@@ -64,7 +70,8 @@ kind-restart : (d : DocumentData) (past : List Act) (n : NodeId) (f : Flag) (ope
 kind-restart d past n f true up = opened n f up refl
 kind-restart d past n f false up = failed n up refl
 
-shape-kind : (d : DocumentData) (past : List Act) → IsOne d → AllDue d past → (i : Item) (c : Choice) (s : Shape d past i)
+shape-kind : (d : DocumentData) (past : List Act) → IsOne d → AllDue d past
+    → (i : Item) (c : Choice) (s : Shape d past i)
     → IsKind d past (acts_by d past i c s)
 shape-kind d past one all i c (idle acts is) = plain (idle-pass is_middle (λ code. refl) (λ m. refl) (λ m. refl) acts is)
 shape-kind d past one all i c (arms n k how is) = plain refl
@@ -75,11 +82,13 @@ shape-kind d past one all i c (begins s is new up quiet) = plain (middle-outs d 
 shape-kind d past one all i c (delivers m e is up) = got_first m e c.keeps (numbered (next_number past) e.to (kept c.keeps e.to (answer e.to (view d past e.to) e.from e.message))) is up refl refl (middle-outs d (next_number past) e.to c.keeps (answer e.to (view d past e.to) e.from e.message) (well-answer d past e.to e.from e.message (sent-ends d past one all m e is)))
 shape-kind d past one all i c (again n os up is) = plain (middle-outs d (next_number past) n c.keeps os (well-again d past n os all is))
 
-pub event-kind : (d : DocumentData) (past acts : List Act) → IsOne d → AllDue d past → IsEvent d past acts → IsKind d past acts
+pub event-kind : (d : DocumentData) (past acts : List Act) → IsOne d → AllDue d past → IsEvent d past acts
+    → IsKind d past acts
 event-kind d past acts one all event = of-event d past acts (IsKind d past) (shape-kind d past one all) event
 
 -- each act of a run
-pub run-well : (d : DocumentData) (h : List Act) → IsOne d → IsRun d d.items h → list_all (is_well_act d) (after [] h) ≡ true
+pub run-well : (d : DocumentData) (h : List Act) → IsOne d → IsRun d d.items h
+    → list_all (is_well_act d) (after [] h) ≡ true
 run-well d h one run =
     run-holds d (λ past. list_all (is_well_act d) past ≡ true)
     (λ ups. behind-start (λ z. list_all (is_well_act d) z ≡ true) d ups (record { opens = λ past n h. h; fails = λ past n h. h }) refl)

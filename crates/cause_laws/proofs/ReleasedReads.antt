@@ -40,7 +40,8 @@ read-sid h y e =
     grind (arith, nat_tests, same)
 
 -- the read that is served is the first of its kind
-served-away : (r : List Record) (h : HeldRead) (before hs : List HeldRead) → is_clear h.sid r ≡ true → list_all (is_waiting_read r) before ≡ true → without_read h.t h.op h.key h.sid (before ++ h ∷ hs) ≡ before ++ hs
+served-away : (r : List Record) (h : HeldRead) (before hs : List HeldRead) → is_clear h.sid r ≡ true
+    → list_all (is_waiting_read r) before ≡ true → without_read h.t h.op h.key h.sid (before ++ h ∷ hs) ≡ before ++ hs
 served-away r h [] hs clear waits =
     let P : Bool → Type 0 = λ b. (if b then hs else h ∷ without_read h.t h.op h.key h.sid hs) ≡ hs in
     subst P (sym (same-self h)) refl
@@ -49,7 +50,10 @@ served-away r h (y ∷ before) hs clear waits = go (is_read h.t h.op h.key h.sid
     both : (is_waiting_read r y ≡ true) × (list_all (is_waiting_read r) before ≡ true)
     both = and_parts (is_waiting_read r y) (list_all (is_waiting_read r) before) waits
 
-    go : (b : Bool) → is_read h.t h.op h.key h.sid y ≡ b → without_read h.t h.op h.key h.sid (before ++ h ∷ hs) ≡ before ++ hs → (if b then before ++ h ∷ hs else y ∷ without_read h.t h.op h.key h.sid (before ++ h ∷ hs)) ≡ y ∷ (before ++ hs)
+    go : (b : Bool) → is_read h.t h.op h.key h.sid y ≡ b
+        → without_read h.t h.op h.key h.sid (before ++ h ∷ hs) ≡ before ++ hs
+        → (if b then before ++ h ∷ hs else y ∷ without_read h.t h.op h.key h.sid (before ++ h ∷ hs))
+        ≡ y ∷ (before ++ hs)
     go true e more =
         let P : Ident → Type 0 = λ i. is_clear i r ≡ true in
         let is : is_clear y.sid r ≡ true = subst P (sym (read-sid h y e)) clear in
@@ -69,18 +73,24 @@ moved-append : (xs ys : List HeldRead) (h : HeldRead) → (xs ++ h ∷ []) ++ ys
 moved-append [] ys h = refl
 moved-append (x ∷ xs) ys h = ap (λ z. x ∷ z) (moved-append xs ys h)
 
-any-drop : (p : HeldRead → Bool) (xs ys : List HeldRead) (h : HeldRead) → list_any p (xs ++ h ∷ ys) ≡ true → (p h ≡ true) ⊎ (list_any p (xs ++ ys) ≡ true)
+any-drop : (p : HeldRead → Bool) (xs ys : List HeldRead) (h : HeldRead) → list_any p (xs ++ h ∷ ys) ≡ true
+    → (p h ≡ true) ⊎ (list_any p (xs ++ ys) ≡ true)
 any-drop p [] ys h e = or_cases (p h) (list_any p ys) e
 any-drop p (x ∷ xs) ys h e = elim (or_cases (p x) (list_any p (xs ++ h ∷ ys)) e) [
   | inl here ↦ inr (or_left (p x) (list_any p (xs ++ ys)) here)
   | inr later ↦ elim (any-drop p xs ys h later) [ inl first ↦ inl first | inr rest ↦ inr (or_right (p x) (list_any p (xs ++ ys)) rest) ]
 ]
 
-served-node : (d : DocumentData) (now : List Act) (k : NodeId) (h : HeldRead) (vn : Ident) (v : Value) → is_request (said_by (got now)) ≡ false → node d (act.Served k h.t h.op h.key h.sid vn v ∷ now) k ≡ changed (Frees h.t h.op h.key h.sid) (node d now k)
+served-node : (d : DocumentData) (now : List Act) (k : NodeId) (h : HeldRead) (vn : Ident) (v : Value)
+    → is_request (said_by (got now)) ≡ false
+    → node d (act.Served k h.t h.op h.key h.sid vn v ∷ now) k ≡ changed (Frees h.t h.op h.key h.sid) (node d now k)
 served-node d now k h vn v quiet = rw (same-number k, quiet) refl
 
 -- the reads that were passed over stand before those that are left
-pub release-kept : (d : DocumentData) (now : List Act) (m : ℕ) (k : NodeId) (r : List Record) (before hs : List HeldRead) → is_request (said_by (got now)) ≡ false → journal d now k ≡ r → (node d now k).held ≡ before ++ hs → list_all (is_waiting_read r) before ≡ true → Released d now (numbered m k (release d.cluster r k hs)) k (before ++ hs)
+pub release-kept : (d : DocumentData) (now : List Act) (m : ℕ) (k : NodeId) (r : List Record)
+    (before hs : List HeldRead) → is_request (said_by (got now)) ≡ false → journal d now k ≡ r
+    → (node d now k).held ≡ before ++ hs → list_all (is_waiting_read r) before ≡ true
+    → Released d now (numbered m k (release d.cluster r k hs)) k (before ++ hs)
 release-kept d now m k r before [] quiet at has waits =
     let none : (xs : List HeldRead) → xs ++ [] ≡ xs = append-none in
     let P : List HeldRead → Type 0 = λ z. list_all (is_waiting_read (journal d now k)) z ≡ true in
@@ -108,7 +118,9 @@ release-kept d now m k r before (h ∷ hs) quiet at has waits = go (is_clear h.s
     More : Type 0
     More = (now : List Act) (m : ℕ) (before : List HeldRead) → is_request (said_by (got now)) ≡ false → journal d now k ≡ r → (node d now k).held ≡ before ++ hs → list_all (is_waiting_read r) before ≡ true → Released d now (numbered m k (release d.cluster r k hs)) k (before ++ hs)
 
-    go : (b : Bool) → is_clear h.sid r ≡ b → More → Released d now (numbered m k ((if b then served k h.t h.op h.key h.sid h.from w else []) ++ release d.cluster r k hs)) k (before ++ h ∷ hs)
+    go : (b : Bool) → is_clear h.sid r ≡ b → More → Released d now
+        (numbered m k ((if b then served k h.t h.op h.key h.sid h.from w else []) ++ release d.cluster r k hs)) k
+        (before ++ h ∷ hs)
     go true e more =
         let after' : List Act = send ∷ (serve ∷ now) in
         let rest : List Act = numbered (m + 1) k (release d.cluster r k hs) in

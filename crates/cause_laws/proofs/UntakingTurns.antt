@@ -1,4 +1,5 @@
--- Acts that begin nothing and take no reply leave the values of a story; those of each event but a begin and a reply are such.
+-- Acts that begin nothing and take no reply leave the values of a story; those of each event but a begin and a reply
+-- are such.
 use Rattle.grid_laws.proofs.StoryClaims.{is_untaking, untaking-claim}
 use Rattle.cause_laws.proofs.Events.{IsEvent, of-event}
 use Rattle.grid_model.proofs.EventShapes.{Shape, acts_by, again, arms, begins, crashes, delivers, idle, restarts}
@@ -54,8 +55,13 @@ advance-untaking c x i b m n =
 -- an event begins a transaction, delivers a reply, or does neither
 pub data IsTurn (d : DocumentData) (past acts : List Act) : Type 0 where
   untaking_turn : list_all is_untaking acts ≡ true → IsTurn d past acts
-  begun_by : (s : ScriptData) (b : Bool) → script_of s.number d.scripts ≡ Some s → (node d past s.home).up ≡ true → acts ≡ numbered (next_number past) s.home (kept b s.home (begin_outs s.home (participant (view d past s.home)) s (floor_at d past s))) → IsTurn d past acts
-  answered_by : (m : ℕ) (n x : NodeId) (q : ReadRep) (b : Bool) → sent_at m (sent past) ≡ Some (record { from = x; to = n; message = message.ReadRep q }) → acts ≡ act.Got m ∷ numbered (next_number past) n (kept b n (answer n (view d past n) x (message.ReadRep q))) → IsTurn d past acts
+  begun_by : (s : ScriptData) (b : Bool) → script_of s.number d.scripts ≡ Some s → (node d past s.home).up ≡ true → acts
+      ≡ numbered (next_number past) s.home
+      (kept b s.home (begin_outs s.home (participant (view d past s.home)) s (floor_at d past s))) → IsTurn d past acts
+  answered_by : (m : ℕ) (n x : NodeId) (q : ReadRep) (b : Bool)
+      → sent_at m (sent past) ≡ Some (record { from = x; to = n; message = message.ReadRep q })
+      → acts ≡ act.Got m ∷ numbered (next_number past) n (kept b n (answer n (view d past n) x (message.ReadRep q)))
+      → IsTurn d past acts
 
 turn-delivered : (d : DocumentData) (past acts : List Act) (m : ℕ) (n x : NodeId) (said : Message) (b c : Bool)
     → is_reply said ≡ c → sent_at m (sent past) ≡ Some (record { from = x; to = n; message = said })

@@ -45,17 +45,21 @@ pub record OpenTold (d : DocumentData) (past : List Act) (s : ScriptData) : Type
   pub told : story d past s.number ≡ Some tale
   pub unsettled : is_settled d past s ≡ false
 
-pub open-told : (d : DocumentData) (past : List Act) (s : ScriptData) → AllDue d past → is_open (phase d past s) ≡ true → OpenTold d past s
+pub open-told : (d : DocumentData) (past : List Act) (s : ScriptData) → AllDue d past → is_open (phase d past s) ≡ true
+    → OpenTold d past s
 open-told d past s due h = go (is_settled d past s) (story d past s.number) refl refl h
   where
-    go : (b : Bool) (o : Option Story) → is_settled d past s ≡ b → story d past s.number ≡ o → is_open (phase d past s) ≡ true → OpenTold d past s
+    go : (b : Bool) (o : Option Story) → is_settled d past s ≡ b → story d past s.number ≡ o
+        → is_open (phase d past s) ≡ true → OpenTold d past s
     go true o e told h = (let f : false ≡ true = sym (settled-closed d past s due e) ∙ h in cc)
     go false None e told h =
         let P : Option Story → Type 0 = λ o. is_open (phase_at s o (node d past s.home)) ≡ true in
         (let f : false ≡ true = subst P told h in cc)
     go false (Some x) e told h = record { tale = x; told = told; unsettled = e }
 
-phase-told : (ops : List Op) (x : Story) (closed : Bool) (o : Option Decision) (l a f : Bool) → x.lost ≡ l → x.aborted ≡ a → (x.finished && not (is_update ops)) ≡ f → ((l || (a || f)) || is_some o) ≡ false → phase_by ops (Some x) closed o ≡ open_phase (waiting ops x.progress.values)
+phase-told : (ops : List Op) (x : Story) (closed : Bool) (o : Option Decision) (l a f : Bool) → x.lost ≡ l
+    → x.aborted ≡ a → (x.finished && not (is_update ops)) ≡ f → ((l || (a || f)) || is_some o) ≡ false
+    → phase_by ops (Some x) closed o ≡ open_phase (waiting ops x.progress.values)
 phase-told ops x closed None false false false e g i h = rw (e, g, i) refl
 phase-told ops x closed o true a f e g i h = cc
 phase-told ops x closed o false true f e g i h = cc
@@ -63,7 +67,8 @@ phase-told ops x closed o false false true e g i h = cc
 phase-told ops x closed (Some y) false false false e g i h = cc
 
 -- it reads its first remote read without a value, or collects
-pub unsettled-phase : (d : DocumentData) (past : List Act) (s : ScriptData) (w : OpenTold d past s) → phase d past s ≡ open_phase (waiting s.ops w.tale.progress.values)
+pub unsettled-phase : (d : DocumentData) (past : List Act) (s : ScriptData) (w : OpenTold d past s)
+    → phase d past s ≡ open_phase (waiting s.ops w.tale.progress.values)
 unsettled-phase d past s w =
     let r : List Record = journal d past s.home in
     let P : Option Story → Type 0 = λ o. phase_at s o (node d past s.home) ≡ open_phase (waiting s.ops w.tale.progress.values) in
@@ -81,7 +86,8 @@ all-told d h one run =
     (λ past acts event all. event.answered)
     h one run
 
-collects-update : (d : DocumentData) (past : List Act) (s : ScriptData) (w : OpenTold d past s) → AllTold d past → script_of s.number d.scripts ≡ Some s → waiting s.ops w.tale.progress.values ≡ None → is_update s.ops ≡ true
+collects-update : (d : DocumentData) (past : List Act) (s : ScriptData) (w : OpenTold d past s) → AllTold d past
+    → script_of s.number d.scripts ≡ Some s → waiting s.ops w.tale.progress.values ≡ None → is_update s.ops ≡ true
 collects-update d past s w told is full = go (is_update s.ops) refl
   where
     Q : Option Story → Type 0
@@ -93,7 +99,8 @@ collects-update d past s w told is full = go (is_update s.ops) refl
     here : (is_some (waiting s.ops w.tale.progress.values) || (is_update s.ops || w.tale.finished)) ≡ true
     here = subst T w.told (told s.number s is)
 
-    open_still : ((w.tale.lost || (w.tale.aborted || (w.tale.finished && not (is_update s.ops)))) || is_some (decision s.number (journal d past s.home))) ≡ false
+    open_still : ((w.tale.lost || (w.tale.aborted || (w.tale.finished && not (is_update s.ops))))
+        || is_some (decision s.number (journal d past s.home))) ≡ false
     open_still = subst Q w.told w.unsettled
 
     not-both : (l a f c : Bool) → (false || f) ≡ true → ((l || (a || (f && true))) || c) ≡ false → ⊥
@@ -112,11 +119,14 @@ collects-update d past s w told is full = go (is_update s.ops) refl
 
 -- ---- the part
 
-unvoted-part : (ns : List NodeId) (vs : List Voted) → have_voted ns vs ≡ false → (n : NodeId) × (is_among n ns ≡ true) × (has_voted n vs ≡ false)
+unvoted-part : (ns : List NodeId) (vs : List Voted) → have_voted ns vs ≡ false
+    → (n : NodeId) × (is_among n ns ≡ true) × (has_voted n vs ≡ false)
 unvoted-part [] vs h = cc
 unvoted-part (n ∷ ns) vs h = go (has_voted n vs) refl h (λ e. unvoted-part ns vs e)
   where
-    go : (b : Bool) → has_voted n vs ≡ b → (b && have_voted ns vs) ≡ false → (have_voted ns vs ≡ false → (k : NodeId) × (is_among k ns ≡ true) × (has_voted k vs ≡ false)) → (k : NodeId) × (is_among k (n ∷ ns) ≡ true) × (has_voted k vs ≡ false)
+    go : (b : Bool) → has_voted n vs ≡ b → (b && have_voted ns vs) ≡ false
+        → (have_voted ns vs ≡ false → (k : NodeId) × (is_among k ns ≡ true) × (has_voted k vs ≡ false))
+        → (k : NodeId) × (is_among k (n ∷ ns) ≡ true) × (has_voted k vs ≡ false)
     go false e h more = (n, or_left (n == n) (is_among n ns) (same-number n), e)
     go true e h more = let w = more h in (w.0, or_right (n == w.0) (is_among w.0 ns) w.1, w.2)
 
@@ -129,7 +139,10 @@ homed true b c go h = refl
 homed false b c go h = go h
 
 -- where the home is up: the vote that it waits for
-pub waits-vote : (d : DocumentData) (h : List Act) (s : ScriptData) → IsOne d → IsRun d d.items h → script_of s.number d.scripts ≡ Some s → ((n : NodeId) → ended s.number (journal d (after [] h) n) ≡ None) → (node d (after [] h) s.home).up ≡ true → (w : OpenTold d (after [] h) s) → waiting s.ops w.tale.progress.values ≡ None → WaitsForVote d (after [] h) s.number
+pub waits-vote : (d : DocumentData) (h : List Act) (s : ScriptData) → IsOne d → IsRun d d.items h
+    → script_of s.number d.scripts ≡ Some s → ((n : NodeId) → ended s.number (journal d (after [] h) n) ≡ None)
+    → (node d (after [] h) s.home).up ≡ true → (w : OpenTold d (after [] h) s)
+    → waiting s.ops w.tale.progress.values ≡ None → WaitsForVote d (after [] h) s.number
 waits-vote d h s one run is unended up w full =
     record {
       part = part.0;
@@ -175,6 +188,8 @@ waits-vote d h s one run is unended up w full =
         counted (is_done e) = sym e ∙ w.unsettled
         counted (is_counted_in e) = (let V : Option Story → Type 0 = λ o. is_voted_in part.0 o ≡ true in sym (subst V w.told e) ∙ part.2)
 
-    answers : (later : List Act) → (is_voted part.0 s.number later ≡ true) ⊎ (is_some (ended s.number (journal d past part.0)) ≡ true) → is_voted part.0 s.number later ≡ true
+    answers : (later : List Act)
+        → (is_voted part.0 s.number later ≡ true) ⊎ (is_some (ended s.number (journal d past part.0)) ≡ true)
+        → is_voted part.0 s.number later ≡ true
     answers later (inl voted) = voted
     answers later (inr over) = (let P : Option Outcome → Type 0 = λ o. is_some o ≡ true in let f : false ≡ true = subst P (unended part.0) over in cc)

@@ -28,25 +28,32 @@ use Rattle.std.specs.Prelude.{if◌then◌else◌, ◌&&◌, ◌==◌}
 
 -- ---- any other message
 
-heard-unvoted : (d : DocumentData) (s : ScriptData) (ns : List NodeId) (p : Phase) (h : Node) (x : NodeId) (said : Message) (o : Option Story) → is_vote_of s.number said ≡ false → is_unvoted d s o ≡ true → is_unvoted d s (heard ns p h s.number x said o) ≡ true
+heard-unvoted : (d : DocumentData) (s : ScriptData) (ns : List NodeId) (p : Phase) (h : Node) (x : NodeId)
+    (said : Message) (o : Option Story) → is_vote_of s.number said ≡ false → is_unvoted d s o ≡ true
+    → is_unvoted d s (heard ns p h s.number x said o) ≡ true
 heard-unvoted d s ns p h x (message.Vote u (ballot.Yes q)) o none k =
     let P : Bool → Type 0 = λ b. is_unvoted d s (if_told (b && is_counted_vote ns p h.journal h.next x q) (progressed (with_vote x q)) o) ≡ true in
     subst P (sym none) (stays o k)
   where
-    stays : (o : Option Story) → is_unvoted d s o ≡ true → is_unvoted d s (if_told false (progressed (with_vote x q)) o) ≡ true
+    stays : (o : Option Story) → is_unvoted d s o ≡ true
+        → is_unvoted d s (if_told false (progressed (with_vote x q)) o) ≡ true
     stays None h = h
     stays (Some y) h = h
 heard-unvoted d s ns p h x (message.Vote u (ballot.No why)) o none k = k
 heard-unvoted d s ns p h x (message.Ack u) o none k = if-unvoted d s ((u == s.number) && is_counted_ack ns p h.journal h.next x) (with_ack x) o (λ e y i j. j) k
 heard-unvoted d s ns p h x said o none k = k
 
-got-unvoted : (d : DocumentData) (past : List Act) (m : ℕ) (e : Envelope) (s : ScriptData) → script_of s.number d.scripts ≡ Some s → sent_at m (sent past) ≡ Some e → is_vote_of s.number e.message ≡ false → is_unvoted d s (story d past s.number) ≡ true → is_unvoted d s (story d (act.Got m ∷ past) s.number) ≡ true
+got-unvoted : (d : DocumentData) (past : List Act) (m : ℕ) (e : Envelope) (s : ScriptData)
+    → script_of s.number d.scripts ≡ Some s → sent_at m (sent past) ≡ Some e → is_vote_of s.number e.message ≡ false
+    → is_unvoted d s (story d past s.number) ≡ true → is_unvoted d s (story d (act.Got m ∷ past) s.number) ≡ true
 got-unvoted d past m e s is got none h =
     let P : Option ScriptData → Type 0 = λ w. is_unvoted d s (heard_at d past w (sent_at m (sent past)) (story d past s.number)) ≡ true in
     let Q : Option Envelope → Type 0 = λ z. is_unvoted d s (heard_at d past (Some s) z (story d past s.number)) ≡ true in
     subst P (sym is) (subst Q (sym got) (go (e.to == s.home)))
   where
-    go : (b : Bool) → is_unvoted d s (if b then heard (parts_of d s) (phase_at s (story d past s.number) (node d past s.home)) (node d past s.home) s.number e.from e.message (story d past s.number) else story d past s.number) ≡ true
+    go : (b : Bool) → is_unvoted d s (if b then heard (parts_of d s)
+        (phase_at s (story d past s.number) (node d past s.home)) (node d past s.home) s.number e.from e.message
+        (story d past s.number) else story d past s.number) ≡ true
     go true = heard-unvoted d s (parts_of d s) (phase_at s (story d past s.number) (node d past s.home)) (node d past s.home) e.from e.message (story d past s.number) none h
     go false = h
 
@@ -55,11 +62,14 @@ got-unvoted d past m e s is got none h =
 abbrev pub AllNotFull : DocumentData → List Act → Type 0
 AllNotFull d past = (s : ScriptData) → script_of s.number d.scripts ≡ Some s → NotFull d past s
 
-full-later : (d : DocumentData) (past acts : List Act) (s : ScriptData) → IsOne d → script_of s.number d.scripts ≡ Some s → list_all is_ungot acts ≡ true → AllDue d (after past acts) → NotFull d past s → NotFull d (after past acts) s
+full-later : (d : DocumentData) (past acts : List Act) (s : ScriptData) → IsOne d
+    → script_of s.number d.scripts ≡ Some s → list_all is_ungot acts ≡ true → AllDue d (after past acts)
+    → NotFull d past s → NotFull d (after past acts) s
 full-later d past acts s one is u due (inl settled) = inl (settled-later d past acts s due settled)
 full-later d past acts s one is u due (inr unvoted) = inr (unvoted-later d past acts s is (some-part d s one is) u due unvoted)
 
-full-event : (d : DocumentData) (past acts : List Act) → IsOne d → Event d past acts → AllNotFull d past → AllNotFull d (after past acts)
+full-event : (d : DocumentData) (past acts : List Act) → IsOne d → Event d past acts → AllNotFull d past
+    → AllNotFull d (after past acts)
 full-event d past acts one event all s is = go (event-getting d past acts one event)
   where
     go : IsGetting d past acts → NotFull d (after past acts) s

@@ -52,7 +52,8 @@ pub record VoteFull (d : DocumentData) (past : List Act) (y : NodeId) (t : TxId)
   pub values : List (ℕ × Value)
   pub full : Full d past y t script sid values
 
-full-vote : (d : DocumentData) (past : List Act) (n y : NodeId) (t : TxId) → AllDue d past → Asked d past n y t → VoteFull d past y t
+full-vote : (d : DocumentData) (past : List Act) (n y : NodeId) (t : TxId) → AllDue d past → Asked d past n y t
+    → VoteFull d past y t
 full-vote d past n y t all a =
     let s = prepare-got d past n y a.prepare all a.got in
     let P : TxId → Type 0 = λ u. Full d past y u s.script a.prepare.sid s.values in
@@ -62,30 +63,41 @@ abbrev VotesFull : DocumentData → List Act → NodeId → NodeId → Message �
 VotesFull d past n y (message.Vote t b) = VoteFull d past y t
 VotesFull d past n y said = Unit {0}
 
-votes-more : (d : DocumentData) (past : List Act) (a : Act) (n y : NodeId) (said : Message) → AllDue d (a ∷ past) → VotesFull d past n y said → VotesFull d (a ∷ past) n y said
+votes-more : (d : DocumentData) (past : List Act) (a : Act) (n y : NodeId) (said : Message) → AllDue d (a ∷ past)
+    → VotesFull d past n y said → VotesFull d (a ∷ past) n y said
 votes-more d past a n y (message.Vote t b) due h = record { script = h.script; sid = h.sid; values = h.values; full = full-more d past a y t h.script h.sid h.values due h.full }
 votes-more d past a n y said due h = tt
 
-votes-due : (d : DocumentData) (past : List Act) (n y : NodeId) (said : Message) → AllDue d past → SendDue d past n y said → VotesFull d past n y said
+votes-due : (d : DocumentData) (past : List Act) (n y : NodeId) (said : Message) → AllDue d past
+    → SendDue d past n y said → VotesFull d past n y said
 votes-due d past n y (message.Vote t (ballot.Yes p)) all due = full-vote d past n y t all due.0
 votes-due d past n y (message.Vote t (ballot.No why)) all due = full-vote d past n y t all due.0
 votes-due d past n y said all due = tt
 
 -- each vote that was sent
-pub vote-full : (d : DocumentData) (past : List Act) (m : ℕ) (x y : NodeId) (t : TxId) (b : Ballot) → AllDue d past → sent_at m (sent past) ≡ Some (record { from = x; to = y; message = message.Vote t b }) → VoteFull d past y t
+pub vote-full : (d : DocumentData) (past : List Act) (m : ℕ) (x y : NodeId) (t : TxId) (b : Ballot) → AllDue d past
+    → sent_at m (sent past) ≡ Some (record { from = x; to = y; message = message.Vote t b }) → VoteFull d past y t
 vote-full d past m x y t b due is = sent-hold (VotesFull d) d past (λ now a n k said all h. votes-more d now a n k said all h) (λ now n k said all h. votes-due d now n k said all h) due m (record { from = x; to = y; message = message.Vote t b }) is
 
 -- ---- what the home does
 
--- the acts behind a vote of x that home n got: nothing, where it was known or some part has not voted; an abort; a decision; a stop
-pub data VoteResult (d : DocumentData) (past : List Act) (m : ℕ) (n x : NodeId) (s : ScriptData) (rest : List Act) : Type 0 where
-  known_vote : rest ≡ [] → is_voted_in x (story d past s.number) ≡ true → story d (act.Got m ∷ past) s.number ≡ story d past s.number → VoteResult d past m n x s rest
-  refused_by : (why : Cause) (more : List Act) → rest ≡ act.Aborted s.number x why ∷ more → VoteResult d past m n x s rest
-  counted_vote : (y : Story) → rest ≡ [] → story d (act.Got m ∷ past) s.number ≡ Some y → has_voted x y.progress.votes ≡ true → have_voted (parts_of d s) y.progress.votes ≡ false → waiting s.ops y.progress.values ≡ None → VoteResult d past m n x s rest
+-- the acts behind a vote of x that home n got: nothing, where it was known or some part has not voted; an abort; a
+-- decision; a stop
+pub data VoteResult (d : DocumentData) (past : List Act) (m : ℕ) (n x : NodeId) (s : ScriptData) (rest : List Act) :
+    Type 0 where
+  known_vote : rest ≡ [] → is_voted_in x (story d past s.number) ≡ true
+      → story d (act.Got m ∷ past) s.number ≡ story d past s.number → VoteResult d past m n x s rest
+  refused_by : (why : Cause) (more : List Act) → rest ≡ act.Aborted s.number x why ∷ more
+      → VoteResult d past m n x s rest
+  counted_vote : (y : Story) → rest ≡ [] → story d (act.Got m ∷ past) s.number ≡ Some y
+      → has_voted x y.progress.votes ≡ true → have_voted (parts_of d s) y.progress.votes ≡ false
+      → waiting s.ops y.progress.values ≡ None → VoteResult d past m n x s rest
   decides_now : (f : Ident) (more : List Act) → rest ≡ act.Decided s.number f ∷ more → VoteResult d past m n x s rest
   stops_now : (f : Ident) → rest ≡ act.Down n (Some (head.Decided s.number f)) ∷ [] → VoteResult d past m n x s rest
 
-heard-known : (d : DocumentData) (past : List Act) (s : ScriptData) (x n : NodeId) (t : TxId) (b : Ballot) (y : Story) → has_voted x y.progress.votes ≡ true → heard_at d past (Some s) (Some (record { from = x; to = n; message = message.Vote t b })) (Some y) ≡ Some y
+heard-known : (d : DocumentData) (past : List Act) (s : ScriptData) (x n : NodeId) (t : TxId) (b : Ballot) (y : Story)
+    → has_voted x y.progress.votes ≡ true
+    → heard_at d past (Some s) (Some (record { from = x; to = n; message = message.Vote t b })) (Some y) ≡ Some y
 heard-known d past s x n t (ballot.No why) y h = go (n == s.home)
   where
     go : (b : Bool) → (if b then Some y else Some y) ≡ Some y
@@ -102,14 +114,26 @@ heard-known d past s x n t (ballot.Yes p) y h = go (n == s.home) ((t == s.number
 abbrev with_yes : NodeId → Ident → Story → Story
 with_yes x p = progressed (λ z. record z { votes = z.votes ++ record { from = x; p = p } ∷ [] })
 
-heard-new : (d : DocumentData) (past : List Act) (n : NodeId) (s : ScriptData) (st : Story) (x : NodeId) (p : Ident) → s.home ≡ n → phase_at s (Some st) (node d past n) ≡ Collecting → is_small_node (node d past n).journal (node d past n).next ≡ true → is_fit_ballot (ballot.Yes p) ≡ true → is_among x (parts_of d s) ≡ true → has_voted x st.progress.votes ≡ false → heard_at d past (Some s) (Some (record { from = x; to = n; message = message.Vote s.number (ballot.Yes p) })) (Some st) ≡ Some (with_yes x p st)
+heard-new : (d : DocumentData) (past : List Act) (n : NodeId) (s : ScriptData) (st : Story) (x : NodeId) (p : Ident)
+    → s.home ≡ n → phase_at s (Some st) (node d past n) ≡ Collecting
+    → is_small_node (node d past n).journal (node d past n).next ≡ true → is_fit_ballot (ballot.Yes p) ≡ true
+    → is_among x (parts_of d s) ≡ true → has_voted x st.progress.votes ≡ false → heard_at d past (Some s)
+    (Some (record { from = x; to = n; message = message.Vote s.number (ballot.Yes p) })) (Some st)
+    ≡ Some (with_yes x p st)
 heard-new d past n s st x p home gathers small fit part new =
     rw (home, same-number n, gathers, small, fit, part, same-number s.number, new) refl
 
 voted-last : (x : NodeId) (p : Ident) (vs : List Voted) → has_voted x (vs ++ record { from = x; p = p } ∷ []) ≡ true
 voted-last x p vs = list_any-append (λ (v : Voted). v.from == x) vs (record { from = x; p = p } ∷ []) ∙ or_right (has_voted x vs) (has_voted x (record { from = x; p = p } ∷ [])) (or_left (x == x) false (same-number x))
 
-vote-counts : (d : DocumentData) (past : List Act) (m : ℕ) (n x : NodeId) (b : Bool) (s : ScriptData) (p : Ident) (y : Story) (rest : List Act) → script_of s.number d.scripts ≡ Some s → s.home ≡ n → sent_at m (sent past) ≡ Some (record { from = x; to = n; message = message.Vote s.number (ballot.Yes p) }) → story d past s.number ≡ Some y → is_settled d past s ≡ false → waiting s.ops y.progress.values ≡ None → is_small_node (journal d past n) (node d past n).next ≡ true → is_fit_ballot (ballot.Yes p) ≡ true → is_among x (parts_of d s) ≡ true → has_voted x y.progress.votes ≡ false → rest ≡ numbered (next_number past) n (kept b n (full_outs s.number (parts_of d s) (y.progress.votes ++ record { from = x; p = p } ∷ []))) → VoteResult d past m n x s rest
+vote-counts : (d : DocumentData) (past : List Act) (m : ℕ) (n x : NodeId) (b : Bool) (s : ScriptData) (p : Ident)
+    (y : Story) (rest : List Act) → script_of s.number d.scripts ≡ Some s → s.home ≡ n
+    → sent_at m (sent past) ≡ Some (record { from = x; to = n; message = message.Vote s.number (ballot.Yes p) })
+    → story d past s.number ≡ Some y → is_settled d past s ≡ false → waiting s.ops y.progress.values ≡ None
+    → is_small_node (journal d past n) (node d past n).next ≡ true → is_fit_ballot (ballot.Yes p) ≡ true
+    → is_among x (parts_of d s) ≡ true → has_voted x y.progress.votes ≡ false → rest ≡ numbered (next_number past) n
+    (kept b n (full_outs s.number (parts_of d s) (y.progress.votes ++ record { from = x; p = p } ∷ [])))
+    → VoteResult d past m n x s rest
 vote-counts d past m n x b s p y rest is home got told unsettled full small fit part new r = go (have_voted (parts_of d s) (y.progress.votes ++ record { from = x; p = p } ∷ [])) refl b r
   where
     P : NodeId → Type 0
@@ -130,13 +154,20 @@ vote-counts d past m n x b s p y rest is home got told unsettled full small fit 
     os : List Out
     os = decides s.number f (parts_of d s)
 
-    go : (c : Bool) → have_voted (parts_of d s) (y.progress.votes ++ record { from = x; p = p } ∷ []) ≡ c → (b : Bool) → rest ≡ numbered (next_number past) n (kept b n (if c then os else [])) → VoteResult d past m n x s rest
+    go : (c : Bool) → have_voted (parts_of d s) (y.progress.votes ++ record { from = x; p = p } ∷ []) ≡ c → (b : Bool)
+        → rest ≡ numbered (next_number past) n (kept b n (if c then os else [])) → VoteResult d past m n x s rest
     go false e b r = counted_vote (with_yes x p y) (r ∙ kept-none (next_number past) n b) counted (voted-last x p y.progress.votes) e full
     go true e true r = decides_now f (numbered (next_number past) n (out.Act (act.Finished s.number) ∷ tells s.number (outcome.Commit f) (parts_of d s))) r
     go true e false r = stops_now f r
 
 -- what the home of an open transaction that has all values does
-pub vote-result : (d : DocumentData) (past : List Act) (m : ℕ) (n x : NodeId) (b : Bool) (s : ScriptData) (a : Ballot) (y : Story) (rest : List Act) → script_of s.number d.scripts ≡ Some s → s.home ≡ n → sent_at m (sent past) ≡ Some (record { from = x; to = n; message = message.Vote s.number a }) → is_fit n (view d past n) x (message.Vote s.number a) ≡ true → rest ≡ numbered (next_number past) n (kept b n (answer n (view d past n) x (message.Vote s.number a))) → story d past s.number ≡ Some y → is_settled d past s ≡ false → waiting s.ops y.progress.values ≡ None → VoteResult d past m n x s rest
+pub vote-result : (d : DocumentData) (past : List Act) (m : ℕ) (n x : NodeId) (b : Bool) (s : ScriptData) (a : Ballot)
+    (y : Story) (rest : List Act) → script_of s.number d.scripts ≡ Some s → s.home ≡ n
+    → sent_at m (sent past) ≡ Some (record { from = x; to = n; message = message.Vote s.number a })
+    → is_fit n (view d past n) x (message.Vote s.number a) ≡ true
+    → rest ≡ numbered (next_number past) n (kept b n (answer n (view d past n) x (message.Vote s.number a)))
+    → story d past s.number ≡ Some y → is_settled d past s ≡ false → waiting s.ops y.progress.values ≡ None
+    → VoteResult d past m n x s rest
 vote-result d past m n x b s a y rest is home got fit r told unsettled full = go (has_voted x y.progress.votes) refl
   where
     v : View
@@ -154,7 +185,8 @@ vote-result d past m n x b s a y rest is home got fit r told unsettled full = go
     here : Acts (if has_voted x y.progress.votes then [] else ballot_outs s.number (parts_of d s) y.progress.votes x a)
     here = subst Acts row r
 
-    same : story d (act.Got m ∷ past) s.number ≡ heard_at d past (Some s) (Some (record { from = x; to = n; message = message.Vote s.number a })) (Some y)
+    same : story d (act.Got m ∷ past) s.number ≡ heard_at d past (Some s)
+        (Some (record { from = x; to = n; message = message.Vote s.number a })) (Some y)
     same = ap (λ w. heard_at d past w (sent_at m (sent past)) (story d past s.number)) is ∙ ap (λ o. heard_at d past (Some s) o (story d past s.number)) got ∙ ap (λ o. heard_at d past (Some s) (Some (record { from = x; to = n; message = message.Vote s.number a })) o) told
 
     fits : is_fit_at n (participant v) (Collects (open_of s y)) x (message.Vote s.number a) ≡ true
@@ -166,7 +198,10 @@ vote-result d past m n x b s a y rest is home got fit r told unsettled full = go
     both : (is_fit_ballot a ≡ true) × (is_among x (parts_of d s) ≡ true)
     both = and_parts (is_fit_ballot a) (is_among x (parts_of d s)) (and_parts (is_small_node (journal d past n) (node d past n).next) (is_fit_ballot a && is_among x (parts_of d s)) fits).1
 
-    by : (a : Ballot) → sent_at m (sent past) ≡ Some (record { from = x; to = n; message = message.Vote s.number a }) → is_fit_ballot a ≡ true → has_voted x y.progress.votes ≡ false → rest ≡ numbered (next_number past) n (kept b n (ballot_outs s.number (parts_of d s) y.progress.votes x a)) → VoteResult d past m n x s rest
+    by : (a : Ballot) → sent_at m (sent past) ≡ Some (record { from = x; to = n; message = message.Vote s.number a })
+        → is_fit_ballot a ≡ true → has_voted x y.progress.votes ≡ false
+        → rest ≡ numbered (next_number past) n (kept b n (ballot_outs s.number (parts_of d s) y.progress.votes x a))
+        → VoteResult d past m n x s rest
     by (ballot.No why) got fb new k = refused_by why (numbered (next_number past) n (kept b n (tells s.number outcome.Abort (others x (parts_of d s))))) (k ∙ kept-first (next_number past) n b (act.Aborted s.number x why) (tells s.number outcome.Abort (others x (parts_of d s))) refl)
     by (ballot.Yes p) got fb new k = vote-counts d past m n x b s p y rest is home got told unsettled full small fb both.1 new k
 

@@ -45,7 +45,8 @@ middle-unopened (a ∷ acts) h = middle-unopened acts (and_parts (is_middle a) (
 abbrev is_losing : Act → Bool
 is_losing a = is_unopened a && is_ungot a
 
-losing-parts : (acts : List Act) → list_all is_losing acts ≡ true → (list_all is_unopened acts ≡ true) × (list_all is_ungot acts ≡ true)
+losing-parts : (acts : List Act) → list_all is_losing acts ≡ true
+    → (list_all is_unopened acts ≡ true) × (list_all is_ungot acts ≡ true)
 losing-parts [] h = (refl, refl)
 losing-parts (a ∷ acts) h =
     let w = and_parts (is_unopened a && is_ungot a) (list_all is_losing acts) h in
@@ -53,7 +54,8 @@ losing-parts (a ∷ acts) h =
     let more = losing-parts acts w.1 in
     (and_from (is_unopened a) (list_all is_unopened acts) v.0 more.0, and_from (is_ungot a) (list_all is_ungot acts) v.1 more.1)
 
-begun-later : (d : DocumentData) (past acts : List Act) (t : TxId) → AllDue d (after past acts) → HasBegun d past t → HasBegun d (after past acts) t
+begun-later : (d : DocumentData) (past acts : List Act) (t : TxId) → AllDue d (after past acts) → HasBegun d past t
+    → HasBegun d (after past acts) t
 begun-later d past [] t due k = k
 begun-later d past (a ∷ acts) t due k = begun-later d (a ∷ past) acts t due (begun-more d past a t (due-before d (a ∷ past) acts due) k)
 
@@ -61,9 +63,14 @@ begun-later d past (a ∷ acts) t due k = begun-later d (a ∷ past) acts t due 
 
 -- each vote that was got is of a transaction that began, and is counted
 abbrev pub VotesTaken : DocumentData → List Act → Type 0
-VotesTaken d past = (s : ScriptData) (n : NodeId) → script_of s.number d.scripts ≡ Some s → has_got (λ x y said. x == n && is_vote_of s.number said) past ≡ true → Counted d past s n × HasBegun d past s.number
+VotesTaken d past =
+    (s : ScriptData) (n : NodeId) → script_of s.number d.scripts ≡ Some s
+    → has_got (λ x y said. x == n && is_vote_of s.number said) past ≡ true
+    → Counted d past s n × HasBegun d past s.number
 
-opened-counted : (d : DocumentData) (past : List Act) (k : NodeId) (f : Flag) (s : ScriptData) (n : NodeId) → script_of s.number d.scripts ≡ Some s → AllDue d (after past (opened_row d past k f)) → HasBegun d past s.number → Counted d past s n → Counted d (after past (opened_row d past k f)) s n
+opened-counted : (d : DocumentData) (past : List Act) (k : NodeId) (f : Flag) (s : ScriptData) (n : NodeId)
+    → script_of s.number d.scripts ≡ Some s → AllDue d (after past (opened_row d past k f)) → HasBegun d past s.number
+    → Counted d past s n → Counted d (after past (opened_row d past k f)) s n
 opened-counted d past k f s n is due begun c = elim (cases_eq s.home k) [
   | inl here ↦ is_done (opened-settles d past k f s due is here begun)
   | inr other ↦ counted-later d (act.Up k f ∷ past) (losses d (act.Up k f ∷ past) k) s n is due (losing-parts (losses d (act.Up k f ∷ past) k) (pass-losses is_losing d (act.Up k f ∷ past) k (number_order (script_numbers d.scripts)) (λ t. refl))).0 (now other c)
@@ -74,7 +81,8 @@ opened-counted d past k f s n is due begun c = elim (cases_eq s.home k) [
     now other (is_done h) = is_done (settled-more d past (act.Up k f) s tt h)
     now other (is_counted_in h) = is_counted_in (voted-more n d past (act.Up k f) s.number tt refl h)
 
-taken-event : (d : DocumentData) (past acts : List Act) → IsOne d → Event d past acts → VotesTaken d past → VotesTaken d (after past acts)
+taken-event : (d : DocumentData) (past acts : List Act) → IsOne d → Event d past acts → VotesTaken d past
+    → VotesTaken d (after past acts)
 taken-event d past acts one event all s n is h = go (event-kind d past acts one event.before event.is)
   where
     p : NodeId → NodeId → Message → Bool

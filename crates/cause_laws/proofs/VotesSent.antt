@@ -41,7 +41,8 @@ use Rattle.std.specs.Prelude.{if◌then◌else◌, is_some, ◌&&◌, ◌==◌}
 abbrev pub is_voted : NodeId → TxId → List Act → Bool
 is_voted n t later = began_down n later || has_sent (λ x y said. x == n && is_vote_of t said) later
 
-voted-judged : (n x : NodeId) (t : TxId) (u : Option TxId) (y : Option (Key × Ident)) (p : Ident) (m : ℕ) (b : Bool) → is_voted n t (after [] (numbered m n (kept b n (judged n x t u y p)))) ≡ true
+voted-judged : (n x : NodeId) (t : TxId) (u : Option TxId) (y : Option (Key × Ident)) (p : Ident) (m : ℕ) (b : Bool)
+    → is_voted n t (after [] (numbered m n (kept b n (judged n x t u y p)))) ≡ true
 voted-judged n x t (Some u) y p m true = rw (same-number n, same-number t) refl
 voted-judged n x t (Some u) y p m false = rw (same-number n, same-number t) refl
 voted-judged n x t None (Some y) p m true = rw (same-number n, same-number t) refl
@@ -49,7 +50,9 @@ voted-judged n x t None (Some y) p m false = rw (same-number n, same-number t) r
 voted-judged n x t None None p m true = rw (same-number n, same-number t) refl
 voted-judged n x t None None p m false = rw (same-number n) refl
 
-voted-row : (n x : NodeId) (t : TxId) (o : Option Outcome) (mine : Option Ident) (u : Option TxId) (y : Option (Key × Ident)) (p : Ident) (m : ℕ) (b : Bool) → o ≡ None → is_voted n t (after [] (numbered m n (kept b n (prepared_outs n x t o mine u y p)))) ≡ true
+voted-row : (n x : NodeId) (t : TxId) (o : Option Outcome) (mine : Option Ident) (u : Option TxId)
+    (y : Option (Key × Ident)) (p : Ident) (m : ℕ) (b : Bool) → o ≡ None
+    → is_voted n t (after [] (numbered m n (kept b n (prepared_outs n x t o mine u y p)))) ≡ true
 voted-row n x t (Some o) mine u y p m b e = cc
 voted-row n x t None (Some q) u y p m true e = rw (same-number n, same-number t) refl
 voted-row n x t None (Some q) u y p m false e = rw (same-number n, same-number t) refl
@@ -66,7 +69,8 @@ down-stays : (n : NodeId) (a : Act) (xs : List Act) → began_down n xs ≡ true
 down-stays n a [] h = cc
 down-stays n a (b ∷ xs) h = down-more n a b xs ∙ h
 
-voted-later : (n : NodeId) (t : TxId) (more acts : List Act) → is_voted n t more ≡ true → is_voted n t (after more acts) ≡ true
+voted-later : (n : NodeId) (t : TxId) (more acts : List Act) → is_voted n t more ≡ true
+    → is_voted n t (after more acts) ≡ true
 voted-later n t more [] h = h
 voted-later n t more (a ∷ acts) h = voted-later n t (a ∷ more) acts (elim (or_cases (began_down n more) (has_sent (λ x y said. x == n && is_vote_of t said) more) h) [
   | inl down ↦ or_left (began_down n (a ∷ more)) (has_sent (λ x y said. x == n && is_vote_of t said) (a ∷ more)) (down-stays n a more down)
@@ -84,7 +88,8 @@ ended-stays t (record'.Decided u f ns) r h = h
 ended-stays t (record'.Ceiling c) r h = h
 ended-stays t (record'.Closed u) r h = h
 
-ended-later : (d : DocumentData) (past acts : List Act) (n : NodeId) (t : TxId) → is_some (ended t (journal d past n)) ≡ true → is_some (ended t (journal d (after past acts) n)) ≡ true
+ended-later : (d : DocumentData) (past acts : List Act) (n : NodeId) (t : TxId)
+    → is_some (ended t (journal d past n)) ≡ true → is_some (ended t (journal d (after past acts) n)) ≡ true
 ended-later d past [] n t h = h
 ended-later d past (a ∷ acts) n t h = ended-later d (a ∷ past) acts n t (journal-more (λ r. is_some (ended t r) ≡ true) (λ x r k. ended-stays t x r k) d past a n h)
 
@@ -92,27 +97,39 @@ ended-later d past (a ∷ acts) n t h = ended-later d (a ∷ past) acts n t (jou
 
 -- each Prepare that was got
 abbrev pub PreparesAnswered : DocumentData → List Act → Type 0
-PreparesAnswered d past = (t : TxId) (n : NodeId) (later : List Act) → GotAt (λ x y said. is_prepare_of t said) past n later → (is_voted n t later ≡ true) ⊎ (is_some (ended t (journal d past n)) ≡ true)
+PreparesAnswered d past =
+    (t : TxId) (n : NodeId) (later : List Act) → GotAt (λ x y said. is_prepare_of t said) past n later
+    → (is_voted n t later ≡ true) ⊎ (is_some (ended t (journal d past n)) ≡ true)
 
-prepare-of : (t : TxId) (said : Message) → is_prepare_of t said ≡ true → (q : Prepare) × (said ≡ message.Prepare q) × (q.t ≡ t)
+prepare-of : (t : TxId) (said : Message) → is_prepare_of t said ≡ true
+    → (q : Prepare) × (said ≡ message.Prepare q) × (q.t ≡ t)
 prepare-of t (message.Prepare q) h = (q, refl, grind (arith, nat_tests, h))
 prepare-of t said h = cc
 
 -- a fit message is answered by its row
-pub fit-row : (n x : NodeId) (v : View) (said : Message) → is_fit n v x said ≡ true → answer n v x said ≡ message_outs n (participant v) v.held (stage v (tx_in said)) x said
+pub fit-row : (n x : NodeId) (v : View) (said : Message) → is_fit n v x said ≡ true
+    → answer n v x said ≡ message_outs n (participant v) v.held (stage v (tx_in said)) x said
 fit-row n x v said h = go (is_fit_at n (participant v) (stage v (tx_in said)) x said) h
   where
-    go : (b : Bool) → b ≡ true → (if b then message_outs n (participant v) v.held (stage v (tx_in said)) x said else []) ≡ message_outs n (participant v) v.held (stage v (tx_in said)) x said
+    go : (b : Bool) → b ≡ true → (if b then message_outs n (participant v) v.held (stage v (tx_in said)) x said else [])
+        ≡ message_outs n (participant v) v.held (stage v (tx_in said)) x said
     go true e = refl
     go false e = cc
 
-now-voted : (d : DocumentData) (past : List Act) (m : ℕ) (n x : NodeId) (b : Bool) (q : Prepare) → is_fit n (view d past n) x (message.Prepare q) ≡ true → (o : Option Outcome) → ended q.t (journal d past n) ≡ o → (is_voted n q.t (after [] (numbered m n (kept b n (answer n (view d past n) x (message.Prepare q))))) ≡ true) ⊎ (is_some (ended q.t (journal d past n)) ≡ true)
+now-voted : (d : DocumentData) (past : List Act) (m : ℕ) (n x : NodeId) (b : Bool) (q : Prepare)
+    → is_fit n (view d past n) x (message.Prepare q) ≡ true → (o : Option Outcome) → ended q.t (journal d past n) ≡ o
+    → (is_voted n q.t (after [] (numbered m n (kept b n (answer n (view d past n) x (message.Prepare q))))) ≡ true)
+    ⊎ (is_some (ended q.t (journal d past n)) ≡ true)
 now-voted d past m n x b q fit (Some o) e = inr (rw e refl)
 now-voted d past m n x b q fit None e =
     let P : List Out → Type 0 = λ os. is_voted n q.t (after [] (numbered m n (kept b n os))) ≡ true in
     inl (subst P (sym (fit-row n x (view d past n) (message.Prepare q) fit)) (voted-row n x q.t (ended q.t (journal d past n)) _ _ _ _ m b e))
 
-just-voted : (d : DocumentData) (past acts rest : List Act) (m : ℕ) (e : Envelope) (b : Bool) (t : TxId) → is_fit e.to (view d past e.to) e.from e.message ≡ true → rest ≡ numbered (next_number past) e.to (kept b e.to (answer e.to (view d past e.to) e.from e.message)) → acts ≡ act.Got m ∷ rest → is_prepare_of t e.message ≡ true → (is_voted e.to t (after [] rest) ≡ true) ⊎ (is_some (ended t (journal d (after past acts) e.to)) ≡ true)
+just-voted : (d : DocumentData) (past acts rest : List Act) (m : ℕ) (e : Envelope) (b : Bool) (t : TxId)
+    → is_fit e.to (view d past e.to) e.from e.message ≡ true
+    → rest ≡ numbered (next_number past) e.to (kept b e.to (answer e.to (view d past e.to) e.from e.message))
+    → acts ≡ act.Got m ∷ rest → is_prepare_of t e.message ≡ true
+    → (is_voted e.to t (after [] rest) ≡ true) ⊎ (is_some (ended t (journal d (after past acts) e.to)) ≡ true)
 just-voted d past acts rest m e b t fit r k h =
     let w = prepare-of t e.message h in
     let n : NodeId = e.to in
@@ -127,7 +144,8 @@ just-voted d past acts rest m e b t fit r k h =
       | inr over ↦ inr (ended-later d past acts n w.0.t over)
     ])
 
-answered-event : (d : DocumentData) (past acts : List Act) → IsOne d → Event d past acts → PreparesAnswered d past → PreparesAnswered d (after past acts)
+answered-event : (d : DocumentData) (past acts : List Act) → IsOne d → Event d past acts → PreparesAnswered d past
+    → PreparesAnswered d (after past acts)
 answered-event d past acts one event all t n later g = go (event-getting d past acts one event)
   where
     p : NodeId → NodeId → Message → Bool
@@ -155,14 +173,16 @@ answered-event d past acts one event all t n later g = go (event-getting d past 
     ]
 
 -- what no act got, none got at this place
-pub no-got-at : (p : NodeId → NodeId → Message → Bool) (past : List Act) (n : NodeId) (later : List Act) → has_got p past ≡ false → GotAt p past n later → ⊥
+pub no-got-at : (p : NodeId → NodeId → Message → Bool) (past : List Act) (n : NodeId) (later : List Act)
+    → has_got p past ≡ false → GotAt p past n later → ⊥
 no-got-at p past n later h g = let e = got-in p past n later g in (let f : false ≡ true = sym h ∙ e in not-both f)
   where
     not-both : false ≡ true → ⊥
     not-both e = cc
 
 -- at the end of a run
-pub prepares-answered : (d : DocumentData) (h : List Act) → IsOne d → IsRun d d.items h → PreparesAnswered d (after [] h)
+pub prepares-answered : (d : DocumentData) (h : List Act) → IsOne d → IsRun d d.items h
+    → PreparesAnswered d (after [] h)
 prepares-answered d h one run =
     run-holds d (PreparesAnswered d)
     (λ ups t n later g. absurd (no-got-at (λ x y said. is_prepare_of t said) (after [] (start_row d.cluster.nodes ups)) n later (start-none d (λ x y said. is_prepare_of t said) ups) g))

@@ -1,4 +1,5 @@
--- Every open transaction of these worked runs is excused: one waits for a vote, one for a reply, one for a held read, and of one the home is down.
+-- Every open transaction of these worked runs is excused: one waits for a vote, one for a reply, one for a held read,
+-- and of one the home is down.
 use Rattle.std.proofs.Common.{◌≡◌, ℕ, Bool, true, false, IsTrue, List, [], ◌∷◌, ◌++◌, Option, Some, None, refl, sym, ap, subst, arith, append_assoc, ◌==◌, ◌&&◌, ◌||◌, not, if◌then◌else◌}
 use Rattle.std.proofs.lemmas.Bool.{false≢true, and_parts}
 use Rattle.std.proofs.lemmas.Bool.Decides.{nat_tests}
@@ -31,10 +32,12 @@ test_of p q later (Some e) = not (p e.from e.to e.message) || q e.to later
 -- so has each message that was got in the past, behind which these acts came
 abbrev all_got : (NodeId → NodeId → Message → Bool) → (NodeId → List Act → Bool) → List Act → List Act → Bool
 all_got p q later [] = true
-all_got p q later (act.Got m ∷ past) = test_of p q later (sent_at m (sent past)) && all_got p q (later ++ act.Got m ∷ []) past
+all_got p q later (act.Got m ∷ past) =
+    test_of p q later (sent_at m (sent past)) && all_got p q (later ++ act.Got m ∷ []) past
 all_got p q later (x ∷ past) = all_got p q (later ++ x ∷ []) past
 
-rest-got : (p : NodeId → NodeId → Message → Bool) (q : NodeId → List Act → Bool) (later : List Act) (x : Act) (past : List Act) → IsTrue (all_got p q later (x ∷ past)) → IsTrue (all_got p q (later ++ x ∷ []) past)
+rest-got : (p : NodeId → NodeId → Message → Bool) (q : NodeId → List Act → Bool) (later : List Act) (x : Act)
+    (past : List Act) → IsTrue (all_got p q later (x ∷ past)) → IsTrue (all_got p q (later ++ x ∷ []) past)
 rest-got p q later (act.Got m) past h = (and_parts (test_of p q later (sent_at m (sent past))) (all_got p q (later ++ act.Got m ∷ []) past) h).1
 rest-got p q later x past h = h
 
@@ -42,7 +45,9 @@ meant : (b c : Bool) → IsTrue (not b || c) → IsTrue b → IsTrue c
 meant true c h is = h
 meant false c h is = absurd (false≢true is)
 
-one-got : (p : NodeId → NodeId → Message → Bool) (q : NodeId → List Act → Bool) (later : List Act) (n : NodeId) (o : Option Envelope) → IsTrue (test_of p q later o) → IsTrue (passes (λ x y said. y == n && p x y said) o) → IsTrue (q n later)
+one-got : (p : NodeId → NodeId → Message → Bool) (q : NodeId → List Act → Bool) (later : List Act) (n : NodeId)
+    (o : Option Envelope) → IsTrue (test_of p q later o) → IsTrue (passes (λ x y said. y == n && p x y said) o)
+    → IsTrue (q n later)
 one-got p q later n None h is = absurd (false≢true is)
 one-got p q later n (Some e) h is = (
     let both : IsTrue (e.to == n) × IsTrue (p e.from e.to e.message) = and_parts (e.to == n) (p e.from e.to e.message) is in
@@ -51,7 +56,9 @@ one-got p q later n (Some e) h is = (
     let P : NodeId → Type 0 = λ m. IsTrue (q m later) in
     subst P same (meant (p e.from e.to e.message) (q e.to later) h both.1))
 
-got-tested : (p : NodeId → NodeId → Message → Bool) (q : NodeId → List Act → Bool) (front later : List Act) (m : ℕ) (before : List Act) (n : NodeId) → IsTrue (all_got p q front (later ++ act.Got m ∷ before)) → IsTrue (passes (λ x y said. y == n && p x y said) (sent_at m (sent before))) → IsTrue (q n (front ++ later))
+got-tested : (p : NodeId → NodeId → Message → Bool) (q : NodeId → List Act → Bool) (front later : List Act) (m : ℕ)
+    (before : List Act) (n : NodeId) → IsTrue (all_got p q front (later ++ act.Got m ∷ before))
+    → IsTrue (passes (λ x y said. y == n && p x y said) (sent_at m (sent before))) → IsTrue (q n (front ++ later))
 got-tested p q front [] m before n h is = (
     let P : List Act → Type 0 = λ acts. IsTrue (q n acts) in
     let both : IsTrue (test_of p q front (sent_at m (sent before))) × IsTrue (all_got p q (front ++ act.Got m ∷ []) before) = and_parts (test_of p q front (sent_at m (sent before))) (all_got p q (front ++ act.Got m ∷ []) before) h in
@@ -61,7 +68,8 @@ got-tested p q front (x ∷ later) m before n h is = (
     subst P (append_assoc front (x ∷ []) later) (got-tested p q (front ++ x ∷ []) later m before n (rest-got p q front x (later ++ act.Got m ∷ before) h) is))
 
 -- what the test says of each message that was got
-each-got : (p : NodeId → NodeId → Message → Bool) (q : NodeId → List Act → Bool) (past : List Act) → IsTrue (all_got p q [] past) → (n : NodeId) (later : List Act) → GotAt p past n later → IsTrue (q n later)
+each-got : (p : NodeId → NodeId → Message → Bool) (q : NodeId → List Act → Bool) (past : List Act)
+    → IsTrue (all_got p q [] past) → (n : NodeId) (later : List Act) → GotAt p past n later → IsTrue (q n later)
 each-got p q past all n later g =
     let P : List Act → Type 0 = λ acts. IsTrue (all_got p q [] acts) in
     got-tested p q [] later g.m g.before n (subst P g.there all) g.said
@@ -79,7 +87,8 @@ script_or s None = s
 script_or s (Some x) = x
 
 -- so does the one of a number
-script-each : (P : ScriptData → Type 0) (ss : List ScriptData) → EachScript P ss → (t : TxId) (s : ScriptData) → script_of t ss ≡ Some s → P s
+script-each : (P : ScriptData → Type 0) (ss : List ScriptData) → EachScript P ss → (t : TxId) (s : ScriptData)
+    → script_of t ss ≡ Some s → P s
 script-each P [] each t s e = absurd (none-some s e)
 script-each P (x ∷ ss) each t s e = go (x.number == t) (λ f. script-each P ss each.1 t s f) e
   where
@@ -99,11 +108,14 @@ each-excused d h each s t here = script-each (IsExcused d (after [] h)) d.script
 
 -- what is owed for a read request of operation j of t that n got
 abbrev owed_read : DocumentData → List Act → TxId → ℕ → NodeId → List Act → Bool
-owed_read d past t j n later = has_sent (λ x y said. x == n && (is_home d t y && is_reply_of t j said)) later || (has_stopped n later || is_held_at (node d past n) t j)
+owed_read d past t j n later =
+    has_sent (λ x y said. x == n && (is_home d t y && is_reply_of t j said)) later
+    || (has_stopped n later || is_held_at (node d past n) t j)
 
 -- what is owed for a Prepare of t that its part n got
 abbrev owed_vote : DocumentData → TxId → NodeId → List Act → Bool
-owed_vote d t n later = began_down n later || has_sent (λ x y said. x == n && (is_home d t y && is_vote_of t said)) later
+owed_vote d t n later =
+    began_down n later || has_sent (λ x y said. x == n && (is_home d t y && is_vote_of t said)) later
 
 -- of two that write one key, the first waits for the vote of n2, which was sent and not got
 abbrev conflict : List Act

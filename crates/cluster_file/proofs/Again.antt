@@ -46,11 +46,14 @@ node_again nodes n h k =
     let both = and_parts (nat_le 1 n) (nat_le n MAX_NODES) k in
     node_of_again nodes n both.0 h (small n MAX_NODES both.1 (omega arith))
 
-node_step_again : (nodes : ℕ) (ns : List NodeId) (n : NodeId) → list_any (λ m. m == n) ns ≡ false → nat_le n nodes ≡ true → is_node n ≡ true → node_step nodes ns (node_word n) ≡ Ok (ns ++ n ∷ [])
+node_step_again : (nodes : ℕ) (ns : List NodeId) (n : NodeId) → list_any (λ m. m == n) ns ≡ false
+    → nat_le n nodes ≡ true → is_node n ≡ true → node_step nodes ns (node_word n) ≡ Ok (ns ++ n ∷ [])
 unfolding node_step
 node_step_again nodes ns n new low is = goes (node_of nodes (node_word n)) _ n _ (node_again nodes n low is) (goes (new_node ns n) _ tt _ (rw new refl) refl)
 
-pub nodes_again : (nodes : ℕ) (acc ns : List NodeId) → are_distinct (acc ++ ns) ≡ true → list_all (λ n. nat_le n nodes) ns ≡ true → list_all is_node ns ≡ true → steps (node_step nodes) acc (map node_word ns) ≡ Ok (acc ++ ns)
+pub nodes_again : (nodes : ℕ) (acc ns : List NodeId) → are_distinct (acc ++ ns) ≡ true
+    → list_all (λ n. nat_le n nodes) ns ≡ true → list_all is_node ns ≡ true
+    → steps (node_step nodes) acc (map node_word ns) ≡ Ok (acc ++ ns)
 unfolding steps
 nodes_again nodes acc [] d low is = ap Ok (sym (append-nil acc))
 nodes_again nodes acc (n ∷ ns) d low is =
@@ -62,7 +65,8 @@ nodes_again nodes acc (n ∷ ns) d low is =
 
 -- The lines.
 
-pub nodes_line_again : (n : ℕ) → nat_le 1 n ≡ true → nat_le n MAX_NODES ≡ true → nodes_line blank (decimal n ∷ []) ≡ Ok (record blank { nodes = n; part = part.Nodes })
+pub nodes_line_again : (n : ℕ) → nat_le 1 n ≡ true → nat_le n MAX_NODES ≡ true
+    → nodes_line blank (decimal n ∷ []) ≡ Ok (record blank { nodes = n; part = part.Nodes })
 unfolding nodes_line
 nodes_line_again n h k = goes (number_at (decimal n ∷ [])) _ (n, []) _ (number_again n [] (small n 16 k (omega arith))) (goes (in_range 1 MAX_NODES n) _ n _ (within_again 1 MAX_NODES n h k) refl)
 
@@ -72,7 +76,10 @@ next_again n (m ∷ ns) h =
     let some : (length (node_word m ∷ map node_word ns) == 0) ≡ false = ne_eqb (length (node_word m ∷ map node_word ns)) 0 (λ e. omega (arith, e)) in
     rw (eq-eqb n n refl, some) refl
 
-pub partition_line_again : (d : Draft) (ns : List NodeId) → length d.places < MAX_PARTITIONS → 1 ≤ length ns → are_distinct ns ≡ true → list_all (λ n. nat_le n d.nodes) ns ≡ true → list_all is_node ns ≡ true → partition_line d (decimal (length d.places) ∷ map node_word ns) ≡ Ok (record d { places = d.places ++ ns ∷ []; part = part.Partitions })
+pub partition_line_again : (d : Draft) (ns : List NodeId) → length d.places < MAX_PARTITIONS → 1 ≤ length ns
+    → are_distinct ns ≡ true → list_all (λ n. nat_le n d.nodes) ns ≡ true → list_all is_node ns ≡ true
+    → partition_line d (decimal (length d.places) ∷ map node_word ns)
+    ≡ Ok (record d { places = d.places ++ ns ∷ []; part = part.Partitions })
 unfolding partition_line
 partition_line_again d ns room some distinct low are =
     let less : nat_le MAX_PARTITIONS (length d.places) ≡ false = grind (arith, nat_tests, room) in
@@ -81,7 +88,10 @@ partition_line_again d ns room some distinct low are =
     (goes (is_next (length d.places) (length d.places) (map node_word ns)) _ tt _ (next_again (length d.places) ns some)
     (goes (steps (node_step d.nodes) [] (map node_word ns)) _ ns _ (nodes_again d.nodes [] ns distinct low are) refl)))
 
-pub init_line_again : (d : Draft) (k : Key) (v : Value) → has_name d.known k ≡ false → length (insert_key (slice_cmp nat_cmp) d.known.keys k) ≤ MAX_KEYS → is_key k ≡ true → v < 2 ^ 64 → init_line d (k ∷ decimal v ∷ []) ≡ Ok (record d { inits = d.inits ++ (k, v) ∷ []; known = with_key d.known k; part = part.Inits })
+pub init_line_again : (d : Draft) (k : Key) (v : Value) → has_name d.known k ≡ false
+    → length (insert_key (slice_cmp nat_cmp) d.known.keys k) ≤ MAX_KEYS → is_key k ≡ true → v < 2 ^ 64
+    → init_line d (k ∷ decimal v ∷ [])
+    ≡ Ok (record d { inits = d.inits ++ (k, v) ∷ []; known = with_key d.known k; part = part.Inits })
 unfolding init_line
 init_line_again d k v new room is low =
     goes (key_of k) _ k _ (key_again k is)
@@ -106,43 +116,54 @@ tx_line_again d s room new is low node few =
     (goes (first_line d.nodes d.numbers (decimal s.number ∷ node_word s.home ∷ session_words s.session)) _ bare _
     (first_line_again d.nodes d.numbers s.number s.home s.session new is both.0 low short few) refl)
 
-pub read_line_again : (d : Draft) (s : ScriptData) (k : Key) → length s.ops < MAX_OPS → length (insert_key (slice_cmp nat_cmp) d.known.keys k) ≤ MAX_KEYS → is_key k ≡ true → script_line d s (codes "read") (k ∷ []) ≡ Ok (record d { script = Some (record s { ops = s.ops ++ op.Read k ∷ [] }); known = with_key d.known k })
+pub read_line_again : (d : Draft) (s : ScriptData) (k : Key) → length s.ops < MAX_OPS
+    → length (insert_key (slice_cmp nat_cmp) d.known.keys k) ≤ MAX_KEYS → is_key k ≡ true
+    → script_line d s (codes "read") (k ∷ [])
+    ≡ Ok (record d { script = Some (record s { ops = s.ops ++ op.Read k ∷ [] }); known = with_key d.known k })
 unfolding script_line
 read_line_again d s k room few is = goes (body_line MAX_KEYS d.known s (codes "read") (k ∷ [])) _ (stage.Open (record s { ops = s.ops ++ op.Read k ∷ [] }), with_key d.known k) _ (read_again MAX_KEYS d.known s k room few is) refl
 
-pub write_line_again : (d : Draft) (s : ScriptData) (k : Key) (e : Expr) → length s.ops < MAX_OPS → length (insert_key (slice_cmp nat_cmp) d.known.keys k) ≤ MAX_KEYS → is_key k ≡ true → is_plain_expr e ≡ true → is_expr_among (known_keys s.ops) e ≡ true → script_line d s (codes "write") (k ∷ expr_words e) ≡ Ok (record d { script = Some (record s { ops = s.ops ++ op.Write k e ∷ [] }); known = with_key d.known k })
+pub write_line_again : (d : Draft) (s : ScriptData) (k : Key) (e : Expr) → length s.ops < MAX_OPS
+    → length (insert_key (slice_cmp nat_cmp) d.known.keys k) ≤ MAX_KEYS → is_key k ≡ true → is_plain_expr e ≡ true
+    → is_expr_among (known_keys s.ops) e ≡ true → script_line d s (codes "write") (k ∷ expr_words e)
+    ≡ Ok (record d { script = Some (record s { ops = s.ops ++ op.Write k e ∷ [] }); known = with_key d.known k })
 unfolding script_line
 write_line_again d s k e room few is plain among = goes (body_line MAX_KEYS d.known s (codes "write") (k ∷ expr_words e)) _ (stage.Open (record s { ops = s.ops ++ op.Write k e ∷ [] }), with_key d.known k) _ (write_again MAX_KEYS d.known s k e room few is plain among) refl
 
-pub end_line_again : (d : Draft) (s : ScriptData) → 1 ≤ length s.ops → script_line d s (codes "end") [] ≡ Ok (record d { scripts = d.scripts ++ s ∷ []; script = None })
+pub end_line_again : (d : Draft) (s : ScriptData) → 1 ≤ length s.ops
+    → script_line d s (codes "end") [] ≡ Ok (record d { scripts = d.scripts ++ s ∷ []; script = None })
 unfolding script_line
 end_line_again d s some = goes (body_line MAX_KEYS d.known s (codes "end") []) _ (stage.Done s, d.known) _ (end_again MAX_KEYS d.known s some) refl
 
 more_room : (events : ℕ) → events + 1 ≤ MAX_EVENTS → nat_le MAX_EVENTS events ≡ false
 more_room events h = grind (arith, nat_tests, h)
 
-pub begin_line_again : (d : Draft) (t : TxId) → d.events + 1 ≤ MAX_EVENTS → is_tx t ≡ true → is_taken d.numbers t ≡ true → begin_line d (decimal t ∷ []) ≡ Ok (with_item d (item.Begin t) 1)
+pub begin_line_again : (d : Draft) (t : TxId) → d.events + 1 ≤ MAX_EVENTS → is_tx t ≡ true → is_taken d.numbers t ≡ true
+    → begin_line d (decimal t ∷ []) ≡ Ok (with_item d (item.Begin t) 1)
 unfolding begin_line
 begin_line_again d t room is known =
     passes (nat_le MAX_EVENTS d.events) _ _ _ (more_room d.events room)
     (goes (tx_of (decimal t)) _ t _ (tx_again t is)
     (goes (known_number d.numbers t) _ tt _ (rw known refl) refl))
 
-pub deliver_line_again : (d : Draft) (m : ℕ) → d.events + 1 ≤ MAX_EVENTS → nat_le 1 m ≡ true → nat_le m MAX_COUNT ≡ true → deliver_line d (decimal m ∷ []) ≡ Ok (with_item d (item.Deliver m) 1)
+pub deliver_line_again : (d : Draft) (m : ℕ) → d.events + 1 ≤ MAX_EVENTS → nat_le 1 m ≡ true → nat_le m MAX_COUNT ≡ true
+    → deliver_line d (decimal m ∷ []) ≡ Ok (with_item d (item.Deliver m) 1)
 unfolding deliver_line
 deliver_line_again d m room low high =
     passes (nat_le MAX_EVENTS d.events) _ _ _ (more_room d.events room)
     (goes (number_at (decimal m ∷ [])) _ (m, []) _ (number_again m [] (small m 4294967295 high (omega arith)))
     (goes (in_range 1 MAX_COUNT m) _ m _ (within_again 1 MAX_COUNT m low high) refl))
 
-pub drop_line_again : (d : Draft) (m : ℕ) → d.events + 1 ≤ MAX_EVENTS → nat_le 1 m ≡ true → nat_le m MAX_COUNT ≡ true → drop_line d (decimal m ∷ []) ≡ Ok (with_item d (item.Drop m) 1)
+pub drop_line_again : (d : Draft) (m : ℕ) → d.events + 1 ≤ MAX_EVENTS → nat_le 1 m ≡ true → nat_le m MAX_COUNT ≡ true
+    → drop_line d (decimal m ∷ []) ≡ Ok (with_item d (item.Drop m) 1)
 unfolding drop_line
 drop_line_again d m room low high =
     passes (nat_le MAX_EVENTS d.events) _ _ _ (more_room d.events room)
     (goes (number_at (decimal m ∷ [])) _ (m, []) _ (number_again m [] (small m 4294967295 high (omega arith)))
     (goes (in_range 1 MAX_COUNT m) _ m _ (within_again 1 MAX_COUNT m low high) refl))
 
-pub next_line_again : (d : Draft) (c : ℕ) → d.events + c ≤ MAX_EVENTS → nat_le 1 c ≡ true → nat_le c MAX_EVENTS ≡ true → next_line d (decimal c ∷ []) ≡ Ok (with_item d (item.Next c) c)
+pub next_line_again : (d : Draft) (c : ℕ) → d.events + c ≤ MAX_EVENTS → nat_le 1 c ≡ true → nat_le c MAX_EVENTS ≡ true
+    → next_line d (decimal c ∷ []) ≡ Ok (with_item d (item.Next c) c)
 unfolding next_line
 next_line_again d c room low high =
     let few : nat_le (d.events + c) MAX_EVENTS ≡ true = grind (arith, nat_tests, room) in

@@ -71,7 +71,8 @@ none_there c small (b ∷ bs) h =
     All-cons (λ x. (x == c) ≡ false) b bs (not_there c b small both.0) (none_there c small bs both.1)
 
 -- a line is cut into its words
-pub words_again : (w : List ℕ) (ws : List (List ℕ)) → are_plain (w ∷ ws) ≡ true → slice_split (λ b. b == 32) (join_with_byte 32 (w ∷ ws)) ≡ w ∷ ws
+pub words_again : (w : List ℕ) (ws : List (List ℕ)) → are_plain (w ∷ ws) ≡ true
+    → slice_split (λ b. b == 32) (join_with_byte 32 (w ∷ ws)) ≡ w ∷ ws
 words_again w [] h = slice_split_none _ w (none_there 32 (omega arith) w (and_parts (list_all is_plain w) true h).0)
 words_again w (v ∷ ws) h =
     let both = and_parts (list_all is_plain w) (are_plain (v ∷ ws)) h in
@@ -101,7 +102,8 @@ unfed (b ∷ bs) h =
     All-cons (λ x. (x == 10) ≡ false) b bs (ne_eqb b 10 (λ e. omega (arith, e, low))) (unfed bs both.1)
 
 -- the lines of a spelling, and the empty piece behind the last line feed
-pub lines_again : (ls : List (List (List ℕ))) → list_all is_line ls ≡ true → slice_split (λ b. b == 10) (flat_map line ls) ≡ map (join_with_byte 32) ls ++ [] ∷ []
+pub lines_again : (ls : List (List (List ℕ))) → list_all is_line ls ≡ true
+    → slice_split (λ b. b == 10) (flat_map line ls) ≡ map (join_with_byte 32) ls ++ [] ∷ []
 lines_again [] h = refl
 lines_again (ws ∷ ls) h =
     let both = and_parts (is_line ws) (list_all is_line ls) h in

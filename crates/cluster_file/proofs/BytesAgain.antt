@@ -39,16 +39,20 @@ use Rattle.cluster_file.specs.declared.limits.TheConstants.{MAX_COUNT, MAX_PARTI
 
 -- The lines of a spelling are lines of words.
 
-all_both : {X : Type 0} (p : X → Bool) (xs ys : List X) → list_all p xs ≡ true → list_all p ys ≡ true → list_all p (xs ++ ys) ≡ true
+all_both : {X : Type 0} (p : X → Bool) (xs ys : List X) → list_all p xs ≡ true → list_all p ys ≡ true
+    → list_all p (xs ++ ys) ≡ true
 all_both p xs ys h k = rw (list_all-append, h, k) refl
 
-all_map : {X Y : Type 0} (q : X → Bool) (p : Y → Bool) (f : X → Y) → ((x : X) → q x ≡ true → p (f x) ≡ true) → (xs : List X) → list_all q xs ≡ true → list_all p (map f xs) ≡ true
+all_map : {X Y : Type 0} (q : X → Bool) (p : Y → Bool) (f : X → Y) → ((x : X) → q x ≡ true → p (f x) ≡ true)
+    → (xs : List X) → list_all q xs ≡ true → list_all p (map f xs) ≡ true
 all_map q p f each [] h = refl
 all_map q p f each (x ∷ xs) h =
     let both = and_parts (q x) (list_all q xs) h in
     rw (each x both.0, all_map q p f each xs both.1) refl
 
-all_flat_map : {X Y : Type 0} (q : X → Bool) (p : Y → Bool) (f : X → List Y) → ((x : X) → q x ≡ true → list_all p (f x) ≡ true) → (xs : List X) → list_all q xs ≡ true → list_all p (flat_map f xs) ≡ true
+all_flat_map : {X Y : Type 0} (q : X → Bool) (p : Y → Bool) (f : X → List Y)
+    → ((x : X) → q x ≡ true → list_all p (f x) ≡ true) → (xs : List X) → list_all q xs ≡ true
+    → list_all p (flat_map f xs) ≡ true
 all_flat_map q p f each [] h = refl
 all_flat_map q p f each (x ∷ xs) h =
     let both = and_parts (q x) (list_all q xs) h in
@@ -70,12 +74,14 @@ plain_session s h = by (s == 0)
 nodes_line : (n : ℕ) → n ≤ MAX_NODES → is_line (nodes_words n) ≡ true
 nodes_line n h = rw (plain_decimal n (omega (arith, h))) refl
 
-partition_line : (i : ℕ) (ns : List NodeId) → i < 2 ^ 64 → list_all is_node ns ≡ true → is_line (partition_words i ns) ≡ true
+partition_line : (i : ℕ) (ns : List NodeId) → i < 2 ^ 64 → list_all is_node ns ≡ true
+    → is_line (partition_words i ns) ≡ true
 partition_line i ns h k =
     let long : nat_le 1 (length (codes "partition" ∷ decimal i ∷ map node_word ns)) ≡ true = grind (arith, nat_tests) in
     rw (long, plain_decimal i h, all_map is_node (list_all is_plain) node_word plain_node ns k) refl
 
-partition_lines_are : (i : ℕ) (ps : List (List NodeId)) → i + length ps ≤ MAX_PARTITIONS → list_all (list_all is_node) ps ≡ true → list_all is_line (partition_lines i ps) ≡ true
+partition_lines_are : (i : ℕ) (ps : List (List NodeId)) → i + length ps ≤ MAX_PARTITIONS
+    → list_all (list_all is_node) ps ≡ true → list_all is_line (partition_lines i ps) ≡ true
 partition_lines_are i [] h k = refl
 partition_lines_are i (ns ∷ ps) h k =
     let both = and_parts (list_all is_node ns) (list_all (list_all is_node) ps) k in
@@ -172,7 +178,8 @@ line_again d (w ∷ ws) h =
 more_behind : (xs : List (List ℕ)) → (length (xs ++ [] ∷ []) == 0) ≡ false
 more_behind xs = ne_eqb (length (xs ++ [] ∷ [])) 0 (λ e. omega (arith, e, length-append xs ([] ∷ [])))
 
-pieces_again : (d e : Draft) (n : ℕ) (ls : List (List (List ℕ))) → list_all is_line ls ≡ true → lines_from d ls ≡ Ok e → e.part ≡ part.Items → pieces_from d n (map (join_with_byte 32) ls ++ [] ∷ []) ≡ Ok e
+pieces_again : (d e : Draft) (n : ℕ) (ls : List (List (List ℕ))) → list_all is_line ls ≡ true → lines_from d ls ≡ Ok e
+    → e.part ≡ part.Items → pieces_from d n (map (join_with_byte 32) ls ++ [] ∷ []) ≡ Ok e
 unfolding pieces_from lines_from
 pieces_again d e n [] h k ended =
     let same : d ≡ e = cc in
@@ -182,7 +189,9 @@ pieces_again d e n (ws ∷ ls) h k ended =
     let both = and_parts (is_line ws) (list_all is_line ls) h in
     by (words_line d ws) refl k both.0 (λ f rest. pieces_again f e (n + 1) ls both.1 rest ended)
   where
-    by : (m : Result Draft Why) → words_line d ws ≡ m → (m >>= λ f. lines_from f ls) ≡ Ok e → is_line ws ≡ true → ((f : Draft) → lines_from f ls ≡ Ok e → pieces_from f (n + 1) (map (join_with_byte 32) ls ++ [] ∷ []) ≡ Ok e) → pieces_from d n (join_with_byte 32 ws ∷ (map (join_with_byte 32) ls ++ [] ∷ [])) ≡ Ok e
+    by : (m : Result Draft Why) → words_line d ws ≡ m → (m >>= λ f. lines_from f ls) ≡ Ok e → is_line ws ≡ true
+        → ((f : Draft) → lines_from f ls ≡ Ok e → pieces_from f (n + 1) (map (join_with_byte 32) ls ++ [] ∷ []) ≡ Ok e)
+        → pieces_from d n (join_with_byte 32 ws ∷ (map (join_with_byte 32) ls ++ [] ∷ [])) ≡ Ok e
     by (Ok f) read rest is again =
         ap (λ b. cond b (at_line n (close d (join_with_byte 32 ws))) (at_line n (line_of d (join_with_byte 32 ws)) >>> λ g. pieces_from g (n + 1) (map (join_with_byte 32) ls ++ [] ∷ []))) (more_behind (map (join_with_byte 32) ls))
         ∙ ap (λ m. at_line n m >>> λ g. pieces_from g (n + 1) (map (join_with_byte 32) ls ++ [] ∷ [])) (line_again d ws is ∙ read)

@@ -35,12 +35,14 @@ lines_from d [] = Ok d
 lines_from d (ws ∷ rest) = words_line d ws >>= λ e. lines_from e rest
 
 -- a line that is read
-pub then_lines : (d e : Draft) (ws : List (List ℕ)) (rest : List (List (List ℕ))) (r : Result Draft Why) → words_line d ws ≡ Ok e → lines_from e rest ≡ r → lines_from d (ws ∷ rest) ≡ r
+pub then_lines : (d e : Draft) (ws : List (List ℕ)) (rest : List (List (List ℕ))) (r : Result Draft Why)
+    → words_line d ws ≡ Ok e → lines_from e rest ≡ r → lines_from d (ws ∷ rest) ≡ r
 unfolding lines_from
 then_lines d e ws rest r h k = ap (λ m. m >>= λ f. lines_from f rest) h ∙ k
 
 -- the first of some keys are few where all are
-pub first_few : (ks more all : List Key) → all ≡ ks ++ more → length (key_order all) ≤ MAX_KEYS → length (key_order ks) ≤ MAX_KEYS
+pub first_few : (ks more all : List Key) → all ≡ ks ++ more → length (key_order all) ≤ MAX_KEYS
+    → length (key_order ks) ≤ MAX_KEYS
 first_few ks more all e few = omega (arith, few, fewer_keys ks more, ap (λ l. length (key_order l)) e)
 
 -- The cluster.
@@ -49,7 +51,10 @@ first_few ks more all e few = omega (arith, few, fewer_keys ks more, ap (λ l. l
 abbrev pub placed : Part → ℕ → List (List NodeId) → Draft
 placed p n ps = record { part = p; nodes = n; places = ps; inits = []; scripts = []; script = None; items = []; events = 0; known = record { keys = [] }; numbers = record { keys = [] } }
 
-partition_words_again : (p : Part) (n : ℕ) (ps : List (List NodeId)) (ns : List NodeId) → (p ≡ part.Nodes) ⊎ (p ≡ part.Partitions) → length ps < MAX_PARTITIONS → is_partition ns ≡ true → list_all (λ m. nat_le m n) ns ≡ true → list_all is_node ns ≡ true → words_line (placed p n ps) (partition_words (length ps) ns) ≡ Ok (placed part.Partitions n (ps ++ ns ∷ []))
+partition_words_again : (p : Part) (n : ℕ) (ps : List (List NodeId)) (ns : List NodeId)
+    → (p ≡ part.Nodes) ⊎ (p ≡ part.Partitions) → length ps < MAX_PARTITIONS → is_partition ns ≡ true
+    → list_all (λ m. nat_le m n) ns ≡ true → list_all is_node ns ≡ true
+    → words_line (placed p n ps) (partition_words (length ps) ns) ≡ Ok (placed part.Partitions n (ps ++ ns ∷ []))
 partition_words_again p n ps ns early room one low are =
     let parts = and_parts (nat_le 1 (length ns)) (are_distinct ns) one in
     let some : 1 ≤ length ns = grind (arith, nat_tests, parts.0) in
@@ -58,7 +63,11 @@ partition_words_again p n ps ns early room one low are =
       | inr e ↦ rw e (partition_line_again (placed part.Partitions n ps) ns room some parts.1 low are)
     ]
 
-partitions_again : (n : ℕ) (ps qs : List (List NodeId)) (tail : List (List (List ℕ))) → length (ps ++ qs) ≤ MAX_PARTITIONS → list_all is_partition qs ≡ true → list_all (list_all (λ m. nat_le m n)) qs ≡ true → list_all (list_all is_node) qs ≡ true → lines_from (placed part.Partitions n ps) (partition_lines (length ps) qs ++ tail) ≡ lines_from (placed part.Partitions n (ps ++ qs)) tail
+partitions_again : (n : ℕ) (ps qs : List (List NodeId)) (tail : List (List (List ℕ)))
+    → length (ps ++ qs) ≤ MAX_PARTITIONS → list_all is_partition qs ≡ true
+    → list_all (list_all (λ m. nat_le m n)) qs ≡ true → list_all (list_all is_node) qs ≡ true
+    → lines_from (placed part.Partitions n ps) (partition_lines (length ps) qs ++ tail)
+    ≡ lines_from (placed part.Partitions n (ps ++ qs)) tail
 partitions_again n ps [] tail few each low are = ap (λ l. lines_from (placed part.Partitions n l) tail) (sym (append-nil ps))
 partitions_again n ps (q ∷ qs) tail few each low are =
     let e = and_parts (is_partition q) (list_all is_partition qs) each in
@@ -73,7 +82,10 @@ partitions_again n ps (q ∷ qs) tail few each low are =
     ∙ ap (λ m. lines_from (placed part.Partitions n m) tail) assoc)
 
 -- the partitions from the first on
-pub places_again : (n : ℕ) (qs : List (List NodeId)) (tail : List (List (List ℕ))) → 1 ≤ length qs → length qs ≤ MAX_PARTITIONS → list_all is_partition qs ≡ true → list_all (list_all (λ m. nat_le m n)) qs ≡ true → list_all (list_all is_node) qs ≡ true → lines_from (placed part.Nodes n []) (partition_lines 0 qs ++ tail) ≡ lines_from (placed part.Partitions n qs) tail
+pub places_again : (n : ℕ) (qs : List (List NodeId)) (tail : List (List (List ℕ))) → 1 ≤ length qs
+    → length qs ≤ MAX_PARTITIONS → list_all is_partition qs ≡ true → list_all (list_all (λ m. nat_le m n)) qs ≡ true
+    → list_all (list_all is_node) qs ≡ true
+    → lines_from (placed part.Nodes n []) (partition_lines 0 qs ++ tail) ≡ lines_from (placed part.Partitions n qs) tail
 places_again n [] tail some few each low are = absurd (omega (arith, some))
 places_again n (q ∷ qs) tail some few each low are =
     let e = and_parts (is_partition q) (list_all is_partition qs) each in
@@ -116,7 +128,10 @@ abbrev pub scripted : Part → ℕ → List (List NodeId) → List (Key × Value
 scripted p n ps xs ss = record { part = p; nodes = n; places = ps; inits = xs; scripts = ss; script = None; items = []; events = 0; known = record { keys = key_order (keys_of_document xs ss) }; numbers = record { keys = number_order (script_numbers ss) } }
 
 module _ (n : ℕ) (ps : List (List NodeId)) where
-  init_words_again : (p : Part) (xs : List (Key × Value)) (k : Key) (v : Value) (more : List (Key × Value)) → IsEarly p → are_keys_distinct (xs ++ (k, v) ∷ more) ≡ true → length (key_order (keys_of_document (xs ++ (k, v) ∷ []) [])) ≤ MAX_KEYS → is_key k ≡ true → v < 2 ^ 64 → words_line (scripted p n ps xs []) (init_words (k, v)) ≡ Ok (scripted part.Inits n ps (xs ++ (k, v) ∷ []) [])
+  init_words_again : (p : Part) (xs : List (Key × Value)) (k : Key) (v : Value) (more : List (Key × Value)) → IsEarly p
+      → are_keys_distinct (xs ++ (k, v) ∷ more) ≡ true
+      → length (key_order (keys_of_document (xs ++ (k, v) ∷ []) [])) ≤ MAX_KEYS → is_key k ≡ true → v < 2 ^ 64
+      → words_line (scripted p n ps xs []) (init_words (k, v)) ≡ Ok (scripted part.Inits n ps (xs ++ (k, v) ∷ []) [])
   init_words_again p xs k v more early distinct few is low =
       let fresh : list_any (λ y. same_key y.0 k) xs ≡ false = distinct_before (λ (a b : Key × Value). same_key a.0 b.0) (λ a b. nat_list_eq_equiv.symm a.0 b.0) are_keys_distinct (λ x l. refl) xs (k, v) more distinct in
       let new : list_any (same_key k) (key_order (keys_of_document xs [])) ≡ false = among_keys k (keys_of_document xs []) ∙ sym (known_in_inits xs k) ∙ fresh in
@@ -126,7 +141,8 @@ module _ (n : ℕ) (ps : List (List NodeId)) where
       ∙ init_line_again (record (scripted p n ps xs []) { script = None }) k v new room is low
       ∙ ap (λ ks. Ok (record (scripted part.Inits n ps (xs ++ (k, v) ∷ []) []) { known = record { keys = ks } })) named
     where
-      by : (q : Part) → IsEarly q → words_line (scripted q n ps xs []) (init_words (k, v)) ≡ init_line (scripted q n ps xs []) (k ∷ decimal v ∷ [])
+      by : (q : Part) → IsEarly q → words_line (scripted q n ps xs []) (init_words (k, v))
+          ≡ init_line (scripted q n ps xs []) (k ∷ decimal v ∷ [])
       by part.Start h = absurd h
       by part.Nodes h = absurd h
       by part.Partitions h = refl
@@ -134,8 +150,11 @@ module _ (n : ℕ) (ps : List (List NodeId)) where
       by part.Scripts h = absurd h
       by part.Items h = absurd h
 
-  pub inits_again : (p : Part) (xs ys : List (Key × Value)) (tail : List (List (List ℕ))) (r : Result Draft Why) → IsEarly p → are_keys_distinct (xs ++ ys) ≡ true → length (key_order (keys_of_document (xs ++ ys) [])) ≤ MAX_KEYS → list_all is_init_in_range ys ≡ true
-      → ((q : Part) → IsEarly q → lines_from (scripted q n ps (xs ++ ys) []) tail ≡ r) → lines_from (scripted p n ps xs []) (map init_words ys ++ tail) ≡ r
+  pub inits_again : (p : Part) (xs ys : List (Key × Value)) (tail : List (List (List ℕ))) (r : Result Draft Why)
+      → IsEarly p → are_keys_distinct (xs ++ ys) ≡ true → length (key_order (keys_of_document (xs ++ ys) [])) ≤ MAX_KEYS
+      → list_all is_init_in_range ys ≡ true
+      → ((q : Part) → IsEarly q → lines_from (scripted q n ps (xs ++ ys) []) tail ≡ r)
+      → lines_from (scripted p n ps xs []) (map init_words ys ++ tail) ≡ r
   inits_again p xs [] tail r early distinct few are next = ap (λ l. lines_from (scripted p n ps l []) tail) (sym (append-nil xs)) ∙ next p early
   inits_again p xs (y ∷ ys) tail r early distinct few are next =
       let a = and_parts (is_init_in_range y) (list_all is_init_in_range ys) are in

@@ -24,7 +24,8 @@ use Rattle.cluster_file.proofs.PartsKeep.{plan_item, no_script}
 use Rattle.cluster_file.proofs.LinesKeep.{nodes_keeps, partition_keeps, script_keeps, later_keeps, init_or_later_keeps}
 use Rattle.cluster_file.specs.declared.limits.TheConstants.{MAX_COUNT, MAX_EVENTS}
 
-item_keeps : (d : Draft) (i : Item) → IsBegun (planned d) → is_item d.nodes (script_numbers (d.scripts ++ [])) i ≡ true → d.events + events_of i ≤ MAX_EVENTS → IsBegun (with_item (planned d) i (events_of i))
+item_keeps : (d : Draft) (i : Item) → IsBegun (planned d) → is_item d.nodes (script_numbers (d.scripts ++ [])) i ≡ true
+    → d.events + events_of i ≤ MAX_EVENTS → IsBegun (with_item (planned d) i (events_of i))
 item_keeps d i h ok room = record {
   head = h.head;
   named = h.named;
@@ -54,10 +55,12 @@ next_keeps : (d : Draft) (ws : List (List ℕ)) → IsBegun (planned d) → IfOk
 unfolding next_line
 next_keeps d ws h = then (number_at ws) _ _ (λ n. behind (in_range 1 MAX_EVENTS n.0) _ _ _ (in_range_read 1 MAX_EVENTS n.0) (λ c low. behind (more_events d.events c) _ _ _ (more_events_keeps d.events c) (λ z room. then (end_at n.1) _ _ (λ _. item_keeps d (item.Next c) h (rw (low.1, low.2) refl) room))))
 
-item_line_keeps : (d : Draft) (w : List ℕ) (ws : List (List ℕ)) → IsBegun (planned d) → IfOk (item_line (planned d) w ws) IsBegun
+item_line_keeps : (d : Draft) (w : List ℕ) (ws : List (List ℕ)) → IsBegun (planned d)
+    → IfOk (item_line (planned d) w ws) IsBegun
 item_line_keeps d w ws h = either (is_word w (codes "begin")) _ _ _ (λ e. begin_keeps d ws h) (λ e. either (is_word w (codes "deliver")) _ _ _ (λ e. deliver_keeps d ws h) (λ e. either (is_word w (codes "drop")) _ _ _ (λ e. drop_keeps d ws h) (λ e. either (is_word w (codes "next")) _ _ _ (λ e. next_keeps d ws h) (λ e. either (is_later_item w) _ _ _ (λ e. tt) (λ e. tt)))))
 
-part_keeps : (p : Part) (d : Draft) (w : List ℕ) (ws : List (List ℕ)) → IsBegun (record d { script = None; part = p }) → IfOk (part_line p (record d { script = None; part = p }) w ws) IsBegun
+part_keeps : (p : Part) (d : Draft) (w : List ℕ) (ws : List (List ℕ)) → IsBegun (record d { script = None; part = p })
+    → IfOk (part_line p (record d { script = None; part = p }) w ws) IsBegun
 part_keeps part.Start d w ws h = absurd h.stage
 part_keeps part.Nodes d w ws h = either (is_word w (codes "partition")) _ _ _ (λ e. partition_keeps (record d { script = None; part = part.Nodes }) ws h h.stage.0 h.stage.1 h.stage.2 h.stage.3) (λ e. tt)
 part_keeps part.Partitions d w ws h = either (is_word w (codes "partition")) _ _ _ (λ e. partition_keeps (record d { script = None; part = part.Partitions }) ws h h.stage.0 h.stage.1 h.stage.2 h.stage.3) (λ e. init_or_later_keeps (record d { script = None; part = part.Partitions }) w ws h h.stage.0 h.stage.1 h.stage.2 h.stage.4)
@@ -65,7 +68,8 @@ part_keeps part.Inits d w ws h = init_or_later_keeps (record d { script = None; 
 part_keeps part.Scripts d w ws h = later_keeps (record d { script = None; part = part.Scripts }) w ws h refl h.stage.0 h.stage.1
 part_keeps part.Items d w ws h = item_line_keeps d w ws h
 
-line_in_keeps : (o : Option ScriptData) (p : Part) (d : Draft) (w : List ℕ) (ws : List (List ℕ)) → IsBegun (record d { script = o; part = p }) → IfOk (line_in o (record d { script = None; part = p }) w ws) IsBegun
+line_in_keeps : (o : Option ScriptData) (p : Part) (d : Draft) (w : List ℕ) (ws : List (List ℕ))
+    → IsBegun (record d { script = o; part = p }) → IfOk (line_in o (record d { script = None; part = p }) w ws) IsBegun
 line_in_keeps None p d w ws h = part_keeps p d w ws h
 line_in_keeps (Some s) part.Start d w ws h = absurd h.stage
 line_in_keeps (Some s) part.Nodes d w ws h = let bad : Some s ≡ None = h.stage.1 in cc
@@ -139,5 +143,6 @@ IsDocument-from_whole d w =
     }
 
 -- what is read of a text to its end is a document
-pub IsDocument-from_pieces : (xs : List (List ℕ)) (d : Draft) → pieces_from blank 1 xs ≡ Ok d → IsDocument (document_of d)
+pub IsDocument-from_pieces : (xs : List (List ℕ)) (d : Draft) → pieces_from blank 1 xs ≡ Ok d
+    → IsDocument (document_of d)
 IsDocument-from_pieces xs d e = IsDocument-from_whole d (at_ok (pieces_from blank 1 xs) IsWhole d (blank_pieces_keep 1 xs) e)

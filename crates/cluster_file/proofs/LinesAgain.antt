@@ -35,7 +35,8 @@ abbrev pub running : ℕ → List (List NodeId) → List (Key × Value) → List
 running n ps xs ss items events = record { part = part.Items; nodes = n; places = ps; inits = xs; scripts = ss; script = None; items = items; events = events; known = record { keys = key_order (keys_of_document xs ss) }; numbers = record { keys = number_order (script_numbers ss) } }
 
 module _ (n : ℕ) (ps : List (List NodeId)) (xs : List (Key × Value)) where
-  schedule_again : (p : Part) (ss : List ScriptData) → IsOpen p → words_line (scripted p n ps xs ss) (codes "schedule" ∷ []) ≡ Ok (running n ps xs ss [] 0)
+  schedule_again : (p : Part) (ss : List ScriptData) → IsOpen p
+      → words_line (scripted p n ps xs ss) (codes "schedule" ∷ []) ≡ Ok (running n ps xs ss [] 0)
   unfolding schedule_line
   schedule_again part.Start ss h = absurd h
   schedule_again part.Nodes ss h = absurd h
@@ -44,7 +45,10 @@ module _ (n : ℕ) (ps : List (List NodeId)) (xs : List (Key × Value)) where
   schedule_again part.Scripts ss h = refl
   schedule_again part.Items ss h = absurd h
 
-  item_words_again : (ss : List ScriptData) (items : List Item) (events : ℕ) (i : Item) → events + events_of i ≤ MAX_EVENTS → is_item n (script_numbers ss) i ≡ true → is_item_in_range i ≡ true → is_built_item i ≡ true → words_line (running n ps xs ss items events) (item_words i) ≡ Ok (running n ps xs ss (items ++ i ∷ []) (events + events_of i))
+  item_words_again : (ss : List ScriptData) (items : List Item) (events : ℕ) (i : Item)
+      → events + events_of i ≤ MAX_EVENTS → is_item n (script_numbers ss) i ≡ true → is_item_in_range i ≡ true
+      → is_built_item i ≡ true → words_line (running n ps xs ss items events) (item_words i)
+      ≡ Ok (running n ps xs ss (items ++ i ∷ []) (events + events_of i))
   item_words_again ss items events (item.Begin t) room is short built = begin_line_again (running n ps xs ss items events) t room short (among_numbers t (script_numbers ss) ∙ is)
   item_words_again ss items events (item.Deliver m) room is short built = deliver_line_again (running n ps xs ss items events) m room is short
   item_words_again ss items events (item.Drop m) room is short built = drop_line_again (running n ps xs ss items events) m room is short
@@ -59,7 +63,11 @@ module _ (n : ℕ) (ps : List (List NodeId)) (xs : List (Key × Value)) where
   item_words_again ss items events (item.Restart m) room is short built = cc
   item_words_again ss items events (item.Compact m) room is short built = cc
 
-  items_again : (ss : List ScriptData) (done todo : List Item) (events : ℕ) → events + sum_by events_of todo ≤ MAX_EVENTS → list_all (is_item n (script_numbers ss)) todo ≡ true → list_all is_item_in_range todo ≡ true → list_all is_built_item todo ≡ true → lines_from (running n ps xs ss done events) (map item_words todo) ≡ Ok (running n ps xs ss (done ++ todo) (events + sum_by events_of todo))
+  items_again : (ss : List ScriptData) (done todo : List Item) (events : ℕ)
+      → events + sum_by events_of todo ≤ MAX_EVENTS → list_all (is_item n (script_numbers ss)) todo ≡ true
+      → list_all is_item_in_range todo ≡ true → list_all is_built_item todo ≡ true
+      → lines_from (running n ps xs ss done events) (map item_words todo)
+      ≡ Ok (running n ps xs ss (done ++ todo) (events + sum_by events_of todo))
   unfolding lines_from
   items_again ss done [] events room is short built =
       let none : events ≡ events + sum_by events_of [] = omega arith in
@@ -77,7 +85,8 @@ module _ (n : ℕ) (ps : List (List NodeId)) (xs : List (Key × Value)) where
       ∙ ap (λ e. Ok (running n ps xs ss (done ++ i ∷ todo) e)) count)
 
 -- all lines of a document
-pub document_again : (d : DocumentData) → IsDocument d → IsInRange d → IsBuilt d → lines_from blank (document_lines d) ≡ Ok (running d.cluster.nodes d.cluster.places d.cluster.inits d.scripts d.items (0 + sum_by events_of d.items))
+pub document_again : (d : DocumentData) → IsDocument d → IsInRange d → IsBuilt d → lines_from blank (document_lines d)
+    ≡ Ok (running d.cluster.nodes d.cluster.places d.cluster.inits d.scripts d.items (0 + sum_by events_of d.items))
 document_again d h r b =
     let n = d.cluster.nodes in
     let ps = d.cluster.places in

@@ -37,7 +37,8 @@ nodes_keeps ws = then (number_at ws) _ _ (λ n. behind (in_range 1 MAX_NODES n.0
   stage = (refl, refl, refl, refl);
 })))
 
-pub partition_keeps : (d : Draft) (ws : List (List ℕ)) → IsBegun d → d.scripts ≡ [] → d.script ≡ None → d.items ≡ [] → d.inits ≡ [] → IfOk (partition_line d ws) IsBegun
+pub partition_keeps : (d : Draft) (ws : List (List ℕ)) → IsBegun d → d.scripts ≡ [] → d.script ≡ None → d.items ≡ []
+    → d.inits ≡ [] → IfOk (partition_line d ws) IsBegun
 unfolding partition_line
 partition_keeps d ws h ss none items bare = either (nat_le MAX_PARTITIONS (length d.places)) _ _ _ (λ e. tt) (λ room. then (number_at ws) _ _ (λ i. behind (is_next (length d.places) i.0 i.1) _ _ _ (is_next_keeps (length d.places) i.0 i.1) (λ z some. behind (steps (node_step d.nodes) [] i.1) _ _ _ (steps_keep d.nodes [] i.1 (record { distinct = refl; within = refl }) (omega (arith, some))) (λ ns k.
     let long : length (d.places ++ ns ∷ []) ≡ length d.places + 1 = length-append d.places (ns ∷ []) in
@@ -51,7 +52,8 @@ partition_keeps d ws h ss none items bare = either (nat_le MAX_PARTITIONS (lengt
       stage = (ss, none, items, bare, omega (arith, long));
     }))))
 
-init_keeps : (d : Draft) (ws : List (List ℕ)) → IsBegun d → d.scripts ≡ [] → d.script ≡ None → d.items ≡ [] → 1 ≤ length d.places → IfOk (init_line d ws) IsBegun
+init_keeps : (d : Draft) (ws : List (List ℕ)) → IsBegun d → d.scripts ≡ [] → d.script ≡ None → d.items ≡ []
+    → 1 ≤ length d.places → IfOk (init_line d ws) IsBegun
 unfolding init_line
 init_keeps d ws h ss none items some =
     let bare : all_scripts d ≡ [] = no_script d.scripts d.script none ∙ ss in
@@ -63,7 +65,8 @@ init_keeps d ws h ss none items some =
       stage = (ss, none, items, some);
     })))))
 
-tx_keeps : (d : Draft) (ws : List (List ℕ)) → IsBegun d → d.script ≡ None → d.items ≡ [] → 1 ≤ length d.places → IfOk (tx_line d ws) IsBegun
+tx_keeps : (d : Draft) (ws : List (List ℕ)) → IsBegun d → d.script ≡ None → d.items ≡ [] → 1 ≤ length d.places
+    → IfOk (tx_line d ws) IsBegun
 unfolding tx_line
 tx_keeps d ws h none items some =
     let named : IsNamed d.nodes d.inits d.scripts d.known.keys d.numbers.keys = subst (λ l. IsNamed d.nodes d.inits l d.known.keys d.numbers.keys) (no_script d.scripts d.script none) h.named in
@@ -74,12 +77,15 @@ tx_keeps d ws h none items some =
       stage = (items, some);
     }))
 
-schedule_keeps : (d : Draft) (ws : List (List ℕ)) → IsBegun d → d.script ≡ None → 1 ≤ length d.places → IfOk (schedule_line d ws) IsBegun
+schedule_keeps : (d : Draft) (ws : List (List ℕ)) → IsBegun d → d.script ≡ None → 1 ≤ length d.places
+    → IfOk (schedule_line d ws) IsBegun
 unfolding schedule_line
 schedule_keeps d ws h none some = then (end_at ws) _ _ (λ _. record { head = h.head; named = h.named; plan = h.plan; stage = (none, some) })
 
 -- what a line inside a script makes of it
-follows_keeps : (d : Draft) (s : ScriptData) (line : List (List ℕ)) (x : Stage) (more : BTreeSet Key) → IsBegun (inside d s) → Follows MAX_KEYS d.known s line x more → IsBegun (with_stage (record (outside d) { known = more }) x)
+follows_keeps : (d : Draft) (s : ScriptData) (line : List (List ℕ)) (x : Stage) (more : BTreeSet Key)
+    → IsBegun (inside d s) → Follows MAX_KEYS d.known s line x more
+    → IsBegun (with_stage (record (outside d) { known = more }) x)
 follows_keeps d s line (stage.Open t) more h f = subst (λ (u : ScriptData). IsBegun (inside (record d { known = more }) u)) (sym f.added) (record {
   head = h.head;
   named = named_op d.nodes d.inits d.scripts d.known.keys more.keys d.numbers.keys s f.last h.named (ap (λ (b : BTreeSet Key). b.keys) f.names) f.few;
@@ -93,12 +99,15 @@ follows_keeps d s line (stage.Done t) more h f = rw (f.same, f.names) (record {
   stage = h.stage;
 })
 
-pub script_keeps : (d : Draft) (s : ScriptData) (w : List ℕ) (ws : List (List ℕ)) → IsBegun (inside d s) → IfOk (script_line (outside d) s w ws) IsBegun
+pub script_keeps : (d : Draft) (s : ScriptData) (w : List ℕ) (ws : List (List ℕ)) → IsBegun (inside d s)
+    → IfOk (script_line (outside d) s w ws) IsBegun
 unfolding script_line
 script_keeps d s w ws h = behind (body_line MAX_KEYS d.known s w ws) _ _ _ (body_read MAX_KEYS d.known s w ws) (λ x f. follows_keeps d s (w ∷ ws) x.0 x.1 h f)
 
-pub later_keeps : (d : Draft) (w : List ℕ) (ws : List (List ℕ)) → IsBegun d → d.script ≡ None → d.items ≡ [] → 1 ≤ length d.places → IfOk (later_line d w ws) IsBegun
+pub later_keeps : (d : Draft) (w : List ℕ) (ws : List (List ℕ)) → IsBegun d → d.script ≡ None → d.items ≡ []
+    → 1 ≤ length d.places → IfOk (later_line d w ws) IsBegun
 later_keeps d w ws h none items some = either (is_word w (codes "tx")) _ _ _ (λ e. tx_keeps d ws h none items some) (λ e. either (is_word w (codes "schedule")) _ _ _ (λ e. schedule_keeps d ws h none some) (λ e. tt))
 
-pub init_or_later_keeps : (d : Draft) (w : List ℕ) (ws : List (List ℕ)) → IsBegun d → d.scripts ≡ [] → d.script ≡ None → d.items ≡ [] → 1 ≤ length d.places → IfOk (init_or_later d w ws) IsBegun
+pub init_or_later_keeps : (d : Draft) (w : List ℕ) (ws : List (List ℕ)) → IsBegun d → d.scripts ≡ [] → d.script ≡ None
+    → d.items ≡ [] → 1 ≤ length d.places → IfOk (init_or_later d w ws) IsBegun
 init_or_later_keeps d w ws h ss none items some = either (is_word w (codes "init")) _ _ _ (λ e. init_keeps d ws h ss none items some) (λ e. later_keeps d w ws h none items some)

@@ -64,37 +64,44 @@ pub record Begins (ws : List (List ℕ)) (d : Draft) : Type 0 where
   pub ranges : IsInRangeSoFar d
 
 module _ {X : Type 0} (n x : X) where
-  pub more_schedule : (p i s o c c' : List X) → c' ≡ c ++ x ∷ [] → n ∷ (p ++ (i ++ (s ++ (o ++ c')))) ≡ (n ∷ (p ++ (i ++ (s ++ (o ++ c))))) ++ x ∷ []
+  pub more_schedule : (p i s o c c' : List X) → c' ≡ c ++ x ∷ []
+      → n ∷ (p ++ (i ++ (s ++ (o ++ c')))) ≡ (n ∷ (p ++ (i ++ (s ++ (o ++ c))))) ++ x ∷ []
   more_schedule p i s o c c' e = rw e (simp append_assoc refl)
 
   in_front : (p i s o : List X) → p ++ (i ++ (s ++ (o ++ x ∷ []))) ≡ (p ++ (i ++ (s ++ o))) ++ x ∷ []
   in_front p i s o = sym (append_assoc p (i ++ (s ++ o)) (x ∷ []) ∙ ap (λ l. p ++ l) (append_assoc i (s ++ o) (x ∷ []) ∙ ap (λ l. i ++ l) (append_assoc s o (x ∷ []))))
 
-  pub more_script : (p i s o o' c : List X) → o' ≡ o ++ x ∷ [] → c ≡ [] → n ∷ (p ++ (i ++ (s ++ (o' ++ [])))) ≡ (n ∷ (p ++ (i ++ (s ++ (o ++ c))))) ++ x ∷ []
+  pub more_script : (p i s o o' c : List X) → o' ≡ o ++ x ∷ [] → c ≡ []
+      → n ∷ (p ++ (i ++ (s ++ (o' ++ [])))) ≡ (n ∷ (p ++ (i ++ (s ++ (o ++ c))))) ++ x ∷ []
   more_script p i s o o' c e f = rw (e, f) (
       ap (λ l. n ∷ (p ++ (i ++ (s ++ l)))) (append-nil (o ++ x ∷ []))
       ∙ ap (λ l. n ∷ l) (in_front p i s o)
       ∙ ap (λ l. n ∷ ((p ++ (i ++ (s ++ l))) ++ x ∷ [])) (sym (append-nil o)))
 
-  pub more_scripts : (p i s s' o : List X) → s' ≡ s ++ (o ++ x ∷ []) → n ∷ (p ++ (i ++ (s' ++ []))) ≡ (n ∷ (p ++ (i ++ (s ++ (o ++ []))))) ++ x ∷ []
+  pub more_scripts : (p i s s' o : List X) → s' ≡ s ++ (o ++ x ∷ [])
+      → n ∷ (p ++ (i ++ (s' ++ []))) ≡ (n ∷ (p ++ (i ++ (s ++ (o ++ []))))) ++ x ∷ []
   more_scripts p i s s' o e = rw e (simp append-nil (simp append_assoc refl))
 
-  pub more_inits : (p i i' s o c : List X) → i' ≡ i ++ x ∷ [] → s ≡ [] → o ≡ [] → c ≡ [] → n ∷ (p ++ (i' ++ (s ++ (o ++ [])))) ≡ (n ∷ (p ++ (i ++ (s ++ (o ++ c))))) ++ x ∷ []
+  pub more_inits : (p i i' s o c : List X) → i' ≡ i ++ x ∷ [] → s ≡ [] → o ≡ [] → c ≡ []
+      → n ∷ (p ++ (i' ++ (s ++ (o ++ [])))) ≡ (n ∷ (p ++ (i ++ (s ++ (o ++ c))))) ++ x ∷ []
   more_inits p i i' s o c e f g h = rw (e, f, g, h) (
       ap (λ l. n ∷ (p ++ l)) (append-nil (i ++ x ∷ []))
       ∙ ap (λ l. n ∷ l) (sym (append_assoc p i (x ∷ [])))
       ∙ ap (λ l. n ∷ ((p ++ l) ++ x ∷ [])) (sym (append-nil i)))
 
-  pub more_partitions : (p p' i s o c : List X) → p' ≡ p ++ x ∷ [] → i ≡ [] → s ≡ [] → o ≡ [] → c ≡ [] → n ∷ (p' ++ (i ++ (s ++ (o ++ [])))) ≡ (n ∷ (p ++ (i ++ (s ++ (o ++ c))))) ++ x ∷ []
+  pub more_partitions : (p p' i s o c : List X) → p' ≡ p ++ x ∷ [] → i ≡ [] → s ≡ [] → o ≡ [] → c ≡ []
+      → n ∷ (p' ++ (i ++ (s ++ (o ++ [])))) ≡ (n ∷ (p ++ (i ++ (s ++ (o ++ c))))) ++ x ∷ []
   more_partitions p p' i s o c e d f g h = rw (e, d, f, g, h) (ap (λ l. n ∷ l) (append-nil (p ++ x ∷ [])) ∙ ap (λ l. n ∷ (l ++ x ∷ [])) (sym (append-nil p)))
 
-partition_last : (i : ℕ) (ps : List (List NodeId)) (ns : List NodeId) → partition_lines i (ps ++ ns ∷ []) ≡ partition_lines i ps ++ partition_words (i + length ps) ns ∷ []
+partition_last : (i : ℕ) (ps : List (List NodeId)) (ns : List NodeId)
+    → partition_lines i (ps ++ ns ∷ []) ≡ partition_lines i ps ++ partition_words (i + length ps) ns ∷ []
 partition_last i [] ns = let same : i ≡ i + 0 = omega arith in ap (λ j. partition_words j ns ∷ []) same
 partition_last i (p ∷ ps) ns =
     let same : i + 1 + length ps ≡ i + length (p ∷ ps) = omega arith in
     ap (λ l. partition_words i p ∷ l) (partition_last (i + 1) ps ns ∙ ap (λ j. partition_lines (i + 1) ps ++ partition_words j ns ∷ []) same)
 
-pub partition_next : (ps : List (List NodeId)) (ns : List NodeId) → partition_lines 0 (ps ++ ns ∷ []) ≡ partition_lines 0 ps ++ partition_words (length ps) ns ∷ []
+pub partition_next : (ps : List (List NodeId)) (ns : List NodeId)
+    → partition_lines 0 (ps ++ ns ∷ []) ≡ partition_lines 0 ps ++ partition_words (length ps) ns ∷ []
 partition_next ps ns =
     let same : 0 + length ps ≡ length ps = omega arith in
     partition_last 0 ps ns ∙ ap (λ j. partition_lines 0 ps ++ partition_words j ns ∷ []) same

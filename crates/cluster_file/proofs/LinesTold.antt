@@ -42,27 +42,37 @@ in_cluster nodes n h few =
     let most : nat_le n MAX_NODES ≡ true = grind (arith, nat_tests, both.1, few) in
     rw (both.0, most) refl
 
-node_told : (nodes : ℕ) (w : List ℕ) → IfOk (node_of nodes w) (λ n. (w ≡ node_word n) × (nodes ≤ MAX_NODES → is_node n ≡ true))
+node_told : (nodes : ℕ) (w : List ℕ)
+    → IfOk (node_of nodes w) (λ n. (w ≡ node_word n) × (nodes ≤ MAX_NODES → is_node n ≡ true))
 node_told nodes w = weaken (node_of nodes w) _ _ (node_read nodes w) (λ n h. (h.0, λ few. in_cluster nodes n h.1 few))
 
-node_step_told : (nodes : ℕ) (ns : List NodeId) (w : List ℕ) → IfOk (node_step nodes ns w) (λ ms. (map node_word ms ≡ map node_word ns ++ w ∷ []) × (nodes ≤ MAX_NODES → list_all is_node ns ≡ true → list_all is_node ms ≡ true))
+node_step_told : (nodes : ℕ) (ns : List NodeId) (w : List ℕ) → IfOk (node_step nodes ns w)
+    (λ ms. (map node_word ms ≡ map node_word ns ++ w ∷ [])
+    × (nodes ≤ MAX_NODES → list_all is_node ns ≡ true → list_all is_node ms ≡ true))
 unfolding node_step
 node_step_told nodes ns w = behind (node_of nodes w) _ _ _ (node_told nodes w) (λ n e. then (new_node ns n) _ _ (λ _. (map-append node_word ns (n ∷ []) ∙ ap (λ v. map node_word ns ++ v ∷ []) (sym e.0), λ few are. all_last is_node ns n are (e.1 few))))
 
-nodes_told : (nodes : ℕ) (ns : List NodeId) (ws : List (List ℕ)) → IfOk (steps (node_step nodes) ns ws) (λ ms. (map node_word ms ≡ map node_word ns ++ ws) × (nodes ≤ MAX_NODES → list_all is_node ns ≡ true → list_all is_node ms ≡ true))
+nodes_told : (nodes : ℕ) (ns : List NodeId) (ws : List (List ℕ)) → IfOk (steps (node_step nodes) ns ws)
+    (λ ms. (map node_word ms ≡ map node_word ns ++ ws)
+    × (nodes ≤ MAX_NODES → list_all is_node ns ≡ true → list_all is_node ms ≡ true))
 unfolding steps
 nodes_told nodes ns [] = (sym (append-nil (map node_word ns)), λ few are. are)
 nodes_told nodes ns (w ∷ ws) = behind (node_step nodes ns w) _ _ _ (node_step_told nodes ns w) (λ ms e. by (steps (node_step nodes) ms ws) ms (nodes_told nodes ms ws) (ap (λ l. l ++ ws) e.0 ∙ append_assoc (map node_word ns) (w ∷ []) ws) e.1)
   where
-    by : (m : Result (List NodeId) Why) (ms : List NodeId) → IfOk m (λ ks. (map node_word ks ≡ map node_word ms ++ ws) × (nodes ≤ MAX_NODES → list_all is_node ms ≡ true → list_all is_node ks ≡ true)) → map node_word ms ++ ws ≡ map node_word ns ++ w ∷ ws → (nodes ≤ MAX_NODES → list_all is_node ns ≡ true → list_all is_node ms ≡ true)
-        → IfOk m (λ ks. (map node_word ks ≡ map node_word ns ++ w ∷ ws) × (nodes ≤ MAX_NODES → list_all is_node ns ≡ true → list_all is_node ks ≡ true))
+    by : (m : Result (List NodeId) Why) (ms : List NodeId) → IfOk m (λ ks. (map node_word ks ≡ map node_word ms ++ ws)
+        × (nodes ≤ MAX_NODES → list_all is_node ms ≡ true → list_all is_node ks ≡ true))
+        → map node_word ms ++ ws ≡ map node_word ns ++ w ∷ ws
+        → (nodes ≤ MAX_NODES → list_all is_node ns ≡ true → list_all is_node ms ≡ true)
+        → IfOk m (λ ks. (map node_word ks ≡ map node_word ns ++ w ∷ ws)
+        × (nodes ≤ MAX_NODES → list_all is_node ns ≡ true → list_all is_node ks ≡ true))
     by (Ok ks) ms h e are = (h.0 ∙ e, λ few is. h.1 few (are few is))
     by (Err v) ms h e are = tt
 
 -- The lines.
 
 -- a number as the only word
-pub one_number : (ws : List (List ℕ)) (n : ℕ × List (List ℕ)) (m : ℕ) → ws ≡ decimal n.0 ∷ n.1 → m ≡ n.0 → n.1 ≡ [] → decimal m ∷ [] ≡ ws
+pub one_number : (ws : List (List ℕ)) (n : ℕ × List (List ℕ)) (m : ℕ) → ws ≡ decimal n.0 ∷ n.1 → m ≡ n.0 → n.1 ≡ []
+    → decimal m ∷ [] ≡ ws
 one_number ws n m words same none = ap (λ k. decimal k ∷ []) same ∙ ap (λ l. decimal n.0 ∷ l) (sym none) ∙ sym words
 
 -- the first line
@@ -74,7 +84,8 @@ first_told ws = behind (number_at ws) _ _ _ (number_read ws) (λ n words. behind
       ranges = record { places = refl; inits = refl; scripts = refl; opened = tt; items = refl; built = refl };
     })))
 
-pub partition_told : (d : Draft) (ws : List (List ℕ)) → d.inits ≡ [] → d.scripts ≡ [] → d.script ≡ None → schedule_lines d.part d.items ≡ [] → IfOk (partition_line d ws) (Adds d (codes "partition" ∷ ws))
+pub partition_told : (d : Draft) (ws : List (List ℕ)) → d.inits ≡ [] → d.scripts ≡ [] → d.script ≡ None
+    → schedule_lines d.part d.items ≡ [] → IfOk (partition_line d ws) (Adds d (codes "partition" ∷ ws))
 unfolding partition_line
 partition_told d ws bare ss none quiet = either (nat_le MAX_PARTITIONS (length d.places)) _ _ _ (λ _. tt) (λ _. behind (number_at ws) _ _ _ (number_read ws) (λ i words. behind (is_next (length d.places) i.0 i.1) _ _ _ (next_told (length d.places) i.0 i.1) (λ z same. behind (steps (node_step d.nodes) [] i.1) _ _ _ (nodes_told d.nodes [] i.1) (λ ns nodes.
     let all : partition_words (length d.places) ns ≡ codes "partition" ∷ ws = ap (λ l. codes "partition" ∷ decimal (length d.places) ∷ l) nodes.0 ∙ ap (λ j. codes "partition" ∷ decimal j ∷ i.1) (sym same) ∙ ap (λ l. codes "partition" ∷ l) (sym words.0) in
@@ -88,7 +99,8 @@ partition_told d ws bare ss none quiet = either (nat_le MAX_PARTITIONS (length d
     next_told : (next i : ℕ) (us : List (List ℕ)) → IfOk (is_next next i us) (λ _. i ≡ next)
     next_told next i us = either (i == next) _ _ _ (λ e. either (length us == 0) _ _ _ (λ f. tt) (λ f. grind (arith, nat_tests, e))) (λ e. tt)
 
-pub init_told : (d : Draft) (ws : List (List ℕ)) → d.scripts ≡ [] → d.script ≡ None → schedule_lines d.part d.items ≡ [] → IfOk (init_line d ws) (Adds d (codes "init" ∷ ws))
+pub init_told : (d : Draft) (ws : List (List ℕ)) → d.scripts ≡ [] → d.script ≡ None → schedule_lines d.part d.items ≡ []
+    → IfOk (init_line d ws) (Adds d (codes "init" ∷ ws))
 unfolding init_line
 init_told d ws ss none quiet = behind (word_at ws) _ _ _ (word_read ws) (λ w words. behind (key_of w.0) _ _ _ (key_read w.0) (λ k key. then (name_new_key d.known k) _ _ (λ known. behind (number_at w.1) _ _ _ (number_read w.1) (λ v value. behind (end_at v.1) _ _ _ (end_read v.1) (λ z none_left.
     let all : ws ≡ k ∷ decimal v.0 ∷ [] = words ∙ ap (λ l. l ∷ w.1) key.0 ∙ ap (λ l. k ∷ l) (value.0 ∙ ap (λ l. decimal v.0 ∷ l) none_left) in
@@ -101,7 +113,8 @@ init_told d ws ss none quiet = behind (word_at ws) _ _ _ (word_read ws) (λ w wo
       ranges = λ few r. record { places = r.places; inits = all_last is_init_in_range d.inits (k, v.0) r.inits one; scripts = r.scripts; opened = r.opened; items = r.items; built = r.built };
     })))))
 
-pub tx_lines_told : (d : Draft) (ws : List (List ℕ)) → d.script ≡ None → schedule_lines d.part d.items ≡ [] → IfOk (tx_line d ws) (Adds d (codes "tx" ∷ ws))
+pub tx_lines_told : (d : Draft) (ws : List (List ℕ)) → d.script ≡ None → schedule_lines d.part d.items ≡ []
+    → IfOk (tx_line d ws) (Adds d (codes "tx" ∷ ws))
 unfolding tx_line
 tx_lines_told d ws none quiet = either (nat_le MAX_SCRIPTS (length d.scripts)) _ _ _ (λ _. tt) (λ _. behind (first_line d.nodes d.numbers ws) _ _ _ (first_line_read d.nodes d.numbers ws) (λ s first. record {
   lines = more_script _ _ (partition_lines 0 d.places) (map init_words d.inits) (flat_map script_words d.scripts) (open_lines d.script) (open_lines (Some s)) (schedule_lines d.part d.items)
@@ -124,12 +137,14 @@ tx_lines_told d ws none quiet = either (nat_le MAX_SCRIPTS (length d.scripts)) _
 }))
 
 -- with room for one more operation, they stay a front
-front_more : (ops : List Op) (o : Op) → length ops < MAX_OPS → is_op_among (known_keys ops) o ≡ true → IsFront ops → IsFront (ops ++ o ∷ [])
+front_more : (ops : List Op) (o : Op) → length ops < MAX_OPS → is_op_among (known_keys ops) o ≡ true → IsFront ops
+    → IsFront (ops ++ o ∷ [])
 front_more ops (op.Read k) room among front = IsFront-read {E = ℕ} (Ok k) ops (ops ++ op.Read k ∷ []) k front room refl tt
 front_more ops (op.Write k e) room among front = IsFront-write {E = ℕ} (Ok k) ops (ops ++ op.Write k e ∷ []) k e front room among refl tt
 
 -- a line of an operation adds its words
-op_lines : (d : Draft) (s : ScriptData) (o : Op) (ws : List (List ℕ)) → ws ≡ op_words o → lines_so_far (inside d (record s { ops = s.ops ++ o ∷ [] })) ≡ lines_so_far (inside d s) ++ ws ∷ []
+op_lines : (d : Draft) (s : ScriptData) (o : Op) (ws : List (List ℕ)) → ws ≡ op_words o
+    → lines_so_far (inside d (record s { ops = s.ops ++ o ∷ [] })) ≡ lines_so_far (inside d s) ++ ws ∷ []
 op_lines d s o ws e =
     more_script _ _ (partition_lines 0 d.places) (map init_words d.inits) (flat_map script_words d.scripts) (tx_words s ∷ map op_words s.ops) (tx_words s ∷ map op_words (s.ops ++ o ∷ [])) []
     (ap (λ l. tx_words s ∷ l) (map-append op_words s.ops (o ∷ []) ∙ ap (λ l. map op_words s.ops ++ l ∷ []) (sym e)))
@@ -143,7 +158,9 @@ script_ranges s h least =
     rw (h.number, h.home, h.session, least, most, h.keys, sound) refl
 
 -- what a line inside a script makes of it
-follows_told : (d : Draft) (s : ScriptData) (line : List (List ℕ)) (x : Stage) (more : BTreeSet Key) → Follows MAX_KEYS d.known s line x more → Adds (inside d s) line (with_stage (record (outside d) { known = more }) x)
+follows_told : (d : Draft) (s : ScriptData) (line : List (List ℕ)) (x : Stage) (more : BTreeSet Key)
+    → Follows MAX_KEYS d.known s line x more
+    → Adds (inside d s) line (with_stage (record (outside d) { known = more }) x)
 follows_told d s line (stage.Open t) more f = subst (λ (u : ScriptData). Adds (inside d s) line (inside (record d { known = more }) u)) (sym f.added) (record {
   lines = op_lines d s f.last line f.spelled;
   ranges = λ few r. record {
@@ -169,6 +186,7 @@ follows_told d s line (stage.Done t) more f = rw f.same (
       ranges = λ few r. record { places = r.places; inits = r.inits; scripts = all_last is_script_in_range d.scripts s r.scripts (script_ranges s r.opened least); opened = tt; items = r.items; built = r.built };
     })
 
-pub script_told : (d : Draft) (s : ScriptData) (w : List ℕ) (ws : List (List ℕ)) → IfOk (script_line (outside d) s w ws) (Adds (inside d s) (w ∷ ws))
+pub script_told : (d : Draft) (s : ScriptData) (w : List ℕ) (ws : List (List ℕ))
+    → IfOk (script_line (outside d) s w ws) (Adds (inside d s) (w ∷ ws))
 unfolding script_line
 script_told d s w ws = behind (body_line MAX_KEYS d.known s w ws) _ _ _ (body_read MAX_KEYS d.known s w ws) (λ x f. follows_told d s (w ∷ ws) x.0 x.1 f)

@@ -24,7 +24,9 @@ module _ {K : Type 0} (cmp : K → K → Ordering) (p : K → Bool) (same : (k x
   list_any_insert k [] = refl
   list_any_insert k (x ∷ xs) = by (cmp k x) refl (list_any_insert k xs)
     where
-      by : (r : Ordering) → cmp k x ≡ r → list_any p (insert_key cmp xs k) ≡ (p k || list_any p xs) → list_any p (match_ordering r (k ∷ x ∷ xs) (x ∷ xs) (x ∷ insert_key cmp xs k)) ≡ (p k || (p x || list_any p xs))
+      by : (r : Ordering) → cmp k x ≡ r → list_any p (insert_key cmp xs k) ≡ (p k || list_any p xs)
+          → list_any p (match_ordering r (k ∷ x ∷ xs) (x ∷ xs) (x ∷ insert_key cmp xs k))
+          ≡ (p k || (p x || list_any p xs))
       by Less e h = refl
       by Equal e h = rw (same k x e) (or_twice (p k) (list_any p xs))
       by Greater e h = rw h (or_swap (p x) (p k) (list_any p xs))
@@ -42,7 +44,9 @@ pub among_keys : (k : Key) (ks : List Key) → list_any (same_key k) (key_order 
 among_keys k ks = list_any_fold (slice_cmp nat_cmp) (same_key k) (λ y x e. ap (same_key k) (sym (exact_bytes y x e))) [] ks
 
 -- a list is distinct with one more member that is not among it
-pub distinct_more : {K : Type 0} (eq : K → K → Bool) (sides : (a b : K) → eq a b ≡ eq b a) (f : List K → Bool) (none : f [] ≡ true) (one : (x : K) (xs : List K) → f (x ∷ xs) ≡ (not (list_any (λ y. eq y x) xs) && f xs)) (xs : List K) (n : K) → f xs ≡ true → list_any (λ y. eq y n) xs ≡ false → f (xs ++ n ∷ []) ≡ true
+pub distinct_more : {K : Type 0} (eq : K → K → Bool) (sides : (a b : K) → eq a b ≡ eq b a) (f : List K → Bool)
+    (none : f [] ≡ true) (one : (x : K) (xs : List K) → f (x ∷ xs) ≡ (not (list_any (λ y. eq y x) xs) && f xs))
+    (xs : List K) (n : K) → f xs ≡ true → list_any (λ y. eq y n) xs ≡ false → f (xs ++ n ∷ []) ≡ true
 distinct_more eq sides f none one [] n d new = rw (one n [], none) refl
 distinct_more eq sides f none one (x ∷ xs) n d new =
     let parts = and_parts (not (list_any (λ y. eq y x) xs)) (f xs) (sym (one x xs) ∙ d) in
@@ -53,7 +57,9 @@ distinct_more eq sides f none one (x ∷ xs) n d new =
     rw (one x (xs ++ n ∷ []), list_any-append, old, other, rest) refl
 
 -- of a distinct list, no member stands among those before it
-pub distinct_before : {K : Type 0} (eq : K → K → Bool) (sides : (a b : K) → eq a b ≡ eq b a) (f : List K → Bool) (one : (x : K) (xs : List K) → f (x ∷ xs) ≡ (not (list_any (λ y. eq y x) xs) && f xs)) (xs : List K) (n : K) (ys : List K) → f (xs ++ n ∷ ys) ≡ true → list_any (λ y. eq y n) xs ≡ false
+pub distinct_before : {K : Type 0} (eq : K → K → Bool) (sides : (a b : K) → eq a b ≡ eq b a) (f : List K → Bool)
+    (one : (x : K) (xs : List K) → f (x ∷ xs) ≡ (not (list_any (λ y. eq y x) xs) && f xs)) (xs : List K) (n : K)
+    (ys : List K) → f (xs ++ n ∷ ys) ≡ true → list_any (λ y. eq y n) xs ≡ false
 distinct_before eq sides f one [] n ys d = refl
 distinct_before eq sides f one (x ∷ xs) n ys d =
     let parts = and_parts (not (list_any (λ y. eq y x) (xs ++ n ∷ ys))) (f (xs ++ n ∷ ys)) (sym (one x (xs ++ n ∷ ys)) ∙ d) in
@@ -67,12 +73,14 @@ longer_insert : {K : Type 0} (cmp : K → K → Ordering) (k : K) (ks : List K) 
 longer_insert cmp k [] = omega arith
 longer_insert cmp k (x ∷ xs) = by (cmp k x) (longer_insert cmp k xs)
   where
-    by : (r : Ordering) → length xs ≤ length (insert_key cmp xs k) → length (x ∷ xs) ≤ length (match_ordering r (k ∷ x ∷ xs) (x ∷ xs) (x ∷ insert_key cmp xs k))
+    by : (r : Ordering) → length xs ≤ length (insert_key cmp xs k)
+        → length (x ∷ xs) ≤ length (match_ordering r (k ∷ x ∷ xs) (x ∷ xs) (x ∷ insert_key cmp xs k))
     by Less h = omega arith
     by Equal h = omega arith
     by Greater h = omega (arith, h)
 
-longer_fold : {K : Type 0} (cmp : K → K → Ordering) (acc ks : List K) → length acc ≤ length (fold (insert_key cmp) acc ks)
+longer_fold : {K : Type 0} (cmp : K → K → Ordering) (acc ks : List K)
+    → length acc ≤ length (fold (insert_key cmp) acc ks)
 longer_fold cmp acc [] = omega arith
 longer_fold cmp acc (k ∷ ks) = omega (arith, longer_insert cmp k acc, longer_fold cmp (insert_key cmp acc k) ks)
 

@@ -48,7 +48,8 @@ line_bytes : (x : List ℕ) → line (cut x) ≡ x ++ 10 ∷ []
 line_bytes x = ap (λ l. l ++ 10 ∷ []) (join_with_byte-slice_split 32 x)
 
 -- the bytes behind one more line
-more_bytes : (d e : Draft) (x more : List ℕ) → Adds d (cut x) e → bytes_so_far e ++ more ≡ bytes_so_far d ++ (x ++ 10 ∷ more)
+more_bytes : (d e : Draft) (x more : List ℕ) → Adds d (cut x) e
+    → bytes_so_far e ++ more ≡ bytes_so_far d ++ (x ++ 10 ∷ more)
 more_bytes d e x more h =
     ap (λ ls. flat_map line ls ++ more) h.lines
     ∙ ap (λ l. l ++ more) (flat_map-append line (lines_so_far d) (cut x ∷ []) ∙ ap (λ l. bytes_so_far d ++ l) (append-nil (line (cut x)) ∙ line_bytes x))
@@ -61,13 +62,15 @@ first_bytes e x more h =
     ∙ ap (λ l. l ++ more) (append-nil (line (cut x)) ∙ line_bytes x)
     ∙ append_assoc x (10 ∷ []) more
 
-close_told : (d : Draft) (x : List ℕ) → IfOk (close d x) (λ e. (bytes_so_far e ≡ bytes_so_far d ++ x) × (IsInRangeSoFar d → IsInRangeSoFar e))
+close_told : (d : Draft) (x : List ℕ)
+    → IfOk (close d x) (λ e. (bytes_so_far e ≡ bytes_so_far d ++ x) × (IsInRangeSoFar d → IsInRangeSoFar e))
 close_told d x = either ((length x == 0) && is_whole d.part) _ _ _ (λ e. (sym (ap (λ l. bytes_so_far d ++ l) (empty_list x (and_parts (length x == 0) (is_whole d.part) e).0) ∙ append-nil (bytes_so_far d)), λ r. r)) (λ _. tt)
 
 more_left : (y : List ℕ) (rest : List (List ℕ)) → (length (y ∷ rest) == 0) ≡ true → ⊥
 more_left y rest e = grind (arith, nat_tests, e)
 
-pieces_told : (d : Draft) (n : ℕ) (xs : List (List ℕ)) → IsBegun d → IfOk (pieces_from d n xs) (λ e. (bytes_so_far e ≡ bytes_so_far d ++ join_with_byte 10 xs) × (IsInRangeSoFar d → IsInRangeSoFar e))
+pieces_told : (d : Draft) (n : ℕ) (xs : List (List ℕ)) → IsBegun d → IfOk (pieces_from d n xs)
+    (λ e. (bytes_so_far e ≡ bytes_so_far d ++ join_with_byte 10 xs) × (IsInRangeSoFar d → IsInRangeSoFar e))
 unfolding pieces_from
 pieces_told d n [] h = tt
 pieces_told d n (x ∷ []) h = numbered n (close d x) _ (close_told d x)
@@ -75,7 +78,8 @@ pieces_told d n (x ∷ y ∷ rest) h = either (length (y ∷ rest) == 0) _ _ _ (
     below (at_line n (line_of d x)) _ (λ f. IsBegun f × Adds d (cut x) f) _ (numbered n (line_of d x) _ (both (line_of d x) IsBegun (Adds d (cut x)) (line_keeps d x h) (line_told d x h))) (λ f k.
     weaken (pieces_from f (n + 1) (y ∷ rest)) _ _ (pieces_told f (n + 1) (y ∷ rest) k.0) (λ e same. (same.0 ∙ more_bytes d f x (join_with_byte 10 (y ∷ rest)) k.1, λ r. same.1 (k.1.ranges h.head.most r)))))
 
-blank_pieces_told : (n : ℕ) (xs : List (List ℕ)) → IfOk (pieces_from blank n xs) (λ e. (bytes_so_far e ≡ join_with_byte 10 xs) × IsInRangeSoFar e)
+blank_pieces_told : (n : ℕ) (xs : List (List ℕ))
+    → IfOk (pieces_from blank n xs) (λ e. (bytes_so_far e ≡ join_with_byte 10 xs) × IsInRangeSoFar e)
 unfolding pieces_from
 blank_pieces_told n [] = tt
 blank_pieces_told n (x ∷ []) = numbered n (close blank x) _ (either ((length x == 0) && false) _ _ _ (λ e. let bad : false ≡ true = (and_parts (length x == 0) false e).1 in cc) (λ _. tt))
@@ -143,7 +147,9 @@ pub spelled : (bytes : List ℕ) (d : DocumentData) → doc bytes ≡ Ok d → I
 unfolding doc
 spelled bytes d h = by (pieces_from blank 1 (slice_split (λ b. b == 10) bytes)) refl (blank_pieces_told 1 (slice_split (λ b. b == 10) bytes)) (blank_pieces_keep 1 (slice_split (λ b. b == 10) bytes)) h
   where
-    by : (r : Result Draft Refusal) → pieces_from blank 1 (slice_split (λ b. b == 10) bytes) ≡ r → IfOk r (λ e. (bytes_so_far e ≡ join_with_byte 10 (slice_split (λ b. b == 10) bytes)) × IsInRangeSoFar e) → IfOk r IsWhole → (r >>> λ e. Ok (document_of e)) ≡ Ok d → IsSpelled bytes d
+    by : (r : Result Draft Refusal) → pieces_from blank 1 (slice_split (λ b. b == 10) bytes) ≡ r
+        → IfOk r (λ e. (bytes_so_far e ≡ join_with_byte 10 (slice_split (λ b. b == 10) bytes)) × IsInRangeSoFar e)
+        → IfOk r IsWhole → (r >>> λ e. Ok (document_of e)) ≡ Ok d → IsSpelled bytes d
     by (Ok e) read told whole same =
         let found : document_of e ≡ d = cc in
         subst (IsSpelled bytes) found (record {

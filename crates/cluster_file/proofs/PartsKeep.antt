@@ -43,7 +43,8 @@ pub record IsNodes (nodes : ℕ) (ns : List NodeId) : Type 0 where
   pub distinct : are_distinct ns ≡ true
   pub within : list_all (λ n. nat_le n nodes) ns ≡ true
 
-node_step_keeps : (nodes : ℕ) (ns : List NodeId) (w : List ℕ) → IsNodes nodes ns → IfOk (node_step nodes ns w) (λ ms. IsNodes nodes ms × (length ms ≡ length ns + 1))
+node_step_keeps : (nodes : ℕ) (ns : List NodeId) (w : List ℕ) → IsNodes nodes ns
+    → IfOk (node_step nodes ns w) (λ ms. IsNodes nodes ms × (length ms ≡ length ns + 1))
 unfolding node_step
 node_step_keeps nodes ns w h = behind (node_of nodes w) _ _ _ (node_of_keeps nodes w) (λ n low. behind (new_node ns n) _ (λ _. list_any (λ m. m == n) ns ≡ false) _ (either (list_any (λ m. m == n) ns) _ _ _ (λ e. tt) (λ e. e)) (λ z new. (
   record {
@@ -53,7 +54,8 @@ node_step_keeps nodes ns w h = behind (node_of nodes w) _ _ _ (node_of_keeps nod
   length-append ns (n ∷ []),
 )))
 
-pub steps_keep : (nodes : ℕ) (ns : List NodeId) (ws : List (List ℕ)) → IsNodes nodes ns → 1 ≤ length ns + length ws → IfOk (steps (node_step nodes) ns ws) (λ ms. IsNodes nodes ms × (1 ≤ length ms))
+pub steps_keep : (nodes : ℕ) (ns : List NodeId) (ws : List (List ℕ)) → IsNodes nodes ns → 1 ≤ length ns + length ws
+    → IfOk (steps (node_step nodes) ns ws) (λ ms. IsNodes nodes ms × (1 ≤ length ms))
 unfolding steps
 steps_keep nodes ns [] h some = (h, omega arith)
 steps_keep nodes ns (w ∷ ws) h some = behind (node_step nodes ns w) _ _ _ (node_step_keeps nodes ns w h) (λ ms k. steps_keep nodes ms ws k.0 (omega (arith, k.1, some)))
@@ -61,12 +63,17 @@ steps_keep nodes ns (w ∷ ws) h some = behind (node_step nodes ns w) _ _ _ (nod
 pub is_next_keeps : (next i : ℕ) (ws : List (List ℕ)) → IfOk (is_next next i ws) (λ _. 1 ≤ length ws)
 is_next_keeps next i ws = either (i == next) _ _ _ (λ e. either (length ws == 0) _ _ _ (λ f. tt) (λ f. grind (arith, nat_tests, f))) (λ e. tt)
 
-pub name_new_key_keeps : (known : BTreeSet Key) (k : Key) → IfOk (name_new_key known k) (λ new. (new.keys ≡ insert_key (slice_cmp nat_cmp) known.keys k) × (length new.keys ≤ MAX_KEYS) × (list_any (same_key k) known.keys ≡ false))
+pub name_new_key_keeps : (known : BTreeSet Key) (k : Key) → IfOk (name_new_key known k)
+    (λ new. (new.keys ≡ insert_key (slice_cmp nat_cmp) known.keys k) × (length new.keys ≤ MAX_KEYS)
+    × (list_any (same_key k) known.keys ≡ false))
 name_new_key_keeps known k = either (has_name known k) _ _ _ (λ e. tt) (λ e. weaken (name_key MAX_KEYS known k) _ _ (name_read MAX_KEYS known k) (λ new h. (ap (λ (b : BTreeSet Key). b.keys) h.0, h.1, e)))
 
 -- The parts with one more member.
 
-pub named_init : (nodes : ℕ) (inits : List (Key × Value)) (known ks : List Key) (numbers : List TxId) (k : Key) (v : Value) → IsNamed nodes inits [] known numbers → list_any (same_key k) known ≡ false → ks ≡ insert_key (slice_cmp nat_cmp) known k → length ks ≤ MAX_KEYS → IsNamed nodes (inits ++ (k, v) ∷ []) [] ks numbers
+pub named_init : (nodes : ℕ) (inits : List (Key × Value)) (known ks : List Key) (numbers : List TxId) (k : Key)
+    (v : Value) → IsNamed nodes inits [] known numbers → list_any (same_key k) known ≡ false
+    → ks ≡ insert_key (slice_cmp nat_cmp) known k → length ks ≤ MAX_KEYS
+    → IsNamed nodes (inits ++ (k, v) ∷ []) [] ks numbers
 named_init nodes inits known ks numbers k v h new same few = record {
   fresh = distinct_more (λ (a b : Key × Value). same_key a.0 b.0) (λ a b. nat_list_eq_equiv.symm a.0 b.0) are_keys_distinct refl (λ x xs. refl) inits (k, v) h.fresh (known_in_inits inits k ∙ sym (among_keys k (keys_of_document inits [])) ∙ ap (list_any (same_key k)) (sym h.ordered) ∙ new);
   few = h.few;
@@ -77,7 +84,10 @@ named_init nodes inits known ks numbers k v h new same few = record {
   taken = h.taken;
 }
 
-pub named_tx : (nodes : ℕ) (inits : List (Key × Value)) (ss : List ScriptData) (known : List Key) (numbers : List TxId) (s : ScriptData) → IsNamed nodes inits ss known numbers → length ss < MAX_SCRIPTS → nat_le s.home nodes ≡ true → list_any (λ u. u == s.number) numbers ≡ false → s.ops ≡ [] → IsNamed nodes inits (ss ++ s ∷ []) known (insert_key nat_cmp numbers s.number)
+pub named_tx : (nodes : ℕ) (inits : List (Key × Value)) (ss : List ScriptData) (known : List Key) (numbers : List TxId)
+    (s : ScriptData) → IsNamed nodes inits ss known numbers → length ss < MAX_SCRIPTS → nat_le s.home nodes ≡ true
+    → list_any (λ u. u == s.number) numbers ≡ false → s.ops ≡ []
+    → IsNamed nodes inits (ss ++ s ∷ []) known (insert_key nat_cmp numbers s.number)
 named_tx nodes inits ss known numbers s h room home new none = record {
   fresh = h.fresh;
   few = omega (arith, length-append ss (s ∷ []), room);
@@ -88,7 +98,10 @@ named_tx nodes inits ss known numbers s h room home new none = record {
   taken = ap (λ l. insert_key nat_cmp l s.number) h.taken ∙ sym (number_order_last (script_numbers ss) s.number) ∙ ap number_order (sym (numbers_last ss s));
 }
 
-pub named_op : (nodes : ℕ) (inits : List (Key × Value)) (ss : List ScriptData) (known ks : List Key) (numbers : List TxId) (s : ScriptData) (o : Op) → IsNamed nodes inits (ss ++ s ∷ []) known numbers → ks ≡ insert_key (slice_cmp nat_cmp) known (reads.key_of o) → length ks ≤ MAX_KEYS → IsNamed nodes inits (ss ++ record s { ops = s.ops ++ o ∷ [] } ∷ []) ks numbers
+pub named_op : (nodes : ℕ) (inits : List (Key × Value)) (ss : List ScriptData) (known ks : List Key)
+    (numbers : List TxId) (s : ScriptData) (o : Op) → IsNamed nodes inits (ss ++ s ∷ []) known numbers
+    → ks ≡ insert_key (slice_cmp nat_cmp) known (reads.key_of o) → length ks ≤ MAX_KEYS
+    → IsNamed nodes inits (ss ++ record s { ops = s.ops ++ o ∷ [] } ∷ []) ks numbers
 named_op nodes inits ss known ks numbers s o h same few =
     let t : ScriptData = record s { ops = s.ops ++ o ∷ [] } in
     let ts : script_numbers (ss ++ t ∷ []) ≡ script_numbers (ss ++ s ∷ []) = numbers_last ss t ∙ sym (numbers_last ss s) in
@@ -103,14 +116,17 @@ named_op nodes inits ss known ks numbers s o h same few =
       taken = h.taken ∙ ap number_order (sym ts);
     }
 
-pub plan_none : (nodes : ℕ) (ts us : List TxId) (items : List Item) (events : ℕ) → items ≡ [] → IsPlan nodes ts items events → IsPlan nodes us items events
+pub plan_none : (nodes : ℕ) (ts us : List TxId) (items : List Item) (events : ℕ) → items ≡ []
+    → IsPlan nodes ts items events → IsPlan nodes us items events
 plan_none nodes ts us items events none h = record {
   each = subst (λ is. list_all (is_item nodes us) is ≡ true) (sym none) refl;
   counted = h.counted;
   few = h.few;
 }
 
-pub plan_item : (nodes : ℕ) (ts : List TxId) (items : List Item) (events : ℕ) (i : Item) → IsPlan nodes ts items events → is_item nodes ts i ≡ true → events + events_of i ≤ MAX_EVENTS → IsPlan nodes ts (items ++ i ∷ []) (events + events_of i)
+pub plan_item : (nodes : ℕ) (ts : List TxId) (items : List Item) (events : ℕ) (i : Item) → IsPlan nodes ts items events
+    → is_item nodes ts i ≡ true → events + events_of i ≤ MAX_EVENTS
+    → IsPlan nodes ts (items ++ i ∷ []) (events + events_of i)
 plan_item nodes ts items events i h ok room = record {
   each = all_last (is_item nodes ts) items i h.each ok;
   counted = omega (arith, h.counted, sum_by_push events_of items i);

@@ -62,7 +62,10 @@ module _ (n : ℕ) (ps : List (List NodeId)) (xs : List (Key × Value)) where
       by part.Scripts h = refl
       by part.Items h = absurd h
 
-  op_words_again : (ss : List ScriptData) (s : ScriptData) (o : Op) (todo : List Op) → length s.ops < MAX_OPS → length (key_order (keys_of_document xs (ss ++ record s { ops = s.ops ++ o ∷ [] } ∷ []))) ≤ MAX_KEYS → is_plain_op o ≡ true → are_sound [] (s.ops ++ o ∷ todo) ≡ true → words_line (reading n ps xs ss s) (op_words o) ≡ Ok (reading n ps xs ss (record s { ops = s.ops ++ o ∷ [] }))
+  op_words_again : (ss : List ScriptData) (s : ScriptData) (o : Op) (todo : List Op) → length s.ops < MAX_OPS
+      → length (key_order (keys_of_document xs (ss ++ record s { ops = s.ops ++ o ∷ [] } ∷ []))) ≤ MAX_KEYS
+      → is_plain_op o ≡ true → are_sound [] (s.ops ++ o ∷ todo) ≡ true
+      → words_line (reading n ps xs ss s) (op_words o) ≡ Ok (reading n ps xs ss (record s { ops = s.ops ++ o ∷ [] }))
   op_words_again ss s o todo room few is sound =
       let more : ScriptData = record s { ops = s.ops ++ o ∷ [] } in
       let named : insert_key (slice_cmp nat_cmp) (key_order (keys_of_document xs (ss ++ s ∷ []))) (key_of o) ≡ key_order (keys_of_document xs (ss ++ more ∷ [])) = sym (key_order_last (keys_of_document xs (ss ++ s ∷ [])) (key_of o)) ∙ ap key_order (sym (keys_op xs ss s o)) in
@@ -71,14 +74,21 @@ module _ (n : ℕ) (ps : List (List NodeId)) (xs : List (Key × Value)) where
       ∙ ap (λ ks. Ok (record (reading n ps xs ss more) { known = record { keys = ks }; numbers = record { keys = number_order (script_numbers (ss ++ s ∷ [])) } })) named
       ∙ ap (λ ts. Ok (record (reading n ps xs ss more) { numbers = record { keys = ts } })) numbers
     where
-      by : (p : Op) → length (insert_key (slice_cmp nat_cmp) (key_order (keys_of_document xs (ss ++ s ∷ []))) (key_of p)) ≤ MAX_KEYS → is_plain_op p ≡ true → are_sound [] (s.ops ++ p ∷ todo) ≡ true
+      by : (p : Op)
+          → length (insert_key (slice_cmp nat_cmp) (key_order (keys_of_document xs (ss ++ s ∷ []))) (key_of p))
+          ≤ MAX_KEYS → is_plain_op p ≡ true → are_sound [] (s.ops ++ p ∷ todo) ≡ true
           → words_line (reading n ps xs ss s) (op_words p) ≡ Ok (record (reading n ps xs ss (record s { ops = s.ops ++ p ∷ [] })) { known = record { keys = insert_key (slice_cmp nat_cmp) (key_order (keys_of_document xs (ss ++ s ∷ []))) (key_of p) }; numbers = record { keys = number_order (script_numbers (ss ++ s ∷ [])) } })
       by (op.Read k) less one rest = read_line_again (record (reading n ps xs ss s) { script = None }) s k room less one
       by (op.Write k e) less one rest =
           let both = and_parts (is_key k) (is_plain_expr e) one in
           write_line_again (record (reading n ps xs ss s) { script = None }) s k e room less both.0 both.1 (read_before s.ops k e todo rest)
 
-  ops_again : (ss : List ScriptData) (s : ScriptData) (done todo : List Op) (tail : List (List (List ℕ))) → length (done ++ todo) ≤ MAX_OPS → length (key_order (keys_of_document xs (ss ++ record s { ops = done ++ todo } ∷ []))) ≤ MAX_KEYS → list_all is_plain_op todo ≡ true → are_sound [] (done ++ todo) ≡ true → lines_from (reading n ps xs ss (record s { ops = done })) (map op_words todo ++ tail) ≡ lines_from (reading n ps xs ss (record s { ops = done ++ todo })) tail
+  ops_again : (ss : List ScriptData) (s : ScriptData) (done todo : List Op) (tail : List (List (List ℕ)))
+      → length (done ++ todo) ≤ MAX_OPS
+      → length (key_order (keys_of_document xs (ss ++ record s { ops = done ++ todo } ∷ []))) ≤ MAX_KEYS
+      → list_all is_plain_op todo ≡ true → are_sound [] (done ++ todo) ≡ true
+      → lines_from (reading n ps xs ss (record s { ops = done })) (map op_words todo ++ tail)
+      ≡ lines_from (reading n ps xs ss (record s { ops = done ++ todo })) tail
   ops_again ss s done [] tail room few are sound = ap (λ l. lines_from (reading n ps xs ss (record s { ops = l })) tail) (sym (append-nil done))
   ops_again ss s done (o ∷ todo) tail room few are sound =
       let a = and_parts (is_plain_op o) (list_all is_plain_op todo) are in
@@ -89,8 +99,12 @@ module _ (n : ℕ) (ps : List (List NodeId)) (xs : List (Key × Value)) where
       (ops_again ss s (done ++ o ∷ []) todo tail (subst (λ l. length l ≤ MAX_OPS) (sym assoc) room) (subst (λ l. length (key_order (keys_of_document xs (ss ++ record s { ops = l } ∷ []))) ≤ MAX_KEYS) (sym assoc) few) a.1 (ap (are_sound []) assoc ∙ sound)
       ∙ ap (λ l. lines_from (reading n ps xs ss (record s { ops = l })) tail) assoc)
 
-  script_again : (p : Part) (ss : List ScriptData) (s : ScriptData) (more : List ScriptData) (tail : List (List (List ℕ))) → IsOpen p → are_numbers_distinct (script_numbers (ss ++ s ∷ more)) ≡ true → length (key_order (keys_of_document xs (ss ++ s ∷ []))) ≤ MAX_KEYS → length ss < MAX_SCRIPTS → nat_le s.home n ≡ true → is_script_in_range s ≡ true
-      → lines_from (scripted p n ps xs ss) (script_words s ++ tail) ≡ lines_from (scripted part.Scripts n ps xs (ss ++ s ∷ [])) tail
+  script_again : (p : Part) (ss : List ScriptData) (s : ScriptData) (more : List ScriptData)
+      (tail : List (List (List ℕ))) → IsOpen p → are_numbers_distinct (script_numbers (ss ++ s ∷ more)) ≡ true
+      → length (key_order (keys_of_document xs (ss ++ s ∷ []))) ≤ MAX_KEYS → length ss < MAX_SCRIPTS
+      → nat_le s.home n ≡ true → is_script_in_range s ≡ true
+      → lines_from (scripted p n ps xs ss) (script_words s ++ tail)
+      ≡ lines_from (scripted part.Scripts n ps xs (ss ++ s ∷ [])) tail
   script_again p ss s more tail may distinct few room low is =
       let r = ranges_of s is in
       then_lines (scripted p n ps xs ss) (reading n ps xs ss (record s { ops = [] })) (tx_words s) ((map op_words s.ops ++ (codes "end" ∷ []) ∷ []) ++ tail) _
@@ -99,8 +113,12 @@ module _ (n : ℕ) (ps : List (List NodeId)) (xs : List (Key × Value)) where
       ∙ ops_again ss s [] s.ops ((codes "end" ∷ []) ∷ tail) r.most few r.plain r.sound
       ∙ then_lines (reading n ps xs ss s) (scripted part.Scripts n ps xs (ss ++ s ∷ [])) (codes "end" ∷ []) tail _ (end_line_again (record (reading n ps xs ss s) { script = None }) s r.least) refl)
 
-  pub scripts_again : (p : Part) (ss rest : List ScriptData) (tail : List (List (List ℕ))) (r : Result Draft Why) → IsOpen p → are_numbers_distinct (script_numbers (ss ++ rest)) ≡ true → length (key_order (keys_of_document xs (ss ++ rest))) ≤ MAX_KEYS → length (ss ++ rest) ≤ MAX_SCRIPTS → list_all (λ s. nat_le s.home n) rest ≡ true → list_all is_script_in_range rest ≡ true
-      → ((q : Part) → IsOpen q → lines_from (scripted q n ps xs (ss ++ rest)) tail ≡ r) → lines_from (scripted p n ps xs ss) (flat_map script_words rest ++ tail) ≡ r
+  pub scripts_again : (p : Part) (ss rest : List ScriptData) (tail : List (List (List ℕ))) (r : Result Draft Why)
+      → IsOpen p → are_numbers_distinct (script_numbers (ss ++ rest)) ≡ true
+      → length (key_order (keys_of_document xs (ss ++ rest))) ≤ MAX_KEYS → length (ss ++ rest) ≤ MAX_SCRIPTS
+      → list_all (λ s. nat_le s.home n) rest ≡ true → list_all is_script_in_range rest ≡ true
+      → ((q : Part) → IsOpen q → lines_from (scripted q n ps xs (ss ++ rest)) tail ≡ r)
+      → lines_from (scripted p n ps xs ss) (flat_map script_words rest ++ tail) ≡ r
   scripts_again p ss [] tail r may distinct few room low is next = ap (λ l. lines_from (scripted p n ps xs l) tail) (sym (append-nil ss)) ∙ next p may
   scripts_again p ss (s ∷ rest) tail r may distinct few room low is next =
       let l = and_parts (nat_le s.home n) (list_all (λ t. nat_le t.home n) rest) low in

@@ -35,7 +35,8 @@ pub record IsHead (nodes : ℕ) (places : List (List NodeId)) : Type 0 where
   pub within : list_all (list_all (λ n. nat_le n nodes)) places ≡ true
 
 -- the scripts so far, and what was named
-pub record IsNamed (nodes : ℕ) (inits : List (Key × Value)) (scripts : List ScriptData) (known : List Key) (numbers : List TxId) : Type 0 where
+pub record IsNamed (nodes : ℕ) (inits : List (Key × Value)) (scripts : List ScriptData) (known : List Key)
+    (numbers : List TxId) : Type 0 where
   pub fresh : are_keys_distinct inits ≡ true
   pub few : length scripts ≤ MAX_SCRIPTS
   pub distinct : are_numbers_distinct (script_numbers scripts) ≡ true
@@ -51,11 +52,14 @@ pub record IsPlan (nodes : ℕ) (numbers : List TxId) (items : List Item) (event
   pub few : events ≤ MAX_EVENTS
 
 -- what each part of the document says of the later ones
-abbrev pub IsStage : Part → List (List NodeId) → List (Key × Value) → List ScriptData → Option ScriptData → List Item → Type 0
+abbrev pub IsStage : Part → List (List NodeId) → List (Key × Value) → List ScriptData → Option ScriptData → List Item
+    → Type 0
 IsStage part.Start places inits scripts script items = ⊥
 IsStage part.Nodes places inits scripts script items = (scripts ≡ []) × (script ≡ None) × (items ≡ []) × (inits ≡ [])
-IsStage part.Partitions places inits scripts script items = (scripts ≡ []) × (script ≡ None) × (items ≡ []) × (inits ≡ []) × (1 ≤ length places)
-IsStage part.Inits places inits scripts script items = (scripts ≡ []) × (script ≡ None) × (items ≡ []) × (1 ≤ length places)
+IsStage part.Partitions places inits scripts script items =
+    (scripts ≡ []) × (script ≡ None) × (items ≡ []) × (inits ≡ []) × (1 ≤ length places)
+IsStage part.Inits places inits scripts script items =
+    (scripts ≡ []) × (script ≡ None) × (items ≡ []) × (1 ≤ length places)
 IsStage part.Scripts places inits scripts script items = (items ≡ []) × (1 ≤ length places)
 IsStage part.Items places inits scripts script items = (script ≡ None) × (1 ≤ length places)
 

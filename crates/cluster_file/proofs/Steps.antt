@@ -10,6 +10,7 @@ numbered n (Ok x) P h = h
 numbered n (Err w) P h = tt
 
 -- one line behind another
-pub below : {A B : Type 0} (m : Result A Refusal) (f : A → Result B Refusal) (Q : A → Type 0) (P : B → Type 0) → IfOk m Q → ((x : A) → Q x → IfOk (f x) P) → IfOk (m >>> f) P
+pub below : {A B : Type 0} (m : Result A Refusal) (f : A → Result B Refusal) (Q : A → Type 0) (P : B → Type 0)
+    → IfOk m Q → ((x : A) → Q x → IfOk (f x) P) → IfOk (m >>> f) P
 below (Ok x) f Q P h k = k x h
 below (Err e) f Q P h k = tt

@@ -26,7 +26,8 @@ use Rattle.script_lang.specs.Spelling.{script_words}
 use Rattle.script_lang.specs.declared.whys.Why.{Why}
 use Rattle.cluster_file.specs.declared.limits.TheConstants.{MAX_COUNT, MAX_EVENTS}
 
-schedule_told : (d : Draft) (ws : List (List ℕ)) → d.items ≡ [] → schedule_lines d.part d.items ≡ [] → IfOk (schedule_line d ws) (Adds d (codes "schedule" ∷ ws))
+schedule_told : (d : Draft) (ws : List (List ℕ)) → d.items ≡ [] → schedule_lines d.part d.items ≡ []
+    → IfOk (schedule_line d ws) (Adds d (codes "schedule" ∷ ws))
 unfolding schedule_line
 schedule_told d ws none quiet = behind (end_at ws) _ _ _ (end_read ws) (λ z none_left.
     record {
@@ -35,7 +36,8 @@ schedule_told d ws none quiet = behind (end_at ws) _ _ _ (end_read ws) (λ z non
       ranges = λ few r. record { places = r.places; inits = r.inits; scripts = r.scripts; opened = r.opened; items = r.items; built = r.built };
     })
 
-item_told : (d : Draft) (i : Item) (c : ℕ) (ws : List (List ℕ)) → item_words i ≡ ws → is_item_in_range i ≡ true → is_built_item i ≡ true → Adds (planned d) ws (with_item (planned d) i c)
+item_told : (d : Draft) (i : Item) (c : ℕ) (ws : List (List ℕ)) → item_words i ≡ ws → is_item_in_range i ≡ true
+    → is_built_item i ≡ true → Adds (planned d) ws (with_item (planned d) i c)
 item_told d i c ws e is built = record {
   lines = more_schedule _ _ (partition_lines 0 d.places) (map init_words d.inits) (flat_map script_words d.scripts) [] ((codes "schedule" ∷ []) ∷ map item_words d.items) ((codes "schedule" ∷ []) ∷ map item_words (d.items ++ i ∷ []))
       (ap (λ l. (codes "schedule" ∷ []) ∷ l) (map-append item_words d.items (i ∷ []) ∙ ap (λ l. map item_words d.items ++ l ∷ []) e));
@@ -48,7 +50,8 @@ begin_told d ws = either (nat_le MAX_EVENTS d.events) _ _ _ (λ _. tt) (λ _. be
     let all : decimal t ∷ [] ≡ ws = ap (λ l. l ∷ []) (sym number.0) ∙ ap (λ l. w.0 ∷ l) (sym none_left) ∙ sym words in
     item_told d (item.Begin t) 1 _ (ap (λ l. codes "begin" ∷ l) all) number.1 refl)))))
 
-deliver_told : (d : Draft) (ws : List (List ℕ)) → IfOk (deliver_line (planned d) ws) (Adds (planned d) (codes "deliver" ∷ ws))
+deliver_told : (d : Draft) (ws : List (List ℕ))
+    → IfOk (deliver_line (planned d) ws) (Adds (planned d) (codes "deliver" ∷ ws))
 unfolding deliver_line
 deliver_told d ws = either (nat_le MAX_EVENTS d.events) _ _ _ (λ _. tt) (λ _. behind (number_at ws) _ _ _ (number_read ws) (λ n words. behind (in_range 1 MAX_COUNT n.0) _ _ _ (in_range_read 1 MAX_COUNT n.0) (λ m same. behind (end_at n.1) _ _ _ (end_read n.1) (λ z none_left.
     item_told d (item.Deliver m) 1 _ (ap (λ l. codes "deliver" ∷ l) (one_number ws n m words.0 same.0 none_left)) same.2 refl))))
@@ -58,7 +61,8 @@ unfolding drop_line
 drop_told d ws = either (nat_le MAX_EVENTS d.events) _ _ _ (λ _. tt) (λ _. behind (number_at ws) _ _ _ (number_read ws) (λ n words. behind (in_range 1 MAX_COUNT n.0) _ _ _ (in_range_read 1 MAX_COUNT n.0) (λ m same. behind (end_at n.1) _ _ _ (end_read n.1) (λ z none_left.
     item_told d (item.Drop m) 1 _ (ap (λ l. codes "drop" ∷ l) (one_number ws n m words.0 same.0 none_left)) same.2 refl))))
 
-next_item_told : (d : Draft) (ws : List (List ℕ)) → IfOk (next_line (planned d) ws) (Adds (planned d) (codes "next" ∷ ws))
+next_item_told : (d : Draft) (ws : List (List ℕ))
+    → IfOk (next_line (planned d) ws) (Adds (planned d) (codes "next" ∷ ws))
 unfolding next_line
 next_item_told d ws = behind (number_at ws) _ _ _ (number_read ws) (λ n words. behind (in_range 1 MAX_EVENTS n.0) _ _ _ (in_range_read 1 MAX_EVENTS n.0) (λ c same. then (more_events d.events c) _ _ (λ _. behind (end_at n.1) _ _ _ (end_read n.1) (λ z none_left.
     let low : nat_le c MAX_COUNT ≡ true = grind (arith, nat_tests, same.2) in
@@ -67,19 +71,25 @@ next_item_told d ws = behind (number_at ws) _ _ _ (number_read ws) (λ n words. 
 -- Which lines may stand where.
 
 -- a line whose first word is c, or another
-word_or : (w c : List ℕ) (ws : List (List ℕ)) (d : Draft) (x y : Result Draft Why) → IfOk x (Adds d (c ∷ ws)) → IfOk y (Adds d (w ∷ ws)) → IfOk (cond (is_word w c) x y) (Adds d (w ∷ ws))
+word_or : (w c : List ℕ) (ws : List (List ℕ)) (d : Draft) (x y : Result Draft Why) → IfOk x (Adds d (c ∷ ws))
+    → IfOk y (Adds d (w ∷ ws)) → IfOk (cond (is_word w c) x y) (Adds d (w ∷ ws))
 word_or w c ws d x y h k = either (is_word w c) x y _ (λ e. subst (λ v. IfOk x (Adds d (v ∷ ws))) (sym ((bytes_decides w c).0 e)) h) (λ _. k)
 
-later_told : (d : Draft) (w : List ℕ) (ws : List (List ℕ)) → d.script ≡ None → d.items ≡ [] → schedule_lines d.part d.items ≡ [] → IfOk (later_line d w ws) (Adds d (w ∷ ws))
+later_told : (d : Draft) (w : List ℕ) (ws : List (List ℕ)) → d.script ≡ None → d.items ≡ []
+    → schedule_lines d.part d.items ≡ [] → IfOk (later_line d w ws) (Adds d (w ∷ ws))
 later_told d w ws none items quiet = word_or w (codes "tx") ws d _ _ (tx_lines_told d ws none quiet) (word_or w (codes "schedule") ws d _ _ (schedule_told d ws items quiet) tt)
 
-init_or_later_told : (d : Draft) (w : List ℕ) (ws : List (List ℕ)) → d.scripts ≡ [] → d.script ≡ None → d.items ≡ [] → schedule_lines d.part d.items ≡ [] → IfOk (init_or_later d w ws) (Adds d (w ∷ ws))
+init_or_later_told : (d : Draft) (w : List ℕ) (ws : List (List ℕ)) → d.scripts ≡ [] → d.script ≡ None → d.items ≡ []
+    → schedule_lines d.part d.items ≡ [] → IfOk (init_or_later d w ws) (Adds d (w ∷ ws))
 init_or_later_told d w ws ss none items quiet = word_or w (codes "init") ws d _ _ (init_told d ws ss none quiet) (later_told d w ws none items quiet)
 
-item_line_told : (d : Draft) (w : List ℕ) (ws : List (List ℕ)) → IfOk (item_line (planned d) w ws) (Adds (planned d) (w ∷ ws))
+item_line_told : (d : Draft) (w : List ℕ) (ws : List (List ℕ))
+    → IfOk (item_line (planned d) w ws) (Adds (planned d) (w ∷ ws))
 item_line_told d w ws = word_or w (codes "begin") ws (planned d) _ _ (begin_told d ws) (word_or w (codes "deliver") ws (planned d) _ _ (deliver_told d ws) (word_or w (codes "drop") ws (planned d) _ _ (drop_told d ws) (word_or w (codes "next") ws (planned d) _ _ (next_item_told d ws) (either (is_later_item w) _ _ _ (λ _. tt) (λ _. tt)))))
 
-part_told : (p : Part) (d : Draft) (w : List ℕ) (ws : List (List ℕ)) → IsStage p d.places d.inits d.scripts None d.items → IfOk (part_line p (record d { script = None; part = p }) w ws) (Adds (record d { script = None; part = p }) (w ∷ ws))
+part_told : (p : Part) (d : Draft) (w : List ℕ) (ws : List (List ℕ)) → IsStage p d.places d.inits d.scripts None d.items
+    → IfOk (part_line p (record d { script = None; part = p }) w ws)
+    (Adds (record d { script = None; part = p }) (w ∷ ws))
 part_told part.Start d w ws h = absurd h
 part_told part.Nodes d w ws h = word_or w (codes "partition") ws (record d { script = None; part = part.Nodes }) _ _ (partition_told (record d { script = None; part = part.Nodes }) ws h.3 h.0 refl refl) tt
 part_told part.Partitions d w ws h = word_or w (codes "partition") ws (record d { script = None; part = part.Partitions }) _ _ (partition_told (record d { script = None; part = part.Partitions }) ws h.3 h.0 refl refl) (init_or_later_told (record d { script = None; part = part.Partitions }) w ws h.0 refl h.2 refl)
@@ -87,7 +97,9 @@ part_told part.Inits d w ws h = init_or_later_told (record d { script = None; pa
 part_told part.Scripts d w ws h = later_told (record d { script = None; part = part.Scripts }) w ws refl h.0 refl
 part_told part.Items d w ws h = item_line_told d w ws
 
-line_in_told : (o : Option ScriptData) (p : Part) (d : Draft) (w : List ℕ) (ws : List (List ℕ)) → IsStage p d.places d.inits d.scripts o d.items → IfOk (line_in o (record d { script = None; part = p }) w ws) (Adds (record d { script = o; part = p }) (w ∷ ws))
+line_in_told : (o : Option ScriptData) (p : Part) (d : Draft) (w : List ℕ) (ws : List (List ℕ))
+    → IsStage p d.places d.inits d.scripts o d.items
+    → IfOk (line_in o (record d { script = None; part = p }) w ws) (Adds (record d { script = o; part = p }) (w ∷ ws))
 line_in_told None p d w ws h = part_told p d w ws h
 line_in_told (Some s) part.Start d w ws h = absurd h
 line_in_told (Some s) part.Nodes d w ws h = let bad : Some s ≡ None = h.1 in cc

@@ -40,15 +40,29 @@ close d tail = if (length tail == 0) && is_whole d.part then Ok d else Err why.M
 -- The pieces between line feeds, the first of them with this number. The last has no line feed.
 unfoldable pub pieces_from : Draft → ℕ → List (List ℕ) → Result Draft Refusal
 pieces_from d n [] = at_line n (Err why.Missing)
-pieces_from d n (x ∷ rest) = if length rest == 0 then at_line n (close d x) else (at_line n (line_of d x) >>> λ e. pieces_from e (n + 1) rest)
+pieces_from d n (x ∷ rest) =
+    if length rest == 0 then at_line n (close d x) else (at_line n (line_of d x) >>> λ e. pieces_from e (n + 1) rest)
 
 -- nothing is read yet
 abbrev pub blank : Draft
-blank = record { part = part.Start; nodes = 0; places = []; inits = []; scripts = []; script = None; items = []; events = 0; known = record { keys = [] }; numbers = record { keys = [] } }
+blank = record {
+  part = part.Start;
+  nodes = 0;
+  places = [];
+  inits = [];
+  scripts = [];
+  script = None;
+  items = [];
+  events = 0;
+  known = record { keys = [] };
+  numbers = record { keys = [] };
+}
 
 -- the document of what was read
 abbrev pub document_of : Draft → DocumentData
-document_of d = record { cluster = record { nodes = d.nodes; places = d.places; inits = d.inits }; scripts = d.scripts; items = d.items }
+document_of d =
+    record
+    { cluster = record { nodes = d.nodes; places = d.places; inits = d.inits }; scripts = d.scripts; items = d.items }
 
 -- the document that the bytes spell, or the first line at fault and why
 unfoldable pub doc : List ℕ → Result DocumentData Refusal

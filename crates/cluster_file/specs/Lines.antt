@@ -149,7 +149,9 @@ init_or_later d w ws = if is_word w (codes "init") then init_line d ws else late
 
 -- the items that are not read yet
 abbrev pub is_later_item : List ℕ → Bool
-is_later_item w = is_word w (codes "retry") || is_word w (codes "ask") || is_word w (codes "crash") || is_word w (codes "fuse") || is_word w (codes "restart")
+is_later_item w =
+    is_word w (codes "retry") || is_word w (codes "ask") || is_word w (codes "crash") || is_word w (codes "fuse")
+    || is_word w (codes "restart")
 
 -- a line of the schedule
 abbrev pub item_line : Draft → List ℕ → List (List ℕ) → Result Draft Why

@@ -45,7 +45,10 @@ record Reads (d : DocumentData) (past : List Act) (t : TxId) (s : ScriptData) (k
   remote : is_key_among k (remote_keys [] s.ops) ≡ true
 
 -- no member behind the snapshot wrote it
-silent : (d : DocumentData) (past : List Act) (f : Ident) (t : TxId) (ys xs : List (Ident × TxId)) (s : ScriptData) (k : Key) (sid : Ident) → Rests d past → order d past ≡ ys ++ (f, t) ∷ xs → IsDecided d past t f → Reads d past t s k → snapshot d past t ≡ sid → (g : Ident) (u : TxId) → has_member g u xs ≡ true → sid < g → write_by d (values_in d past) k u ≡ None
+silent : (d : DocumentData) (past : List Act) (f : Ident) (t : TxId) (ys xs : List (Ident × TxId)) (s : ScriptData)
+    (k : Key) (sid : Ident) → Rests d past → order d past ≡ ys ++ (f, t) ∷ xs → IsDecided d past t f
+    → Reads d past t s k → snapshot d past t ≡ sid → (g : Ident) (u : TxId) → has_member g u xs ≡ true → sid < g
+    → write_by d (values_in d past) k u ≡ None
 silent d past f t ys xs s k sid r at dec reads snap g u member lt = go (script_of u d.scripts) refl
   where
     falling : AreFalling ((f, t) ∷ xs)
@@ -69,7 +72,8 @@ silent d past f t ys xs s k sid r at dec reads snap g u member lt = go (script_o
       | inr behind ↦ (grind (arith, nat_tests, up, behind))
     ]
 
-    none : (v : ScriptData) (b : Bool) → script_of u d.scripts ≡ Some v → is_key_among k (written_keys [] v.ops) ≡ b → (if b then Some (own_map v.ops (values_in d past u) k) else None) ≡ None
+    none : (v : ScriptData) (b : Bool) → script_of u d.scripts ≡ Some v → is_key_among k (written_keys [] v.ops) ≡ b
+        → (if b then Some (own_map v.ops (values_in d past u) k) else None) ≡ None
     none v true is h = absurd (wrote v is h)
     none v false is h = refl
 
@@ -78,7 +82,9 @@ silent d past f t ys xs s k sid r at dec reads snap g u member lt = go (script_o
     go (Some v) is = none v (is_key_among k (written_keys [] v.ops)) is refl
 
 -- each of its values is that which those before it wrote last
-takes-of : (d : DocumentData) (past : List Act) (f : Ident) (t : TxId) (ys xs : List (Ident × TxId)) (s : ScriptData) → Rests d past → order d past ≡ ys ++ (f, t) ∷ xs → IsDecided d past t f → script_of t d.scripts ≡ Some s → (x : Story) → story d past t ≡ Some x → AreOfKeys (last_map d (values_in d past) xs) x.progress.values s.ops
+takes-of : (d : DocumentData) (past : List Act) (f : Ident) (t : TxId) (ys xs : List (Ident × TxId)) (s : ScriptData)
+    → Rests d past → order d past ≡ ys ++ (f, t) ∷ xs → IsDecided d past t f → script_of t d.scripts ≡ Some s
+    → (x : Story) → story d past t ≡ Some x → AreOfKeys (last_map d (values_in d past) xs) x.progress.values s.ops
 takes-of d past f t ys xs s r at dec is x told j k v named e =
     let w = taken-served d past t x j v r.due told e in
     let sid : Ident = w.0 in
@@ -108,18 +114,22 @@ pub record Decided (d : DocumentData) (past : List Act) (f : Ident) (t : TxId) :
   pub full : waiting script.ops begun.progress.values ≡ None
   pub decided : IsDecided d past t f
 
-decided-by : (d : DocumentData) (past : List Act) (f : Ident) (t : TxId) → IsDecided d past t f → DecisionSays d past t f → Decided d past f t
+decided-by : (d : DocumentData) (past : List Act) (f : Ident) (t : TxId) → IsDecided d past t f
+    → DecisionSays d past t f → Decided d past f t
 decided-by d past f t dec says =
     record { script = says.script; is = says.full.at.script; begun = says.full.story; told = says.full.at.story; full = ap (waiting says.script.ops) says.full.told ∙ says.full.full; decided = dec }
 
 -- each member of the order is one
-pub decided-member : (d : DocumentData) (past : List Act) (f : Ident) (t : TxId) (ys xs : List (Ident × TxId)) → Rests d past → order d past ≡ ys ++ (f, t) ∷ xs → Decided d past f t
+pub decided-member : (d : DocumentData) (past : List Act) (f : Ident) (t : TxId) (ys xs : List (Ident × TxId))
+    → Rests d past → order d past ≡ ys ++ (f, t) ∷ xs → Decided d past f t
 decided-member d past f t ys xs r at =
     let there : has_member f t (order d past) ≡ true = ap (has_member f t) at ∙ member-append f t ys ((f, t) ∷ xs) ∙ or_right (has_member f t ys) (has_member f t ((f, t) ∷ xs)) (grind (arith, nat_tests)) in
     let dec : IsDecided d past t f = order-decided d past t f (decisions-rest d past r.due) there in
     decided-by d past f t dec (decision-stands d past dec.0 t f (journal d past dec.0) (nodes-fit d past r.due dec.0).homes (decided-say d past r.due dec.0).journal dec.2).1
 
-takes : (d : DocumentData) (past : List Act) (f : Ident) (t : TxId) (ys xs : List (Ident × TxId)) → Rests d past → order d past ≡ ys ++ (f, t) ∷ xs → Takes (script_of t d.scripts) (values_in d past t) (last_map d (values_in d past) xs)
+takes : (d : DocumentData) (past : List Act) (f : Ident) (t : TxId) (ys xs : List (Ident × TxId)) → Rests d past
+    → order d past ≡ ys ++ (f, t) ∷ xs
+    → Takes (script_of t d.scripts) (values_in d past t) (last_map d (values_in d past) xs)
 takes d past f t ys xs r at =
     let w : Decided d past f t = decided-member d past f t ys xs r at in
     let s : ScriptData = w.script in
@@ -132,11 +142,13 @@ takes d past f t ys xs r at =
 
 -- ---- each of them
 
-append-one : (ys : List (Ident × TxId)) (x : Ident × TxId) (xs : List (Ident × TxId)) → ys ++ x ∷ xs ≡ (ys ++ x ∷ []) ++ xs
+append-one : (ys : List (Ident × TxId)) (x : Ident × TxId) (xs : List (Ident × TxId))
+    → ys ++ x ∷ xs ≡ (ys ++ x ∷ []) ++ xs
 append-one [] x xs = refl
 append-one (y ∷ ys) x xs = ap (λ zs. y ∷ zs) (append-one ys x xs)
 
-each-takes : (d : DocumentData) (past : List Act) (ys xs : List (Ident × TxId)) → Rests d past → order d past ≡ ys ++ xs → AllTake d (values_in d past) xs
+each-takes : (d : DocumentData) (past : List Act) (ys xs : List (Ident × TxId)) → Rests d past → order d past ≡ ys ++ xs
+    → AllTake d (values_in d past) xs
 each-takes d past ys [] r at = tt
 each-takes d past ys (x ∷ xs) r at = (takes d past x.0 x.1 ys xs r at, each-takes d past (ys ++ x ∷ []) xs r (at ∙ append-one ys x xs))
 

@@ -20,7 +20,8 @@ use Rattle.copy_laws.proofs.OrderMembers.{decided-order}
 use Rattle.copy_laws.proofs.AllTaken.{decided-member}
 use Rattle.copy_laws.proofs.KeptCommits.{member-split}
 
-firm : (d : DocumentData) (past : List Act) (f : Ident) (t : TxId) → Rests d past → IsDecided d past t f → IsFirm d past f t
+firm : (d : DocumentData) (past : List Act) (f : Ident) (t : TxId) → Rests d past → IsDecided d past t f
+    → IsFirm d past f t
 firm d past f t r dec = record { kept = never (is_given_up t past) refl; ends = λ n o e. commits n o e }
   where
     never : (b : Bool) → is_given_up t past ≡ b → b ≡ false

@@ -37,7 +37,9 @@ both-refuted atomic =
 
 -- an update is decided and told, and both parts end it with abort
 abbrev pub undone_acts : List Act
-undone_acts = asks ++ (votes ++ (decides ++ (act.Got 7 ∷ act.Ended 1 1 outcome.Abort ∷ act.Got 8 ∷ act.Ended 2 1 outcome.Abort ∷ [])))
+undone_acts =
+    asks
+    ++ (votes ++ (decides ++ (act.Got 7 ∷ act.Ended 1 1 outcome.Abort ∷ act.Got 8 ∷ act.Ended 2 1 outcome.Abort ∷ [])))
 
 pub undone-refuted : Atomic read_then_write undone_acts → ⊥
 undone-refuted atomic =

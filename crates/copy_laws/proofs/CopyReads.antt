@@ -38,7 +38,8 @@ use Rattle.copy_laws.proofs.AllTaken.{all-taken, Decided, decided-member}
 -- ---- the copy at an identifier
 
 -- it is what the members up to it wrote last
-copy-at : (d : DocumentData) (past : List Act) (s : Ident) (k : Key) → Rests d past → copy d past s k ≡ last_map d (values_in d past) (members_to s (order d past)) k
+copy-at : (d : DocumentData) (past : List Act) (s : Ident) (k : Key) → Rests d past
+    → copy d past s k ≡ last_map d (values_in d past) (members_to s (order d past)) k
 copy-at d past s k r =
     let w = members-rest s (order d past) (order-falling d past) in
     let all : AllTake d (values_in d past) (w.0 ++ members_to s (order d past)) = subst (AllTake d (values_in d past)) w.1 (all-taken d past r) in
@@ -47,16 +48,20 @@ copy-at d past s k r =
 -- ---- a value that was taken
 
 -- it is that of its key in the copy at its identifier
-served-copy : (d : DocumentData) (past : List Act) (t : TxId) (j : ℕ) (sid : Ident) (v : Value) → Rests d past → (w : IsServed d past t j sid v) → v ≡ copy d past sid w.key
+served-copy : (d : DocumentData) (past : List Act) (t : TxId) (j : ℕ) (sid : Ident) (v : Value) → Rests d past
+    → (w : IsServed d past t j sid v) → v ≡ copy d past sid w.key
 served-copy d past t j sid v r w = served-last d past t j sid v r w ∙ sym (copy-at d past sid w.key r)
 
-reply-copy : (d : DocumentData) (past : List Act) (t : TxId) (j : ℕ) (sid : Ident) (v : Value) → Rests d past → IsServed d past t j sid v → ReadsCopy d past sid v (key_at (script_of t d.scripts) j)
+reply-copy : (d : DocumentData) (past : List Act) (t : TxId) (j : ℕ) (sid : Ident) (v : Value) → Rests d past
+    → IsServed d past t j sid v → ReadsCopy d past sid v (key_at (script_of t d.scripts) j)
 reply-copy d past t j sid v r w = let P : Option Key → Type 0 = λ o. ReadsCopy d past sid v o in subst P (sym w.named) (served-copy d past t j sid v r w)
 
 -- ---- updates
 
 -- each member of the order was shown what it reads on the copy of those before it
-pub update-shown : (d : DocumentData) (h : List Act) → IsRun d d.items h → Rests d (after [] h) → (later before : List (Ident × TxId)) (x : Ident × TxId) → order d (after [] h) ≡ later ++ x ∷ before → IsShown d (after [] h) x.1 (copy_of d before)
+pub update-shown : (d : DocumentData) (h : List Act) → IsRun d d.items h → Rests d (after [] h)
+    → (later before : List (Ident × TxId)) (x : Ident × TxId) → order d (after [] h) ≡ later ++ x ∷ before
+    → IsShown d (after [] h) x.1 (copy_of d before)
 update-shown d h run r later before x at =
     let past : List Act = after [] h in
     let w : Decided d past x.0 x.1 = decided-member d past x.0 x.1 later before r at in
@@ -72,7 +77,10 @@ update-shown d h run r later before x at =
 -- ---- read-only transactions
 
 -- a transaction with all its values was shown what it reads on the copy at its snapshot
-pub reader-shown : (d : DocumentData) (h : List Act) → IsRun d d.items h → Rests d (after [] h) → (s : ScriptData) (t : TxId) → script_of t d.scripts ≡ Some s → (x : Story) → story d (after [] h) t ≡ Some x → waiting s.ops x.progress.values ≡ None → IsShown d (after [] h) t (copy d (after [] h) (snapshot d (after [] h) t))
+pub reader-shown : (d : DocumentData) (h : List Act) → IsRun d d.items h → Rests d (after [] h)
+    → (s : ScriptData) (t : TxId) → script_of t d.scripts ≡ Some s → (x : Story) → story d (after [] h) t ≡ Some x
+    → waiting s.ops x.progress.values ≡ None
+    → IsShown d (after [] h) t (copy d (after [] h) (snapshot d (after [] h) t))
 reader-shown d h run r s t is x told full = finished-shown d h run s t is x told full (copy d (after [] h) (snapshot d (after [] h) t)) (keys-of (copy d (after [] h) (snapshot d (after [] h) t)) x.progress.values s.ops each)
   where
     some-same : (a b : Key) → Some a ≡ Some b → a ≡ b
@@ -97,5 +105,7 @@ replies-copy d past r = each-act-more (TakesServed d past) (TakesCopy d past) pa
     go a h = tt
 
 -- up to its commit identifier a node has the copy's versions of the keys that it holds
-pub versions-copy : (d : DocumentData) (past : List Act) (n : NodeId) (k : Key) (s : Ident) → Rests d past → IsTrue (holds d.cluster.places n k) → s ≤ commit_id (journal d past n) → (version_at (journal d past n) k (init d.cluster k) s).value ≡ copy d past s k
+pub versions-copy : (d : DocumentData) (past : List Act) (n : NodeId) (k : Key) (s : Ident) → Rests d past
+    → IsTrue (holds d.cluster.places n k) → s ≤ commit_id (journal d past n)
+    → (version_at (journal d past n) k (init d.cluster k) s).value ≡ copy d past s k
 versions-copy d past n k s r held le = commit-last d past n k s r held le ∙ sym (copy-at d past s k r)

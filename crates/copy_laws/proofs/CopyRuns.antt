@@ -1,4 +1,5 @@
--- One copy is not empty: wrong reads, wrong replies and wrong versions are refuted, each in a worked run with one act changed.
+-- One copy is not empty: wrong reads, wrong replies and wrong versions are refuted, each in a worked run with one act
+-- changed.
 use Rattle.std.proofs.Common.{◌≡◌, ◌≤◌, ℕ, List, [], ◌∷◌, ◌++◌, refl, ap, take, drop, arith}
 use Rattle.std.proofs.lemmas.Bool.{eqb-false}
 use Rattle.score_base.specs.declared.ids.Value.{Value}
@@ -69,15 +70,20 @@ pub wrong_reply-refuted : (v : Value) → (v ≡ 10 → ⊥) → OneCopy read_th
 wrong_reply-refuted v other copies = other (claim-at (TakesCopy read_then_write (took v)) (take 23 (took v)) (act.Taken 1 1 0 v) (drop 24 (took v)) copies.replies)
 
 -- with the value 10 the parts of the claim compute: the order, what the transaction was shown, and the reply
-pub right-read : (order read_then_write (took 10) ≡ (1, 1) ∷ []) × IsShown read_then_write (took 10) 1 (copy_of read_then_write []) × TakesCopy read_then_write (took 10) (act.Taken 1 1 0 10)
+pub right-read : (order read_then_write (took 10) ≡ (1, 1) ∷ []) × IsShown read_then_write (took 10) 1
+    (copy_of read_then_write []) × TakesCopy read_then_write (took 10) (act.Taken 1 1 0 10)
 right-read = (refl, refl, refl)
 
 -- node n1 is applied up to 1, and both nodes have the versions of the copy
-pub right-versions : (commit_id (journal read_then_write (took 10) 1) ≡ 1) × ((version_at (journal read_then_write (took 10) 1) b 0 0).value ≡ copy read_then_write (took 10) 0 b) × ((version_at (journal read_then_write (took 10) 1) b 0 1).value ≡ copy read_then_write (took 10) 1 b) × ((version_at (journal read_then_write (took 10) 2) a 10 1).value ≡ copy read_then_write (took 10) 1 a)
+pub right-versions : (commit_id (journal read_then_write (took 10) 1) ≡ 1) ×
+    ((version_at (journal read_then_write (took 10) 1) b 0 0).value ≡ copy read_then_write (took 10) 0 b) ×
+    ((version_at (journal read_then_write (took 10) 1) b 0 1).value ≡ copy read_then_write (took 10) 1 b) ×
+    ((version_at (journal read_then_write (took 10) 2) a 10 1).value ≡ copy read_then_write (took 10) 1 a)
 right-versions = (refl, refl, refl, refl)
 
 -- the values of these versions
-pub right-values : (copy read_then_write (took 10) 0 b ≡ 0) × (copy read_then_write (took 10) 1 b ≡ 11) × (copy read_then_write (took 10) 1 a ≡ 10)
+pub right-values : (copy read_then_write (took 10) 0 b ≡ 0) × (copy read_then_write (took 10) 1 b ≡ 11) ×
+    (copy read_then_write (took 10) 1 a ≡ 10)
 right-values = (refl, refl, refl)
 
 -- ---- a Prepare carries another value
@@ -158,7 +164,8 @@ torn_read-refuted copies =
     eqb-false 10 7 refl (ap next_value e)
 
 -- as it is, the reader was shown what it reads on the copy at its snapshot
-pub right-snapshot : (snapshot equal_finals (after [] equal_finals_acts) 3 ≡ 1) × IsShown equal_finals (after [] equal_finals_acts) 3 (copy equal_finals (after [] equal_finals_acts) 1)
+pub right-snapshot : (snapshot equal_finals (after [] equal_finals_acts) 3 ≡ 1) × IsShown equal_finals
+    (after [] equal_finals_acts) 3 (copy equal_finals (after [] equal_finals_acts) 1)
 right-snapshot = (refl, refl)
 
 -- ---- two updates that do not see each other

@@ -18,7 +18,10 @@ use Rattle.copy_laws.proofs.ShownSteps.{Says}
 use Rattle.copy_laws.proofs.ShownRuns.{shown-reads}
 
 -- a transaction that took the values of a map was shown what it reads on that map
-pub finished-shown : (d : DocumentData) (h : List Act) → IsRun d d.items h → (s : ScriptData) (t : TxId) → script_of t d.scripts ≡ Some s → (x : Story) → story d (after [] h) t ≡ Some x → waiting s.ops x.progress.values ≡ None → (m : Map) → AreOf m 1 x.progress.values s.ops → IsShown d (after [] h) t m
+pub finished-shown : (d : DocumentData) (h : List Act) → IsRun d d.items h → (s : ScriptData) (t : TxId)
+    → script_of t d.scripts ≡ Some s → (x : Story) → story d (after [] h) t ≡ Some x
+    → waiting s.ops x.progress.values ≡ None → (m : Map) → AreOf m 1 x.progress.values s.ops
+    → IsShown d (after [] h) t m
 finished-shown d h run s t is x at full m each =
     let past : List Act = after [] h in
     let P : Option Story → Type 0 = λ o. Says s (shown past t) o in

@@ -99,7 +99,8 @@ has_ended-reads t f (y ∷ r) = has_ended-reads t f r
 
 -- ---- what a member wrote
 
-same-values : (g m : Map) (ks : List Key) → ((k : Key) → is_key_among k ks ≡ true → g k ≡ m k) → with_values g ks ≡ with_values m ks
+same-values : (g m : Map) (ks : List Key) → ((k : Key) → is_key_among k ks ≡ true → g k ≡ m k)
+    → with_values g ks ≡ with_values m ks
 same-values g m [] each = refl
 same-values g m (k ∷ ks) each =
     let here : (k, g k) ≡ (k, m k) = ap (λ v. (k, v)) (each k (among-here k ks)) in
@@ -107,7 +108,10 @@ same-values g m (k ∷ ks) each =
     ap (λ y. y ∷ with_values g ks) here ∙ ap (λ ys. (k, m k) ∷ ys) rest
 
 -- a member of the order took its values from the copy of those before it
-copy-takes : (d : DocumentData) (past : List Act) (f : Ident) (t : TxId) (s : ScriptData) (later before : List (Ident × TxId)) → Rests d past → order d past ≡ later ++ (f, t) ∷ before → script_of t d.scripts ≡ Some s → (waiting s.ops (values_in d past t) ≡ None) × AreOf (copy_of d before) 1 (values_in d past t) s.ops
+copy-takes : (d : DocumentData) (past : List Act) (f : Ident) (t : TxId) (s : ScriptData)
+    (later before : List (Ident × TxId)) → Rests d past → order d past ≡ later ++ (f, t) ∷ before
+    → script_of t d.scripts ≡ Some s
+    → (waiting s.ops (values_in d past t) ≡ None) × AreOf (copy_of d before) 1 (values_in d past t) s.ops
 copy-takes d past f t s later before r at is =
     let all : AllTake d (values_in d past) (later ++ (f, t) ∷ before) = subst (AllTake d (values_in d past)) at (all-taken d past r) in
     let mine : AllTake d (values_in d past) ((f, t) ∷ before) = take-rest d (values_in d past) later ((f, t) ∷ before) all in
@@ -116,10 +120,15 @@ copy-takes d past f t s later before r at is =
     (takes.0, λ i k v named e. takes.1 i k v named e ∙ sym (copy-last d (values_in d past) before mine.1 k))
 
 -- so what it wrote is what its script leaves there
-wrote-copy : (d : DocumentData) (past : List Act) (f : Ident) (t : TxId) (s : ScriptData) (n : NodeId) (later before : List (Ident × TxId)) → Rests d past → order d past ≡ later ++ (f, t) ∷ before → script_of t d.scripts ≡ Some s → with_values (own_map s.ops (values_in d past t)) (filter (holds d.cluster.places n) (written_keys [] s.ops)) ≡ writes_on d n s (copy_of d before)
+wrote-copy : (d : DocumentData) (past : List Act) (f : Ident) (t : TxId) (s : ScriptData) (n : NodeId)
+    (later before : List (Ident × TxId)) → Rests d past → order d past ≡ later ++ (f, t) ∷ before
+    → script_of t d.scripts ≡ Some s
+    → with_values (own_map s.ops (values_in d past t)) (filter (holds d.cluster.places n) (written_keys [] s.ops))
+    ≡ writes_on d n s (copy_of d before)
 wrote-copy d past f t s n later before r at is = same-values (own_map s.ops (values_in d past t)) (map_behind (copy_of d before) s.ops) (filter (holds d.cluster.places n) (written_keys [] s.ops)) each
   where
-    each : (k : Key) → is_key_among k (filter (holds d.cluster.places n) (written_keys [] s.ops)) ≡ true → own_map s.ops (values_in d past t) k ≡ map_behind (copy_of d before) s.ops k
+    each : (k : Key) → is_key_among k (filter (holds d.cluster.places n) (written_keys [] s.ops)) ≡ true
+        → own_map s.ops (values_in d past t) k ≡ map_behind (copy_of d before) s.ops k
     each k h =
         let takes = copy-takes d past f t s later before r at is in
         let among : is_key_among k (written_keys [] s.ops) ≡ true = (and_parts (is_key_among k (written_keys [] s.ops)) (holds d.cluster.places n k) (sym (among-filter (holds d.cluster.places n) k (written_keys [] s.ops)) ∙ h)).0 in
@@ -128,7 +137,10 @@ wrote-copy d past f t s n later before r at is = same-values (own_map s.ops (val
 -- ---- a committed update
 
 -- the Prepared of a member stands at each part, with all its writes there
-prepared-copy : (d : DocumentData) (past : List Act) (f : Ident) (t : TxId) (s : ScriptData) (n : NodeId) (later before : List (Ident × TxId)) → Rests d past → order d past ≡ later ++ (f, t) ∷ before → script_of t d.scripts ≡ Some s → is_among n (parts_in d (Some s)) ≡ true → (x : Prepared) × (prepared_of t (journal d past n) ≡ Some x) × (x.writes ≡ writes_on d n s (copy_of d before))
+prepared-copy : (d : DocumentData) (past : List Act) (f : Ident) (t : TxId) (s : ScriptData) (n : NodeId)
+    (later before : List (Ident × TxId)) → Rests d past → order d past ≡ later ++ (f, t) ∷ before
+    → script_of t d.scripts ≡ Some s → is_among n (parts_in d (Some s)) ≡ true
+    → (x : Prepared) × (prepared_of t (journal d past n) ≡ Some x) × (x.writes ≡ writes_on d n s (copy_of d before))
 prepared-copy d past f t s n later before r at is part =
     let w : Decided d past f t = decided-member d past f t later before r at in
     let rests : RestsOnParts d past t f = (decisions-rest d past r.due false w.decided.0 t f w.decided.2).1 in
@@ -165,7 +177,9 @@ over-each d past t n (k ∷ ns) h i =
     ]
 
 -- a committed update is kept in all lists that the disks may hold
-commit-kept : (d : DocumentData) (past : List Act) (logs : NodeId → List Record) (s : ScriptData) (f : Ident) (later before : List (Ident × TxId)) → Rests d past → AreLogs d past logs → script_of s.number d.scripts ≡ Some s → order d past ≡ later ++ (f, s.number) ∷ before → IsKept d past logs s
+commit-kept : (d : DocumentData) (past : List Act) (logs : NodeId → List Record) (s : ScriptData) (f : Ident)
+    (later before : List (Ident × TxId)) → Rests d past → AreLogs d past logs → script_of s.number d.scripts ≡ Some s
+    → order d past ≡ later ++ (f, s.number) ∷ before → IsKept d past logs s
 commit-kept d past logs s f later before r are is at =
     record {
       final = f;
@@ -247,7 +261,8 @@ commit-kept d past logs s f later before r are is at =
     home-log true (Some y) e h = inl (open-log y h)
     home-log true None e h = inr (e, λ n part. closed-log h n part)
 
-    part-log : (n : NodeId) → is_among n (parts_in d (Some s)) ≡ true → writes_at (prepared_of t (reverse (logs n))) ≡ Some (writes_on d n s (copy_of d before))
+    part-log : (n : NodeId) → is_among n (parts_in d (Some s)) ≡ true
+        → writes_at (prepared_of t (reverse (logs n))) ≡ Some (writes_on d n s (copy_of d before))
     part-log n part =
         let x = prepared-copy d past f t s n later before r at is part in
         let disk : prepared_of t (disklog d past n) ≡ Some x.0 =
@@ -262,7 +277,8 @@ commit-kept d past logs s f later before r are is at =
 -- ---- a finished update
 
 -- a member of a list stands between others
-pub member-split : (f : Ident) (t : TxId) (xs : List (Ident × TxId)) → has_member f t xs ≡ true → (later : List (Ident × TxId)) × (before : List (Ident × TxId)) × (xs ≡ later ++ (f, t) ∷ before)
+pub member-split : (f : Ident) (t : TxId) (xs : List (Ident × TxId)) → has_member f t xs ≡ true
+    → (later : List (Ident × TxId)) × (before : List (Ident × TxId)) × (xs ≡ later ++ (f, t) ∷ before)
 member-split f t [] h = cc
 member-split f t (x ∷ xs) h = elim (or_cases (x.0 == f && x.1 == t) (has_member f t xs) h) [
   | inl here ↦
@@ -273,7 +289,9 @@ member-split f t (x ∷ xs) h = elim (or_cases (x.0 == f && x.1 == t) (has_membe
 ]
 
 -- it is decided, so it is in the order, and it is kept
-pub finished-kept : (d : DocumentData) (past : List Act) (logs : NodeId → List Record) (s : ScriptData) (t : TxId) → Rests d past → AreLogs d past logs → script_of t d.scripts ≡ Some s → is_update s.ops ≡ true → is_finished past t ≡ true → IsKept d past logs s
+pub finished-kept : (d : DocumentData) (past : List Act) (logs : NodeId → List Record) (s : ScriptData) (t : TxId)
+    → Rests d past → AreLogs d past logs → script_of t d.scripts ≡ Some s → is_update s.ops ≡ true
+    → is_finished past t ≡ true → IsKept d past logs s
 finished-kept d past logs s t r are is update finished =
     let number : s.number ≡ t = script-number t d.scripts s is in
     let f = finished-update d past r.due s t is update finished in

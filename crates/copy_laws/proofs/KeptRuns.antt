@@ -51,7 +51,9 @@ abbrev pub closed : List Act
 closed = after [] read_then_write_acts
 
 -- all premises of the claim hold together of its one transaction
-pub kept-premises : AreLogs read_then_write closed (standing_logs read_then_write closed) × (script_of 1 read_then_write.scripts ≡ Some copy_script) × (is_update copy_script.ops ≡ true) × (is_finished closed 1 ≡ true) × (order read_then_write closed ≡ [] ++ (1, 1) ∷ [])
+pub kept-premises : AreLogs read_then_write closed (standing_logs read_then_write closed) ×
+    (script_of 1 read_then_write.scripts ≡ Some copy_script) × (is_update copy_script.ops ≡ true) ×
+    (is_finished closed 1 ≡ true) × (order read_then_write closed ≡ [] ++ (1, 1) ∷ [])
 kept-premises = (standing-logs read_then_write closed, refl, refl, refl, refl)
 
 -- the parts of the transaction are n1 and n2
@@ -73,14 +75,18 @@ transfer-kept = record {
     P m = writes_at (prepared_of 1 (reverse (standing_logs read_then_write closed m))) ≡ Some (writes_on read_then_write m copy_script (copy_of read_then_write []))
 
 -- the very writes: `b` with 11 at n1, which holds it, and none at n2
-pub kept-writes : (writes_at (prepared_of 1 (journal read_then_write closed 1)) ≡ Some ((b, 11) ∷ [])) × (writes_on read_then_write 1 copy_script (copy_of read_then_write []) ≡ (b, 11) ∷ []) × (writes_at (prepared_of 1 (journal read_then_write closed 2)) ≡ Some []) × (writes_on read_then_write 2 copy_script (copy_of read_then_write []) ≡ [])
+pub kept-writes : (writes_at (prepared_of 1 (journal read_then_write closed 1)) ≡ Some ((b, 11) ∷ [])) ×
+    (writes_on read_then_write 1 copy_script (copy_of read_then_write []) ≡ (b, 11) ∷ []) ×
+    (writes_at (prepared_of 1 (journal read_then_write closed 2)) ≡ Some []) ×
+    (writes_on read_then_write 2 copy_script (copy_of read_then_write []) ≡ [])
 kept-writes = (refl, refl, refl, refl)
 
 -- ---- a record in doubt
 
 -- the transaction is decided and its client told, and n2 stops while it writes that it ended
 abbrev pub doubtful : DocumentData
-doubtful = record { cluster = two_nodes; scripts = copy_script ∷ []; items = item.Begin 1 ∷ item.Next 6 ∷ item.Deliver 8 ∷ [] }
+doubtful =
+    record { cluster = two_nodes; scripts = copy_script ∷ []; items = item.Begin 1 ∷ item.Next 6 ∷ item.Deliver 8 ∷ [] }
 
 abbrev pub doubtful_acts : List Act
 doubtful_acts = asks ++ (votes ++ (decides ++ (act.Got 8 ∷ act.Down 2 (Some (head.Ended 1 (outcome.Commit 1))) ∷ [])))
@@ -115,7 +121,8 @@ doubtful-logs = record {
 }
 
 -- the premises hold of these logs too
-pub doubtful-premises : (is_finished stopped 1 ≡ true) × (order doubtful stopped ≡ [] ++ (1, 1) ∷ []) × ((node doubtful stopped 2).up ≡ false)
+pub doubtful-premises : (is_finished stopped 1 ≡ true) × (order doubtful stopped ≡ [] ++ (1, 1) ∷ []) ×
+    ((node doubtful stopped 2).up ≡ false)
 doubtful-premises = (refl, refl, refl)
 
 -- and the transaction is kept in them
@@ -177,6 +184,7 @@ undecided-refuted kept =
     let held : IsKept read_then_write past (standing_logs read_then_write past) copy_script = kept (standing_logs read_then_write past) (standing-logs read_then_write past) copy_script 1 refl refl refl in
     none held.later (held.final, 1) held.before held.member
   where
-    none : (later : List (Ident × TxId)) (x : Ident × TxId) (before : List (Ident × TxId)) → [] ≡ later ++ x ∷ before → ⊥
+    none : (later : List (Ident × TxId)) (x : Ident × TxId) (before : List (Ident × TxId)) → [] ≡ later ++ x ∷ before
+        → ⊥
     none [] x before e = cc
     none (y ∷ later) x before e = cc

@@ -50,7 +50,9 @@ members-falling d past s =
 
 -- ---- a version up to s is of a member that wrote it
 
-version-member : (d : DocumentData) (past : List Act) (n : NodeId) (k : Key) (s : Ident) (t : TxId) (f : Ident) (v : Value) → Rests d past → IsTrue (holds d.cluster.places n k) → IsVersion (journal d past n) k t f v → f ≤ s → (has_member f t (members_to s (order d past)) ≡ true) × (write_by d (values_in d past) k t ≡ Some v)
+version-member : (d : DocumentData) (past : List Act) (n : NodeId) (k : Key) (s : Ident) (t : TxId) (f : Ident)
+    (v : Value) → Rests d past → IsTrue (holds d.cluster.places n k) → IsVersion (journal d past n) k t f v → f ≤ s
+    → (has_member f t (members_to s (order d past)) ≡ true) × (write_by d (values_in d past) k t ≡ Some v)
 version-member d past n k s t f v g holds' is le =
     let fit : all_fit d.cluster n (journal d past n) ≡ true = (nodes-fit d past g.due n).fits in
     let a : IsApplied t f (journal d past n) = applied-says d.cluster n t f (journal d past n) fit is.applied in
@@ -67,10 +69,12 @@ record Writes (d : DocumentData) (t : TxId) (k : Key) : Type 0 where
   is : script_of t d.scripts ≡ Some script
   named : is_key_among k (keys_named script.ops) ≡ true
 
-writes-named : (d : DocumentData) (values : TxId → List (ℕ × Value)) (k : Key) (t : TxId) (v : Value) → write_by d values k t ≡ Some v → Writes d t k
+writes-named : (d : DocumentData) (values : TxId → List (ℕ × Value)) (k : Key) (t : TxId) (v : Value)
+    → write_by d values k t ≡ Some v → Writes d t k
 writes-named d values k t v h = go (script_of t d.scripts) refl h
   where
-    written : (s : ScriptData) (b : Bool) → is_key_among k (written_keys [] s.ops) ≡ b → (if b then Some (own_map s.ops (values t) k) else None) ≡ Some v → is_key_among k (keys_named s.ops) ≡ true
+    written : (s : ScriptData) (b : Bool) → is_key_among k (written_keys [] s.ops) ≡ b
+        → (if b then Some (own_map s.ops (values t) k) else None) ≡ Some v → is_key_among k (keys_named s.ops) ≡ true
     written s true e i = written-named k [] s.ops e
     written s false e i = cc
 
@@ -79,13 +83,17 @@ writes-named d values k t v h = go (script_of t d.scripts) refl h
     go (Some s) e i = record { script = s; is = e; named = written s (is_key_among k (written_keys [] s.ops)) refl i }
 
 -- a decision up to s that a part is past is its commit there
-ended-commit : (d : DocumentData) (past : List Act) (n : NodeId) (t : TxId) (f : Ident) (o : Outcome) → Rests d past → IsDecided d past t f → ended t (journal d past n) ≡ Some o → ended t (journal d past n) ≡ Some (outcome.Commit f)
+ended-commit : (d : DocumentData) (past : List Act) (n : NodeId) (t : TxId) (f : Ident) (o : Outcome) → Rests d past
+    → IsDecided d past t f → ended t (journal d past n) ≡ Some o → ended t (journal d past n) ≡ Some (outcome.Commit f)
 ended-commit d past n t f outcome.Abort g decided e = absurd (decided-commits d past g.due n t f decided e)
 ended-commit d past n t f (outcome.Commit h) g decided e =
     let same : f ≡ h = decided-same d past g.due t f h decided (commit-decided d past g.due n t h e) in
     e ∙ ap (λ (i : Ident). Some (outcome.Commit i)) (sym same)
 
-member-version : (d : DocumentData) (past : List Act) (n : NodeId) (k : Key) (s : Ident) (t : TxId) (f : Ident) (v : Value) → Rests d past → IsTrue (holds d.cluster.places n k) → is_clear s (journal d past n) ≡ true → has_member f t (members_to s (order d past)) ≡ true → write_by d (values_in d past) k t ≡ Some v → IsVersion (journal d past n) k t f v × (f ≤ s)
+member-version : (d : DocumentData) (past : List Act) (n : NodeId) (k : Key) (s : Ident) (t : TxId) (f : Ident)
+    (v : Value) → Rests d past → IsTrue (holds d.cluster.places n k) → is_clear s (journal d past n) ≡ true
+    → has_member f t (members_to s (order d past)) ≡ true → write_by d (values_in d past) k t ≡ Some v
+    → IsVersion (journal d past n) k t f v × (f ≤ s)
 member-version d past n k s t f v g holds' clear member wrote =
     let fit : all_fit d.cluster n (journal d past n) ≡ true = (nodes-fit d past g.due n).fits in
     let m = and_parts (has_member f t (order d past)) (nat_le f s) (sym (members_to-member s f t (order d past)) ∙ member) in
@@ -106,18 +114,25 @@ member-version d past n k s t f v g holds' clear member wrote =
 -- ---- what a node reads
 
 -- below every pending proposal a holder of the key reads what was written last
-node-last : (d : DocumentData) (past : List Act) (n : NodeId) (k : Key) (s : Ident) → Rests d past → IsTrue (holds d.cluster.places n k) → is_clear s (journal d past n) ≡ true → (version_at (journal d past n) k (init d.cluster k) s).value ≡ last_map d (values_in d past) (members_to s (order d past)) k
+node-last : (d : DocumentData) (past : List Act) (n : NodeId) (k : Key) (s : Ident) → Rests d past
+    → IsTrue (holds d.cluster.places n k) → is_clear s (journal d past n) ≡ true
+    → (version_at (journal d past n) k (init d.cluster k) s).value
+    ≡ last_map d (values_in d past) (members_to s (order d past)) k
 node-last d past n k s g holds' clear =
     version-last d.cluster n (journal d past n) k (init d.cluster k) s (write_by d (values_in d past) k) (members_to s (order d past)) (nodes-fit d past g.due n).fits (members-falling d past s)
     (λ t f v is le. version-member d past n k s t f v g holds' is le)
     (λ t f v member wrote. member-version d past n k s t f v g holds' clear member wrote)
 
 -- so it does up to its commit identifier
-pub commit-last : (d : DocumentData) (past : List Act) (n : NodeId) (k : Key) (s : Ident) → Rests d past → IsTrue (holds d.cluster.places n k) → s ≤ commit_id (journal d past n) → (version_at (journal d past n) k (init d.cluster k) s).value ≡ last_map d (values_in d past) (members_to s (order d past)) k
+pub commit-last : (d : DocumentData) (past : List Act) (n : NodeId) (k : Key) (s : Ident) → Rests d past
+    → IsTrue (holds d.cluster.places n k) → s ≤ commit_id (journal d past n)
+    → (version_at (journal d past n) k (init d.cluster k) s).value
+    ≡ last_map d (values_in d past) (members_to s (order d past)) k
 commit-last d past n k s g holds' le = node-last d past n k s g holds' (clear-below (commit_id (journal d past n)) s (journal d past n) le (commit_id-clear d.cluster n (journal d past n) (nodes-fit d past g.due n).fits))
 
 -- and what it served is what was written last
-pub served-last : (d : DocumentData) (past : List Act) (t : TxId) (j : ℕ) (sid : Ident) (v : Value) → Rests d past → (s : IsServed d past t j sid v) → v ≡ last_map d (values_in d past) (members_to sid (order d past)) s.key
+pub served-last : (d : DocumentData) (past : List Act) (t : TxId) (j : ℕ) (sid : Ident) (v : Value) → Rests d past
+    → (s : IsServed d past t j sid v) → v ≡ last_map d (values_in d past) (members_to sid (order d past)) s.key
 served-last d past t j sid v g s =
     let stable : IsStable d past s.n s.key sid s.vn v = served-stable d past s.n t j s.key sid s.vn v s.later s.before g.due s.there in
     sym stable.value ∙ node-last d past s.n s.key sid g s.holds ((served-promised d past g.due s.n t j s.key sid s.vn v s.later s.before s.there).clear false)

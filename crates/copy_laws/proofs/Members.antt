@@ -7,12 +7,14 @@ use Rattle.score_base.specs.declared.ids.Ident.{Ident}
 use Rattle.journal_words.specs.Orders.{is_before, members_to}
 use Rattle.journal_words.proofs.Orders.{AllUpTo, AreFalling}
 
-up_to-behind : (y : Ident × TxId) (ys : List (Ident × TxId)) (x : Ident × TxId) (xs : List (Ident × TxId)) → AllUpTo y (ys ++ x ∷ xs) → is_before y x ≡ false
+up_to-behind : (y : Ident × TxId) (ys : List (Ident × TxId)) (x : Ident × TxId) (xs : List (Ident × TxId))
+    → AllUpTo y (ys ++ x ∷ xs) → is_before y x ≡ false
 up_to-behind y [] x xs all = all.0
 up_to-behind y (z ∷ ys) x xs all = up_to-behind y ys x xs all.1
 
 -- an identifier below a member leaves only members that come before it
-pub members-before : (s : Ident) (ys : List (Ident × TxId)) (x : Ident × TxId) (xs : List (Ident × TxId)) → AreFalling (ys ++ x ∷ xs) → s < x.0 → members_to s (ys ++ x ∷ xs) ≡ members_to s xs
+pub members-before : (s : Ident) (ys : List (Ident × TxId)) (x : Ident × TxId) (xs : List (Ident × TxId))
+    → AreFalling (ys ++ x ∷ xs) → s < x.0 → members_to s (ys ++ x ∷ xs) ≡ members_to s xs
 members-before s [] x xs fall lt =
     let test : nat_le x.0 s ≡ false = grind (arith, nat_tests, lt) in
     rw test refl

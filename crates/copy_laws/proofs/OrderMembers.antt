@@ -24,7 +24,8 @@ or-false : (a : Bool) → (a || false) ≡ a
 or-false true = refl
 or-false false = refl
 
-order-member : (d : DocumentData) (past : List Act) (f : Ident) (t : TxId) → has_member f t (order d past) ≡ has_member f t (all_decisions d past)
+order-member : (d : DocumentData) (past : List Act) (f : Ident) (t : TxId)
+    → has_member f t (order d past) ≡ has_member f t (all_decisions d past)
 order-member d past f t = fold-member f t [] (all_decisions d past) ∙ or-false (has_member f t (all_decisions d past))
 
 -- the order falls: the newest member comes first
@@ -32,14 +33,16 @@ pub order-falling : (d : DocumentData) (past : List Act) → AreFalling (order d
 order-falling d past = fold-falling [] (all_decisions d past) tt
 
 -- a member of the order is decided
-pub order-decided : (d : DocumentData) (past : List Act) (t : TxId) (f : Ident) → DecisionsRest d past → has_member f t (order d past) ≡ true → IsDecided d past t f
+pub order-decided : (d : DocumentData) (past : List Act) (t : TxId) (f : Ident) → DecisionsRest d past
+    → has_member f t (order d past) ≡ true → IsDecided d past t f
 order-decided d past t f rest h =
     let w = nodes-member f t (λ n. decisions (journal d past n)) (range_with_len 1 d.cluster.nodes) (sym (order-member d past f t) ∙ h) in
     let is : has_decided t f (journal d past w.0) ≡ true = sym (decisions-member f t (journal d past w.0)) ∙ w.1 in
     (w.0, (rest false w.0 t f is).0, is)
 
 -- a member at one of the nodes from a on is among those of all
-member-nodes : (f : Ident) (t : TxId) (of : NodeId → List (Ident × TxId)) (n : NodeId) (a len : ℕ) → a ≤ n → n < a + len → has_member f t (of n) ≡ true → has_member f t (flat_map of (range_with_len a len)) ≡ true
+member-nodes : (f : Ident) (t : TxId) (of : NodeId → List (Ident × TxId)) (n : NodeId) (a len : ℕ) → a ≤ n → n < a + len
+    → has_member f t (of n) ≡ true → has_member f t (flat_map of (range_with_len a len)) ≡ true
 member-nodes f t of n a zero le lt h = absurd (omega arith)
 member-nodes f t of n a (suc len) le lt h =
     member-append f t (of a) (flat_map of (range_with_len (a + 1) len))
@@ -62,7 +65,8 @@ home-of d t n h = go (script_of t d.scripts) refl h
     go (Some s) e h = record { script = s; is = e; home = grind (arith, nat_tests, h) }
 
 -- what is decided is a member of the order
-pub decided-order : (d : DocumentData) (past : List Act) (t : TxId) (f : Ident) → IsOne d → IsDecided d past t f → has_member f t (order d past) ≡ true
+pub decided-order : (d : DocumentData) (past : List Act) (t : TxId) (f : Ident) → IsOne d → IsDecided d past t f
+    → has_member f t (order d past) ≡ true
 decided-order d past t f one is =
     let h : HomeOf d t is.0 = home-of d t is.0 is.1 in
     let most : h.script.home ≤ d.cluster.nodes = home-most d t h.script one h.is in

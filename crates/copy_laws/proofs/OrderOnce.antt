@@ -49,15 +49,18 @@ tx-member t (x ∷ xs) h = elim (or_cases (x.1 == t) (has_tx t xs) h) [
 
 -- ---- one member more
 
-insert-tx : (t : TxId) (x : Ident × TxId) (ys : List (Ident × TxId)) → has_tx t (insert_last ys x) ≡ ((x.1 == t) || has_tx t ys)
+insert-tx : (t : TxId) (x : Ident × TxId) (ys : List (Ident × TxId))
+    → has_tx t (insert_last ys x) ≡ ((x.1 == t) || has_tx t ys)
 insert-tx t x [] = refl
 insert-tx t x (y ∷ ys) = go (is_before y x) (insert-tx t x ys)
   where
-    go : (b : Bool) → has_tx t (insert_last ys x) ≡ ((x.1 == t) || has_tx t ys) → has_tx t (if b then x ∷ (y ∷ ys) else y ∷ insert_last ys x) ≡ ((x.1 == t) || ((y.1 == t) || has_tx t ys))
+    go : (b : Bool) → has_tx t (insert_last ys x) ≡ ((x.1 == t) || has_tx t ys)
+        → has_tx t (if b then x ∷ (y ∷ ys) else y ∷ insert_last ys x) ≡ ((x.1 == t) || ((y.1 == t) || has_tx t ys))
     go true rest = refl
     go false rest = grind (arith, rest)
 
-insert-once : (x : Ident × TxId) (ys : List (Ident × TxId)) → has_tx x.1 ys ≡ false → AreOnce ys → AreOnce (insert_last ys x)
+insert-once : (x : Ident × TxId) (ys : List (Ident × TxId)) → has_tx x.1 ys ≡ false → AreOnce ys
+    → AreOnce (insert_last ys x)
 insert-once x [] new h = (refl, tt)
 insert-once x (y ∷ ys) new h = go (is_before y x) (insert-once x ys (grind (arith, new)) h.1)
   where
@@ -84,7 +87,8 @@ fold-once ys (x ∷ xs) h k apart =
 -- ---- the nodes
 
 -- a transaction of these nodes is one of a node from a on
-range-tx : (t : TxId) (of : NodeId → List (Ident × TxId)) (a len : ℕ) → has_tx t (flat_map of (range_with_len a len)) ≡ true → (n : NodeId) × (a ≤ n) × (has_tx t (of n) ≡ true)
+range-tx : (t : TxId) (of : NodeId → List (Ident × TxId)) (a len : ℕ)
+    → has_tx t (flat_map of (range_with_len a len)) ≡ true → (n : NodeId) × (a ≤ n) × (has_tx t (of n) ≡ true)
 range-tx t of a zero h = cc
 range-tx t of a (suc len) h = elim (or_cases (has_tx t (of a)) (has_tx t (flat_map of (range_with_len (a + 1) len))) (sym (tx-append t (of a) (flat_map of (range_with_len (a + 1) len))) ∙ h)) [
   | inl here ↦ (a, omega arith, here)
@@ -95,18 +99,21 @@ range-tx t of a (suc len) h = elim (or_cases (has_tx t (of a)) (has_tx t (flat_m
 abbrev AreOwn : (NodeId → List (Ident × TxId)) → Type 0
 AreOwn of = (t : TxId) (n k : NodeId) → has_tx t (of n) ≡ true → has_tx t (of k) ≡ true → n ≡ k
 
-range-once : (of : NodeId → List (Ident × TxId)) → ((n : NodeId) → AreOnce (of n)) → AreOwn of → (a len : ℕ) → AreOnce (flat_map of (range_with_len a len))
+range-once : (of : NodeId → List (Ident × TxId)) → ((n : NodeId) → AreOnce (of n)) → AreOwn of → (a len : ℕ)
+    → AreOnce (flat_map of (range_with_len a len))
 range-once of once own a zero = tt
 range-once of once own a (suc len) = once-append (of a) (flat_map of (range_with_len (a + 1) len)) (once a) (range-once of once own (a + 1) len) (λ t i. apart t i (has_tx t (flat_map of (range_with_len (a + 1) len))) refl)
   where
-    apart : (t : TxId) → has_tx t (of a) ≡ true → (b : Bool) → has_tx t (flat_map of (range_with_len (a + 1) len)) ≡ b → b ≡ false
+    apart : (t : TxId) → has_tx t (of a) ≡ true → (b : Bool) → has_tx t (flat_map of (range_with_len (a + 1) len)) ≡ b
+        → b ≡ false
     apart t i false e = refl
     apart t i true e = (let w = range-tx t of (a + 1) len e in let le = w.1 in let same : a ≡ w.0 = own t a w.0 i w.2 in absurd (omega arith))
 
 -- ---- decisions
 
 -- a decision stands at the home alone
-decided-home : (d : DocumentData) (past : List Act) (n : NodeId) (t : TxId) → AllDue d past → has_tx t (decisions (journal d past n)) ≡ true → is_home d t n ≡ true
+decided-home : (d : DocumentData) (past : List Act) (n : NodeId) (t : TxId) → AllDue d past
+    → has_tx t (decisions (journal d past n)) ≡ true → is_home d t n ≡ true
 decided-home d past n t due h =
     let w = tx-member t (decisions (journal d past n)) h in
     (decisions-rest d past due false n t w.0 (sym (decisions-member w.0 t (journal d past n)) ∙ w.1)).0
@@ -119,7 +126,8 @@ order-once : (d : DocumentData) (past : List Act) → AllDue d past → AreOnce 
 order-once d past due = fold-once [] (all_decisions d past) (all-once d past due) tt (λ t i. refl)
 
 -- so none that comes before a member is of its transaction
-pub once-before : (d : DocumentData) (past : List Act) (ys xs : List (Ident × TxId)) (f g : Ident) (t : TxId) → AllDue d past → order d past ≡ ys ++ (f, t) ∷ xs → has_member g t xs ≡ true → ⊥
+pub once-before : (d : DocumentData) (past : List Act) (ys xs : List (Ident × TxId)) (f g : Ident) (t : TxId)
+    → AllDue d past → order d past ≡ ys ++ (f, t) ∷ xs → has_member g t xs ≡ true → ⊥
 once-before d past ys xs f g t due at h = twice ys (subst AreOnce at (order-once d past due))
   where
     twice : (ys : List (Ident × TxId)) → AreOnce (ys ++ (f, t) ∷ xs) → ⊥

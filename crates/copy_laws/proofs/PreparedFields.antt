@@ -26,10 +26,12 @@ pub record PreparedOf (d : DocumentData) (past : List Act) (n : NodeId) (t : TxI
   pub full : waiting script.ops (values_in d past t) ≡ None
   pub sid : x.sid ≡ snapshot d past t
   pub reads : x.reads ≡ filter (holds d.cluster.places n) (remote_keys [] script.ops)
-  pub writes : x.writes ≡ map (λ k. (k, own_map script.ops (values_in d past t) k)) (filter (holds d.cluster.places n) (written_keys [] script.ops))
+  pub writes : x.writes ≡ map (λ k. (k, own_map script.ops (values_in d past t) k))
+      (filter (holds d.cluster.places n) (written_keys [] script.ops))
 
 -- the Prepared of t that stands at n
-pub prepared-fields : (d : DocumentData) (past : List Act) (n : NodeId) (t : TxId) (x : Prepared) → AllDue d past → prepared_of t (journal d past n) ≡ Some x → PreparedOf d past n t x
+pub prepared-fields : (d : DocumentData) (past : List Act) (n : NodeId) (t : TxId) (x : Prepared) → AllDue d past
+    → prepared_of t (journal d past n) ≡ Some x → PreparedOf d past n t x
 prepared-fields d past n t x due e =
     let b : PreparedBy d past n t x = prepared-by d past n t x due e in
     let q : Prepare = b.prepare in

@@ -36,7 +36,11 @@ pub record PreparedBy (d : DocumentData) (past : List Act) (n : NodeId) (t : TxI
   pub reads : x.reads ≡ prepare.reads
   pub writes : x.writes ≡ prepare.writes
 
-prepared-by-this : (d : DocumentData) (past : List Act) (n : NodeId) (t u : TxId) (home : NodeId) (parts : List NodeId) (sid p : Ident) (reads : List Key) (writes : List (Key × Value)) (o : Option Prepared) (x : Prepared) → u ≡ t → PreparedSays d past n (record'.Prepared u home parts sid p reads writes) → older o (record { home = home; sid = sid; proposal = p; reads = reads; writes = writes }) ≡ Some x → (o ≡ Some x → PreparedBy d past n t x) → PreparedBy d past n t x
+prepared-by-this : (d : DocumentData) (past : List Act) (n : NodeId) (t u : TxId) (home : NodeId) (parts : List NodeId)
+    (sid p : Ident) (reads : List Key) (writes : List (Key × Value)) (o : Option Prepared) (x : Prepared) → u ≡ t
+    → PreparedSays d past n (record'.Prepared u home parts sid p reads writes)
+    → older o (record { home = home; sid = sid; proposal = p; reads = reads; writes = writes }) ≡ Some x
+    → (o ≡ Some x → PreparedBy d past n t x) → PreparedBy d past n t x
 prepared-by-this d past n t u home parts sid p reads writes (Some y) x same s e go = go e
 prepared-by-this d past n t u home parts sid p reads writes None x same s e go =
     let z : record { home = home; sid = sid; proposal = p; reads = reads; writes = writes } ≡ x = cc in
@@ -46,7 +50,8 @@ prepared-by-this d past n t u home parts sid p reads writes None x same s e go =
     let P : Prepared → Type 0 = λ w. PreparedBy d past n t w in
     subst P z (record { prepare = s.prepare; says = s.says; of = sym same ∙ s.t; sid = s.sid; reads = reads'; writes = writes' })
 
-prepared-in : (d : DocumentData) (past : List Act) (n : NodeId) (t : TxId) (x : Prepared) (r : List Record) → AllHold (PreparedSays d past n) r → prepared_of t r ≡ Some x → PreparedBy d past n t x
+prepared-in : (d : DocumentData) (past : List Act) (n : NodeId) (t : TxId) (x : Prepared) (r : List Record)
+    → AllHold (PreparedSays d past n) r → prepared_of t r ≡ Some x → PreparedBy d past n t x
 prepared-in d past n t x [] all e = cc
 prepared-in d past n t x (record'.Prepared u home parts sid p reads writes ∷ r) all e = elim (cases_eq u t) [
   | inl same ↦ prepared-by-this d past n t u home parts sid p reads writes (prepared_of t r) x same all.0 (grind (arith, nat_tests, e)) (λ f. prepared-in d past n t x r all.1 f)
@@ -58,12 +63,15 @@ prepared-in d past n t x (record'.Decided u f parts ∷ r) all e = prepared-in d
 prepared-in d past n t x (record'.Closed u ∷ r) all e = prepared-in d past n t x r all.1 e
 
 -- a Prepared that stands was asked for so
-pub prepared-by : (d : DocumentData) (past : List Act) (n : NodeId) (t : TxId) (x : Prepared) → AllDue d past → prepared_of t (journal d past n) ≡ Some x → PreparedBy d past n t x
+pub prepared-by : (d : DocumentData) (past : List Act) (n : NodeId) (t : TxId) (x : Prepared) → AllDue d past
+    → prepared_of t (journal d past n) ≡ Some x → PreparedBy d past n t x
 prepared-by d past n t x due e = prepared-in d past n t x (journal d past n) (prepared-say d past due n).journal e
 
 -- ---- what it writes
 
-says-write : (d : DocumentData) (past : List Act) (home n : NodeId) (q : Prepare) (k : Key) → PrepareSays d past home n q → IsTrue (holds d.cluster.places n k) → written_value k q.writes ≡ write_by d (values_in d past) k q.t
+says-write : (d : DocumentData) (past : List Act) (home n : NodeId) (q : Prepare) (k : Key)
+    → PrepareSays d past home n q → IsTrue (holds d.cluster.places n k)
+    → written_value k q.writes ≡ write_by d (values_in d past) k q.t
 says-write d past home n q k s holds' =
     let values : values_in d past q.t ≡ s.values = ap story_values s.full.at.story ∙ s.full.told in
     let mine : write_by d (values_in d past) k q.t ≡ script_write (Some s.script) s.values k = ap (λ o. script_write o (values_in d past q.t) k) s.full.at.script ∙ ap (λ w. script_write (Some s.script) w k) values in
@@ -75,7 +83,9 @@ says-write d past home n q k s holds' =
     ∙ sym mine
 
 -- a node that holds the key has the script's last write of it
-pub prepared-write : (d : DocumentData) (past : List Act) (n : NodeId) (t : TxId) (x : Prepared) (k : Key) → AllDue d past → prepared_of t (journal d past n) ≡ Some x → IsTrue (holds d.cluster.places n k) → wrote_in (prepared_of t (journal d past n)) k ≡ write_by d (values_in d past) k t
+pub prepared-write : (d : DocumentData) (past : List Act) (n : NodeId) (t : TxId) (x : Prepared) (k : Key)
+    → AllDue d past → prepared_of t (journal d past n) ≡ Some x → IsTrue (holds d.cluster.places n k)
+    → wrote_in (prepared_of t (journal d past n)) k ≡ write_by d (values_in d past) k t
 prepared-write d past n t x k due e holds' =
     let b : PreparedBy d past n t x = prepared-by d past n t x due e in
     ap (λ o. wrote_in o k) e

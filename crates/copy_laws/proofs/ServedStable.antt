@@ -40,35 +40,46 @@ changed-step (Starts true) x = go x.doubt
     go (Some y) = inr (y, refl)
 changed-step Stays x = inl refl
 
-journal-step : (d : DocumentData) (past : List Act) (a : Act) (n : NodeId) → IsStep (journal d past n) (journal d (a ∷ past) n)
+journal-step : (d : DocumentData) (past : List Act) (a : Act) (n : NodeId)
+    → IsStep (journal d past n) (journal d (a ∷ past) n)
 journal-step d past a n = changed-step (change d (got past) a n) (node d past n)
 
 -- ---- versions below every pending proposal stay
 
-version-next : (d : DocumentData) (n : NodeId) (k : Key) (sid : Ident) (r s : List Record) → all_fit d.cluster n s ≡ true → is_clear sid r ≡ true → IsStep r s → version_for d.cluster s k sid ≡ version_for d.cluster r k sid
+version-next : (d : DocumentData) (n : NodeId) (k : Key) (sid : Ident) (r s : List Record)
+    → all_fit d.cluster n s ≡ true → is_clear sid r ≡ true → IsStep r s
+    → version_for d.cluster s k sid ≡ version_for d.cluster r k sid
 version-next d n k sid r s fit clear (inl same) = ap (λ q. version_for d.cluster q k sid) same
 version-next d n k sid r s fit clear (inr more) =
     let P : List Record → Type 0 = λ q. all_fit d.cluster n q ≡ true in
     ap (λ q. version_for d.cluster q k sid) more.1 ∙ version-stays d.cluster n k _ sid more.0 r (subst P more.1 fit) clear
 
-version-more : (d : DocumentData) (past : List Act) (a : Act) (n : NodeId) (k : Key) (sid : Ident) → AllDue d (a ∷ past) → is_clear sid (journal d past n) ≡ true → version_for d.cluster (journal d (a ∷ past) n) k sid ≡ version_for d.cluster (journal d past n) k sid
+version-more : (d : DocumentData) (past : List Act) (a : Act) (n : NodeId) (k : Key) (sid : Ident) → AllDue d (a ∷ past)
+    → is_clear sid (journal d past n) ≡ true
+    → version_for d.cluster (journal d (a ∷ past) n) k sid ≡ version_for d.cluster (journal d past n) k sid
 version-more d past a n k sid due clear = version-next d n k sid (journal d past n) (journal d (a ∷ past) n) (nodes-fit d (a ∷ past) due n).fits clear (journal-step d past a n)
 
 -- ---- what was served
 
-version-later : (d : DocumentData) (n : NodeId) (t : TxId) (j : ℕ) (k : Key) (sid vn : Ident) (v : Value) (later before : List Act) → AllDue d (later ++ act.Served n t j k sid vn v ∷ before) → version_for d.cluster (journal d (later ++ act.Served n t j k sid vn v ∷ before) n) k sid ≡ version_for d.cluster (journal d before n) k sid
+version-later : (d : DocumentData) (n : NodeId) (t : TxId) (j : ℕ) (k : Key) (sid vn : Ident) (v : Value)
+    (later before : List Act) → AllDue d (later ++ act.Served n t j k sid vn v ∷ before)
+    → version_for d.cluster (journal d (later ++ act.Served n t j k sid vn v ∷ before) n) k sid
+    ≡ version_for d.cluster (journal d before n) k sid
 version-later d n t j k sid vn v [] before due = ap (λ r. version_for d.cluster r k sid) (journal-stays d before (act.Served n t j k sid vn v) n refl)
 version-later d n t j k sid vn v (a ∷ later) before due =
     version-more d (later ++ act.Served n t j k sid vn v ∷ before) a n k sid due ((served-promised d (later ++ act.Served n t j k sid vn v ∷ before) due.1 n t j k sid vn v later before refl).clear false)
     ∙ version-later d n t j k sid vn v later before due.1
 
 -- the version that was served, at its node
-pub record IsStable (d : DocumentData) (past : List Act) (n : NodeId) (k : Key) (sid vn : Ident) (v : Value) : Type 0 where
-  pub ident : (version_for d.cluster (journal d past n) k sid).ident ≡ vn
-  pub value : (version_for d.cluster (journal d past n) k sid).value ≡ v
+pub record IsStable (d : DocumentData) (past : List Act) (n : NodeId) (k : Key) (sid vn : Ident) (v : Value) : Type 0
+  where
+    pub ident : (version_for d.cluster (journal d past n) k sid).ident ≡ vn
+    pub value : (version_for d.cluster (journal d past n) k sid).value ≡ v
 
 -- what was served stays the version at its node
-pub served-stable : (d : DocumentData) (past : List Act) (n : NodeId) (t : TxId) (j : ℕ) (k : Key) (sid vn : Ident) (v : Value) (later before : List Act) → AllDue d past → past ≡ later ++ act.Served n t j k sid vn v ∷ before → IsStable d past n k sid vn v
+pub served-stable : (d : DocumentData) (past : List Act) (n : NodeId) (t : TxId) (j : ℕ) (k : Key) (sid vn : Ident)
+    (v : Value) (later before : List Act) → AllDue d past → past ≡ later ++ act.Served n t j k sid vn v ∷ before
+    → IsStable d past n k sid vn v
 served-stable d past n t j k sid vn v later before due is =
     let P : List Act → Type 0 = λ p. AllDue d p in
     let Q : List Act → Type 0 = λ p. IsStable d p n k sid vn v in

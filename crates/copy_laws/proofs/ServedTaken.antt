@@ -36,13 +36,16 @@ record Serves (past : List Act) (n : NodeId) (t : TxId) (j : ℕ) (sid : Ident) 
   before : List Act
   there : past ≡ later ++ act.Served n t j key sid vn v ∷ before
 
-serves-more : (n : NodeId) (t : TxId) (j : ℕ) (sid : Ident) (v : Value) (a : Act) (past : List Act) → Serves past n t j sid v → Serves (a ∷ past) n t j sid v
+serves-more : (n : NodeId) (t : TxId) (j : ℕ) (sid : Ident) (v : Value) (a : Act) (past : List Act)
+    → Serves past n t j sid v → Serves (a ∷ past) n t j sid v
 serves-more n t j sid v a past s = record { key = s.key; vn = s.vn; later = a ∷ s.later; before = s.before; there = ap (λ p. a ∷ p) s.there }
 
-serves-now : (n m : NodeId) (t u : TxId) (j i : ℕ) (k : Key) (sid s vn : Ident) (v w : Value) (past : List Act) → m ≡ n → u ≡ t → i ≡ j → s ≡ sid → w ≡ v → Serves (act.Served m u i k s vn w ∷ past) n t j sid v
+serves-now : (n m : NodeId) (t u : TxId) (j i : ℕ) (k : Key) (sid s vn : Ident) (v w : Value) (past : List Act) → m ≡ n
+    → u ≡ t → i ≡ j → s ≡ sid → w ≡ v → Serves (act.Served m u i k s vn w ∷ past) n t j sid v
 serves-now n m t u j i k sid s vn v w past e e' e'' f f' = record { key = k; vn = vn; later = []; before = past; there = cc }
 
-serves-act : (n : NodeId) (t : TxId) (j : ℕ) (sid : Ident) (v : Value) (past : List Act) → has_served n t j sid v past ≡ true → Serves past n t j sid v
+serves-act : (n : NodeId) (t : TxId) (j : ℕ) (sid : Ident) (v : Value) (past : List Act)
+    → has_served n t j sid v past ≡ true → Serves past n t j sid v
 serves-act n t j sid v [] h = cc
 serves-act n t j sid v (act.Served m u i k s vn w ∷ past) h = elim (or_cases (m == n && (u == t && (i == j && (s == sid && w == v)))) (has_served n t j sid v past) h) [
   | inl here ↦ serves-now n m t u j i k sid s vn v w past (grind (arith, nat_tests, here)) (grind (arith, nat_tests, here)) (grind (arith, nat_tests, here)) (grind (arith, nat_tests, here)) (grind (arith, nat_tests, here))
@@ -50,18 +53,21 @@ serves-act n t j sid v (act.Served m u i k s vn w ∷ past) h = elim (or_cases (
 ]
 serves-act n t j sid v (a ∷ past) h = serves-more n t j sid v a past (serves-act n t j sid v past h)
 
-has-served : (d : DocumentData) (past : List Act) (n : NodeId) (t : TxId) (j : ℕ) (sid : Ident) (v : Value) → AllDue d past → has_served n t j sid v past ≡ true → IsServed d past t j sid v
+has-served : (d : DocumentData) (past : List Act) (n : NodeId) (t : TxId) (j : ℕ) (sid : Ident) (v : Value)
+    → AllDue d past → has_served n t j sid v past ≡ true → IsServed d past t j sid v
 has-served d past n t j sid v due h =
     let s : Serves past n t j sid v = serves-act n t j sid v past h in
     let own : IsOwn d n t j s.key = served-own d past n t j s.key sid s.vn v s.later s.before due s.there in
     record { n = n; key = s.key; vn = s.vn; later = s.later; before = s.before; there = s.there; holds = own.holds; named = own.named }
 
-served-more : (d : DocumentData) (past : List Act) (a : Act) (t : TxId) (j : ℕ) (sid : Ident) (v : Value) → IsServed d past t j sid v → IsServed d (a ∷ past) t j sid v
+served-more : (d : DocumentData) (past : List Act) (a : Act) (t : TxId) (j : ℕ) (sid : Ident) (v : Value)
+    → IsServed d past t j sid v → IsServed d (a ∷ past) t j sid v
 served-more d past a t j sid v s = record { n = s.n; key = s.key; vn = s.vn; later = a ∷ s.later; before = s.before; there = ap (λ p. a ∷ p) s.there; holds = s.holds; named = s.named }
 
 -- ---- the replies that are taken
 
-taken-due : (d : DocumentData) (past : List Act) (t : TxId) (j : ℕ) (sid : Ident) (v : Value) → AllDue d past → TakenDue d past t j sid v → IsServed d past t j sid v
+taken-due : (d : DocumentData) (past : List Act) (t : TxId) (j : ℕ) (sid : Ident) (v : Value) → AllDue d past
+    → TakenDue d past t j sid v → IsServed d past t j sid v
 taken-due d past t j sid v all due =
     let says : has_served due.from t j sid v past ≡ true = got-hold (λ now n y said. Says d now n said) d past (λ now a n y said all h. says-more d now a n said h) (λ now n y said all h. says-due d now n y said all h) all (record { from = due.from; to = due.n; message = message.ReadRep (record { t = t; op = j; sid = sid; value = v }) }) due.got in
     has-served d past due.from t j sid v all says
@@ -88,13 +94,17 @@ takens-served d (a ∷ past) due = (takes-due d past a due, each-act-more (Takes
 
 -- each value was served, at the snapshot
 abbrev AreServed : DocumentData → List Act → TxId → Option Ident → List (ℕ × Value) → Type 0
-AreServed d past t o values = (j : ℕ) (v : Value) → value_taken j values ≡ Some v → (sid : Ident) × (o ≡ Some sid) × IsServed d past t j sid v
+AreServed d past t o values =
+    (j : ℕ) (v : Value) → value_taken j values ≡ Some v → (sid : Ident) × (o ≡ Some sid) × IsServed d past t j sid v
 
-last-taken : (j op : ℕ) (v w : Value) (values : List (ℕ × Value)) → value_taken j (values ++ (op, w) ∷ []) ≡ Some v → (value_taken j values ≡ Some v) ⊎ ((op ≡ j) × (w ≡ v))
+last-taken : (j op : ℕ) (v w : Value) (values : List (ℕ × Value)) → value_taken j (values ++ (op, w) ∷ []) ≡ Some v
+    → (value_taken j values ≡ Some v) ⊎ ((op ≡ j) × (w ≡ v))
 last-taken j op v w [] e = inr (grind (arith, nat_tests, e), grind (arith, nat_tests, e))
 last-taken j op v w (x ∷ values) e = go (x.0 == j) e (last-taken j op v w values)
   where
-    go : (b : Bool) → (if b then Some x.1 else value_taken j (values ++ (op, w) ∷ [])) ≡ Some v → (value_taken j (values ++ (op, w) ∷ []) ≡ Some v → (value_taken j values ≡ Some v) ⊎ ((op ≡ j) × (w ≡ v))) → ((if b then Some x.1 else value_taken j values) ≡ Some v) ⊎ ((op ≡ j) × (w ≡ v))
+    go : (b : Bool) → (if b then Some x.1 else value_taken j (values ++ (op, w) ∷ [])) ≡ Some v
+        → (value_taken j (values ++ (op, w) ∷ []) ≡ Some v → (value_taken j values ≡ Some v) ⊎ ((op ≡ j) × (w ≡ v)))
+        → ((if b then Some x.1 else value_taken j values) ≡ Some v) ⊎ ((op ≡ j) × (w ≡ v))
     go true e rest = inl e
     go false e rest = rest e
 
@@ -106,7 +116,9 @@ first-kept : (o : Option Ident) (sid s : Ident) → o ≡ Some s → Some (first
 first-kept None sid s e = cc
 first-kept (Some z) sid s e = e
 
-served-step : (d : DocumentData) (past : List Act) (t : TxId) (op : ℕ) (sid : Ident) (v : Value) (o : Option Ident) (values : List (ℕ × Value)) → is_same_ident sid o ≡ true → IsServed d past t op sid v → AreServed d past t o values → AreServed d past t (Some (first_sid o sid)) (values ++ (op, v) ∷ [])
+served-step : (d : DocumentData) (past : List Act) (t : TxId) (op : ℕ) (sid : Ident) (v : Value) (o : Option Ident)
+    (values : List (ℕ × Value)) → is_same_ident sid o ≡ true → IsServed d past t op sid v → AreServed d past t o values
+    → AreServed d past t (Some (first_sid o sid)) (values ++ (op, v) ∷ [])
 served-step d past t op sid v o values same now h j w e = elim (last-taken j op w v values e) [
   | inl old ↦ (let s = h j w old in (s.0, first-kept o sid s.0 s.1, s.2))
   | inr new ↦
@@ -115,11 +127,14 @@ served-step d past t op sid v o values same now h j w e = elim (last-taken j op 
       (sid, first-same o sid same, subst Q new.1 (subst P new.0 now))
 ]
 
-of-weaker : (P Q : Option Ident → List (ℕ × Value) → Type 0) (o : Option Story) → ((s : Option Ident) (values : List (ℕ × Value)) → P s values → Q s values) → OfStory (Unit {0}) P o → OfStory (Unit {0}) Q o
+of-weaker : (P Q : Option Ident → List (ℕ × Value) → Type 0) (o : Option Story)
+    → ((s : Option Ident) (values : List (ℕ × Value)) → P s values → Q s values) → OfStory (Unit {0}) P o
+    → OfStory (Unit {0}) Q o
 of-weaker P Q None go h = tt
 of-weaker P Q (Some x) go h = go x.progress.sid x.progress.values h
 
-stories-served : (d : DocumentData) (past : List Act) (t : TxId) → AllDue d past → OfStory (Unit {0}) (AreServed d past t) (story d past t)
+stories-served : (d : DocumentData) (past : List Act) (t : TxId) → AllDue d past
+    → OfStory (Unit {0}) (AreServed d past t) (story d past t)
 stories-served d [] t due = tt
 stories-served d (a ∷ past) t due =
     of-more (Unit {0}) (AreServed d (a ∷ past) t) d past a t (λ n j v e. cc)
@@ -128,5 +143,7 @@ stories-served d (a ∷ past) t due =
     (of-weaker (AreServed d past t) (AreServed d (a ∷ past) t) (story d past t) (λ s values h j v e. (let i = h j v e in (i.0, i.1, served-more d past a t j i.0 v i.2))) (stories-served d past t due.1))
 
 -- each value of a story was served at its snapshot
-pub taken-served : (d : DocumentData) (past : List Act) (t : TxId) (x : Story) (j : ℕ) (v : Value) → AllDue d past → story d past t ≡ Some x → value_taken j x.progress.values ≡ Some v → (sid : Ident) × (x.progress.sid ≡ Some sid) × IsServed d past t j sid v
+pub taken-served : (d : DocumentData) (past : List Act) (t : TxId) (x : Story) (j : ℕ) (v : Value) → AllDue d past
+    → story d past t ≡ Some x → value_taken j x.progress.values ≡ Some v
+    → (sid : Ident) × (x.progress.sid ≡ Some sid) × IsServed d past t j sid v
 taken-served d past t x j v due told e = (let P : Option Story → Type 0 = λ o. OfStory (Unit {0}) (AreServed d past t) o in let h : AreServed d past t x.progress.sid x.progress.values = subst P told (stories-served d past t due) in h j v e)

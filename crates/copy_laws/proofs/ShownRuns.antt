@@ -56,14 +56,20 @@ unshowing-acts m n b os h = pass-acts is_unshowing n (λ k y said. refl) (λ x. 
 
 -- ---- a reply
 
-taken-shown : (past : List Act) (t : TxId) (op : ℕ) (sid : Ident) (v : Value) → shown (act.Taken t op sid v ∷ past) t ≡ shown past t ++ (op, v) ∷ []
+taken-shown : (past : List Act) (t : TxId) (op : ℕ) (sid : Ident) (v : Value)
+    → shown (act.Taken t op sid v ∷ past) t ≡ shown past t ++ (op, v) ∷ []
 taken-shown past t op sid v = rw (same-number t) refl
 
-others-took : (d : DocumentData) (past : List Act) (q : ReadRep) → AllShown d past → OthersShown d (act.Taken q.t q.op q.sid q.value ∷ past) q.t
+others-took : (d : DocumentData) (past : List Act) (q : ReadRep) → AllShown d past
+    → OthersShown d (act.Taken q.t q.op q.sid q.value ∷ past) q.t
 others-took d past q all t s other e = other-took d past q.t t q.op q.sid q.value s other (all t s e)
 
 -- the reply that was waited for is shown, and the own reads behind it are left
-left-behind : (d : DocumentData) (past : List Act) (q : ReadRep) (s : ScriptData) (x : Story) → AllDue d past → script_of q.t d.scripts ≡ Some s → story d past q.t ≡ Some x → waiting s.ops x.progress.values ≡ Some q.op → ShownBy d past q.t s → shown (act.Taken q.t q.op q.sid q.value ∷ past) q.t ++ filter (λ y. nat_lt q.op y.0) (own_reads 1 [] unread (x.progress.values ++ (q.op, q.value) ∷ []) s.ops) ≡ reads_by (x.progress.values ++ (q.op, q.value) ∷ []) s.ops
+left-behind : (d : DocumentData) (past : List Act) (q : ReadRep) (s : ScriptData) (x : Story) → AllDue d past
+    → script_of q.t d.scripts ≡ Some s → story d past q.t ≡ Some x → waiting s.ops x.progress.values ≡ Some q.op
+    → ShownBy d past q.t s → shown (act.Taken q.t q.op q.sid q.value ∷ past) q.t
+    ++ filter (λ y. nat_lt q.op y.0) (own_reads 1 [] unread (x.progress.values ++ (q.op, q.value) ∷ []) s.ops)
+    ≡ reads_by (x.progress.values ++ (q.op, q.value) ∷ []) s.ops
 left-behind d past q s x due is at reads mine =
     let order = story-order d past q.t s x due is at in
     let P : Option Story → Type 0 = λ o. Says s (shown past q.t) o in
@@ -74,7 +80,9 @@ left-behind d past q s x due is at reads mine =
     ∙ ap (λ zs. zs ++ ((q.op, q.value) ∷ owns)) before
     ∙ sym (reads-next q.op q.value x.progress.values order.0 s.ops order.1 reads)
 
-shown-taken : (d : DocumentData) (past : List Act) (m : ℕ) (n : NodeId) (b : Bool) (q : ReadRep) (x : Open) → Opens d past n q.t x (Some q.op) → AllDue d past → AllShown d past → AllShown d (after past (numbered m n (kept b n (out.Act (act.Taken q.t q.op q.sid q.value) ∷ advance d.cluster (with_reply q x) q.op))))
+shown-taken : (d : DocumentData) (past : List Act) (m : ℕ) (n : NodeId) (b : Bool) (q : ReadRep) (x : Open)
+    → Opens d past n q.t x (Some q.op) → AllDue d past → AllShown d past → AllShown d (after past
+    (numbered m n (kept b n (out.Act (act.Taken q.t q.op q.sid q.value) ∷ advance d.cluster (with_reply q x) q.op))))
 shown-taken d past m n b q x o due all =
     let now : List Act = act.Taken q.t q.op q.sid q.value ∷ past in
     let y : Story = progressed (with_value q.op q.sid q.value) o.story in
@@ -90,7 +98,10 @@ shown-taken d past m n b q x o due all =
     subst T (sym (kept-first m n b (act.Taken q.t q.op q.sid q.value) (advance d.cluster (with_reply q x) q.op) refl))
     (subst S (sym o.is) (shown-advance d now m n b o.script y q.op (subst P (sym number) o.at.script) (subst Q (sym number) at) (subst L (sym number) left) (subst R (sym number) (others-took d past q all))))
 
-shown-answer : (d : DocumentData) (past : List Act) (k m : ℕ) (n x : NodeId) (b : Bool) (said : Message) (c : Bool) → is_reply said ≡ c → sent_at k (sent past) ≡ Some (record { from = x; to = n; message = said }) → AllDue d (act.Got k ∷ past) → AllShown d (act.Got k ∷ past) → AllShown d (after (act.Got k ∷ past) (numbered m n (kept b n (answer n (view d past n) x said))))
+shown-answer : (d : DocumentData) (past : List Act) (k m : ℕ) (n x : NodeId) (b : Bool) (said : Message) (c : Bool)
+    → is_reply said ≡ c → sent_at k (sent past) ≡ Some (record { from = x; to = n; message = said })
+    → AllDue d (act.Got k ∷ past) → AllShown d (act.Got k ∷ past)
+    → AllShown d (after (act.Got k ∷ past) (numbered m n (kept b n (answer n (view d past n) x said))))
 shown-answer d past k m n x b (message.ReadRep q) c quiet is due all =
     let now : List Act = act.Got k ∷ past in
     let same : stage (view d now n) q.t ≡ stage (view d past n) q.t = stage-quiet d past k x n (message.ReadRep q) q.t is refl in
@@ -101,7 +112,9 @@ shown-answer d past k m n x b said false quiet is due all = unshowing-all d (act
 
 -- ---- a begin
 
-shown-begin : (d : DocumentData) (past : List Act) (m : ℕ) (b : Bool) (s : ScriptData) → script_of s.number d.scripts ≡ Some s → story d past s.number ≡ None → AllShown d past → AllShown d (after past (numbered m s.home (kept b s.home (begin_outs s.home (participant (view d past s.home)) s (floor_at d past s)))))
+shown-begin : (d : DocumentData) (past : List Act) (m : ℕ) (b : Bool) (s : ScriptData)
+    → script_of s.number d.scripts ≡ Some s → story d past s.number ≡ None → AllShown d past → AllShown d (after past
+    (numbered m s.home (kept b s.home (begin_outs s.home (participant (view d past s.home)) s (floor_at d past s)))))
 shown-begin d past m b s is new all =
     let sid0 : Ident = first_at d past s in
     let now : List Act = act.Began s.number s.home sid0 ∷ past in
@@ -147,7 +160,8 @@ shown-row d past e c due all = by-shape d past e c (λ acts. AllShown d (after p
 
 -- ---- a run
 
-shown-rows : (d : DocumentData) (past : List Act) (es : List Item) (h : List Act) → AllDue d (after past h) → AllShown d past → Rows d past es h → AllShown d (after past h)
+shown-rows : (d : DocumentData) (past : List Act) (es : List Item) (h : List Act) → AllDue d (after past h)
+    → AllShown d past → Rows d past es h → AllShown d (after past h)
 unfolding Rows
 shown-rows d past [] h due all rows = rw rows all
 shown-rows d past (e ∷ es) h due all rows =
@@ -170,5 +184,6 @@ all-shown d items h run =
     subst P (sym whole) more
 
 -- what a transaction was shown, between events, is what its script reads by the values taken
-pub shown-reads : (d : DocumentData) (h : List Act) → IsRun d d.items h → (t : TxId) (s : ScriptData) → script_of t d.scripts ≡ Some s → shown (after [] h) t ≡ story_reads s (story d (after [] h) t)
+pub shown-reads : (d : DocumentData) (h : List Act) → IsRun d d.items h → (t : TxId) (s : ScriptData)
+    → script_of t d.scripts ≡ Some s → shown (after [] h) t ≡ story_reads s (story d (after [] h) t)
 shown-reads d h run t s is = all-shown d d.items h run t s is

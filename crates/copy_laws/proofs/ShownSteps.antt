@@ -82,19 +82,23 @@ pub unshowing-by : (d : DocumentData) (past : List Act) (a : Act) (t : TxId) (s 
 unshowing-by d past a t s quiet h = unshowing-shown past a t quiet ∙ unshowing-says s (shown past t) d past a t quiet h
 
 -- an act of another transaction
-pub other-began : (d : DocumentData) (past : List Act) (u t : TxId) (n : NodeId) (sid0 : Ident) (s : ScriptData) → u ≢ t → ShownBy d past t s → ShownBy d (act.Began u n sid0 ∷ past) t s
+pub other-began : (d : DocumentData) (past : List Act) (u t : TxId) (n : NodeId) (sid0 : Ident) (s : ScriptData) → u ≢ t
+    → ShownBy d past t s → ShownBy d (act.Began u n sid0 ∷ past) t s
 other-began d past u t n sid0 s other h = (let e : (u == t) ≡ false = grind (arith, nat_tests) in rw e h)
 
-pub other-own : (d : DocumentData) (past : List Act) (u t : TxId) (op : ℕ) (v : Value) (s : ScriptData) → u ≢ t → ShownBy d past t s → ShownBy d (act.Own u op v ∷ past) t s
+pub other-own : (d : DocumentData) (past : List Act) (u t : TxId) (op : ℕ) (v : Value) (s : ScriptData) → u ≢ t
+    → ShownBy d past t s → ShownBy d (act.Own u op v ∷ past) t s
 other-own d past u t op v s other h = (let e : (u == t) ≡ false = grind (arith, nat_tests) in rw e h)
 
-pub other-took : (d : DocumentData) (past : List Act) (u t : TxId) (op : ℕ) (sid : Ident) (v : Value) (s : ScriptData) → u ≢ t → ShownBy d past t s → ShownBy d (act.Taken u op sid v ∷ past) t s
+pub other-took : (d : DocumentData) (past : List Act) (u t : TxId) (op : ℕ) (sid : Ident) (v : Value) (s : ScriptData)
+    → u ≢ t → ShownBy d past t s → ShownBy d (act.Taken u op sid v ∷ past) t s
 other-took d past u t op sid v s other h =
     let e : (u == t) ≡ false = grind (arith, nat_tests) in
     let same : shown (act.Taken u op sid v ∷ past) t ≡ shown past t = if-other (u == t) (shown past t ++ (op, v) ∷ []) (shown past t) e in
     same ∙ if-none (u == t) (progressed (with_value op sid v)) (story d past t) e h
   where
-    if-none : (b : Bool) (f : Story → Story) (o : Option Story) → b ≡ false → Says s (shown past t) o → Says s (shown past t) (if_told b f o)
+    if-none : (b : Bool) (f : Story → Story) (o : Option Story) → b ≡ false → Says s (shown past t) o
+        → Says s (shown past t) (if_told b f o)
     if-none b f None e h = h
     if-none true f (Some x) e h = cc
     if-none false f (Some x) e h = h
@@ -125,13 +129,16 @@ unshowing-all d past (a ∷ acts) quiet all =
 abbrev IsInOrder : List Op → Option Ident → List (ℕ × Value) → Type 0
 IsInOrder ops o values = (rest : List ℕ) × InOrder ops values rest
 
-order-took : (ops : List Op) (values : List (ℕ × Value)) (rest : List ℕ) (op : ℕ) (v : Value) → waiting ops values ≡ Some op → InOrder ops values rest → (more : List ℕ) × InOrder ops (values ++ (op, v) ∷ []) more
+order-took : (ops : List Op) (values : List (ℕ × Value)) (rest : List ℕ) (op : ℕ) (v : Value)
+    → waiting ops values ≡ Some op → InOrder ops values rest
+    → (more : List ℕ) × InOrder ops (values ++ (op, v) ∷ []) more
 order-took ops values rest op v reads h =
     let left = order-left ops values rest op h reads in
     let P : List ℕ → Type 0 = λ ns. InOrder ops values ns in
     (left.0, order-more ops values op v left.0 (subst P left.1 h))
 
-stories-order : (d : DocumentData) (past : List Act) (t : TxId) (s : ScriptData) → AllDue d past → script_of t d.scripts ≡ Some s → OfStory (Unit {0}) (IsInOrder s.ops) (story d past t)
+stories-order : (d : DocumentData) (past : List Act) (t : TxId) (s : ScriptData) → AllDue d past
+    → script_of t d.scripts ≡ Some s → OfStory (Unit {0}) (IsInOrder s.ops) (story d past t)
 stories-order d [] t s due is = tt
 stories-order d (a ∷ past) t s due is =
     of-more (Unit {0}) (IsInOrder s.ops) d past a t (λ n. (remote_numbers 1 [] s.ops, order-first s.ops))
@@ -145,5 +152,6 @@ stories-order d (a ∷ past) t s due is =
     equal-script y z e = cc
 
 -- the values of a story are those of the first remote reads
-pub story-order : (d : DocumentData) (past : List Act) (t : TxId) (s : ScriptData) (x : Story) → AllDue d past → script_of t d.scripts ≡ Some s → story d past t ≡ Some x → (rest : List ℕ) × InOrder s.ops x.progress.values rest
+pub story-order : (d : DocumentData) (past : List Act) (t : TxId) (s : ScriptData) (x : Story) → AllDue d past
+    → script_of t d.scripts ≡ Some s → story d past t ≡ Some x → (rest : List ℕ) × InOrder s.ops x.progress.values rest
 story-order d past t s x due is told = let P : Option Story → Type 0 = λ o. OfStory (Unit {0}) (IsInOrder s.ops) o in subst P told (stories-order d past t s due is)

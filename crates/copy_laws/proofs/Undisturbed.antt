@@ -30,15 +30,19 @@ use Rattle.grid_laws.proofs.PartsOfKeys.{named-part-at, remote-named, some-holde
 use Rattle.copy_laws.proofs.PreparedFields.{PreparedOf, prepared-fields}
 
 -- the Prepared of a decided transaction at a holder of one of its keys
-record DecidedAt (d : DocumentData) (past : List Act) (n : NodeId) (t : TxId) (f : Ident) (s : ScriptData) : Type 0 where
-  pub prepared : Prepared
-  pub stands : prepared_of t (journal d past n) ≡ Some prepared
-  pub least : prepared.proposal ≤ f
-  pub sid : prepared.sid ≡ snapshot d past t
-  pub reads : prepared.reads ≡ filter (holds d.cluster.places n) (remote_keys [] s.ops)
-  pub writes : prepared.writes ≡ map (λ k. (k, own_map s.ops (values_in d past t) k)) (filter (holds d.cluster.places n) (written_keys [] s.ops))
+record DecidedAt (d : DocumentData) (past : List Act) (n : NodeId) (t : TxId) (f : Ident) (s : ScriptData) : Type 0
+  where
+    pub prepared : Prepared
+    pub stands : prepared_of t (journal d past n) ≡ Some prepared
+    pub least : prepared.proposal ≤ f
+    pub sid : prepared.sid ≡ snapshot d past t
+    pub reads : prepared.reads ≡ filter (holds d.cluster.places n) (remote_keys [] s.ops)
+    pub writes : prepared.writes ≡ map (λ k. (k, own_map s.ops (values_in d past t) k))
+        (filter (holds d.cluster.places n) (written_keys [] s.ops))
 
-decided-at : (d : DocumentData) (past : List Act) (n : NodeId) (t : TxId) (f : Ident) (s : ScriptData) (k : Key) → Rests d past → IsDecided d past t f → script_of t d.scripts ≡ Some s → holds d.cluster.places n k ≡ true → is_key_among k (keys_named s.ops) ≡ true → DecidedAt d past n t f s
+decided-at : (d : DocumentData) (past : List Act) (n : NodeId) (t : TxId) (f : Ident) (s : ScriptData) (k : Key)
+    → Rests d past → IsDecided d past t f → script_of t d.scripts ≡ Some s → holds d.cluster.places n k ≡ true
+    → is_key_among k (keys_named s.ops) ≡ true → DecidedAt d past n t f s
 decided-at d past n t f s k r dec is held named =
     let rests : RestsOnParts d past t f = (decisions-rest d past r.due false dec.0 t f dec.2).1 in
     let part : is_among n (parts_at d t) ≡ true = named-part-at d t s n k r.one is held named in
@@ -61,7 +65,10 @@ decided-at d past n t f s k r dec is held named =
     one-script z e = cc
 
 -- t read a key remotely that u wrote: u is in the snapshot of t, or comes behind t
-pub undisturbed : (d : DocumentData) (past : List Act) (t u : TxId) (f g : Ident) (s v : ScriptData) (k : Key) → Rests d past → t ≢ u → IsDecided d past t f → IsDecided d past u g → script_of t d.scripts ≡ Some s → script_of u d.scripts ≡ Some v → is_key_among k (remote_keys [] s.ops) ≡ true → is_key_among k (written_keys [] v.ops) ≡ true → (g ≤ snapshot d past t) ⊎ (f < g)
+pub undisturbed : (d : DocumentData) (past : List Act) (t u : TxId) (f g : Ident) (s v : ScriptData) (k : Key)
+    → Rests d past → t ≢ u → IsDecided d past t f → IsDecided d past u g → script_of t d.scripts ≡ Some s
+    → script_of u d.scripts ≡ Some v → is_key_among k (remote_keys [] s.ops) ≡ true
+    → is_key_among k (written_keys [] v.ops) ≡ true → (g ≤ snapshot d past t) ⊎ (f < g)
 undisturbed d past t u f g s v k r ne dt du is iv read wrote =
     let n = some-holder d k r.one in
     let a : DecidedAt d past n.0 t f s = decided-at d past n.0 t f s k r dt is n.1 (remote-named k [] s.ops read) in
@@ -75,7 +82,9 @@ undisturbed d past t u f g s v k r ne dt du is iv read wrote =
       | inr before ↦ inr (behind n.0 a b before)
     ]
   where
-    seen : (n : NodeId) (a : DecidedAt d past n t f s) (b : DecidedAt d past n u g v) → is_key_among k a.prepared.reads ≡ true → is_key_among k (keys_of_writes b.prepared.writes) ≡ true → IsBefore (ended u (journal d past n)) b.prepared a.prepared → g ≤ snapshot d past t
+    seen : (n : NodeId) (a : DecidedAt d past n t f s) (b : DecidedAt d past n u g v)
+        → is_key_among k a.prepared.reads ≡ true → is_key_among k (keys_of_writes b.prepared.writes) ≡ true
+        → IsBefore (ended u (journal d past n)) b.prepared a.prepared → g ≤ snapshot d past t
     seen n a b reads writes (aborted e) = absurd (decided-commits d past r.due n u g du e)
     seen n a b reads writes (committed g' e lt each) =
         let one : g' ≡ g = decided-same d past r.due u g' g (commit-decided d past r.due n u g' e) du in
@@ -83,7 +92,8 @@ undisturbed d past t u f g s v k r ne dt du is iv read wrote =
         let sid : a.prepared.sid ≡ snapshot d past t = a.sid in
         omega arith
 
-    behind : (n : NodeId) (a : DecidedAt d past n t f s) (b : DecidedAt d past n u g v) → IsBefore (ended t (journal d past n)) a.prepared b.prepared → f < g
+    behind : (n : NodeId) (a : DecidedAt d past n t f s) (b : DecidedAt d past n u g v)
+        → IsBefore (ended t (journal d past n)) a.prepared b.prepared → f < g
     behind n a b (aborted e) = absurd (decided-commits d past r.due n t f dt e)
     behind n a b (committed f' e lt each) =
         let one : f' ≡ f = decided-same d past r.due t f' f (commit-decided d past r.due n t f' e) dt in

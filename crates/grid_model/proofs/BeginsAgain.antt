@@ -31,7 +31,8 @@ closed-stage = refl
 
 -- ---- it begins again
 
-pub again-outs : outs_of 1 (view read_then_write closed 1) (event.Begin copy_script 0) ≡ out.Act (act.Began 1 1 1) ∷ out.Send 2 (request 1 1 a (date.First 1)) ∷ []
+pub again-outs : outs_of 1 (view read_then_write closed 1) (event.Begin copy_script 0) ≡ out.Act (act.Began 1 1 1) ∷
+    out.Send 2 (request 1 1 a (date.First 1)) ∷ []
 again-outs = refl
 
 abbrev pub reading : List Act
@@ -41,7 +42,8 @@ pub reading-phases : phases read_then_write reading ≡ Reading 1 ∷ []
 reading-phases = refl
 
 abbrev pub open_again : Open
-open_again = record { script = copy_script; progress = record { sid0 = 1; turn = 0; sid = None; values = []; votes = [] } }
+open_again =
+    record { script = copy_script; progress = record { sid0 = 1; turn = 0; sid = None; values = []; votes = [] } }
 
 pub reading-stage : stage (view read_then_write reading 1) 1 ≡ Reads open_again 1
 reading-stage = refl
@@ -58,7 +60,9 @@ replied = after reading (
     ∷ []
     )
 
-pub replied-outs : outs_of 1 (view read_then_write replied 1) (event.Deliver 2 (reply 1 1 1 10)) ≡ out.Act (act.Taken 1 1 1 10) ∷ out.Send 1 (prepare 1 1 (1 ∷ 2 ∷ []) [] ((b, 11) ∷ [])) ∷ out.Send 2 (prepare 1 1 (1 ∷ 2 ∷ []) (a ∷ []) []) ∷ []
+pub replied-outs : outs_of 1 (view read_then_write replied 1) (event.Deliver 2 (reply 1 1 1 10)) ≡ out.Act
+    (act.Taken 1 1 1 10) ∷ out.Send 1 (prepare 1 1 (1 ∷ 2 ∷ []) [] ((b, 11) ∷ [])) ∷ out.Send 2
+    (prepare 1 1 (1 ∷ 2 ∷ []) (a ∷ []) []) ∷ []
 replied-outs = refl
 
 abbrev pub collecting : List Act
@@ -79,9 +83,13 @@ collecting-stage = refl
 -- ---- votes count, and it is decided again
 
 abbrev pub voted : List Act
-voted = after collecting (act.Sent 15 1 1 (message.Vote 1 (ballot.Yes 2)) ∷ act.Sent 16 2 1 (message.Vote 1 (ballot.Yes 2)) ∷ act.Got 15 ∷ [])
+voted =
+    after collecting (act.Sent 15 1 1 (message.Vote 1 (ballot.Yes 2)) ∷ act.Sent 16 2 1 (message.Vote 1 (ballot.Yes 2))
+    ∷ act.Got 15 ∷ [])
 
-pub voted-outs : outs_of 1 (view read_then_write voted 1) (event.Deliver 2 (message.Vote 1 (ballot.Yes 2))) ≡ out.Act (act.Decided 1 2) ∷ out.Act (act.Finished 1) ∷ out.Send 1 (message.Tell 1 (outcome.Commit 2)) ∷ out.Send 2 (message.Tell 1 (outcome.Commit 2)) ∷ []
+pub voted-outs : outs_of 1 (view read_then_write voted 1) (event.Deliver 2 (message.Vote 1 (ballot.Yes 2))) ≡ out.Act
+    (act.Decided 1 2) ∷ out.Act (act.Finished 1) ∷ out.Send 1 (message.Tell 1 (outcome.Commit 2)) ∷ out.Send 2
+    (message.Tell 1 (outcome.Commit 2)) ∷ []
 voted-outs = refl
 
 abbrev pub decided : List Act

@@ -86,8 +86,10 @@ none : (d : DocumentData) (past : List Act) (i : Item) → IsShaped d past i (λ
 none d past i = record { shape = idle [] refl; same = λ c. refl }
 
 begin-shaped : (d : DocumentData) (past : List Act) (i : Item) (s : ScriptData) (b busy : Bool)
-    → script_of s.number d.scripts ≡ Some s → story d past s.number ≡ None → (node d past s.home).up ≡ b → is_busy_at d past s ≡ busy
-    → IsShaped d past i (λ c. if not b then act.Void 2 ∷ [] else (if busy then act.Void 9 ∷ [] else acts_of past c s.home (begin_outs s.home (participant (view d past s.home)) s (floor_at d past s))))
+    → script_of s.number d.scripts ≡ Some s → story d past s.number ≡ None → (node d past s.home).up ≡ b
+    → is_busy_at d past s ≡ busy
+    → IsShaped d past i (λ c. if not b then act.Void 2 ∷ [] else (if busy then act.Void 9 ∷ []
+    else acts_of past c s.home (begin_outs s.home (participant (view d past s.home)) s (floor_at d past s))))
 begin-shaped d past i s true false is new up quiet = record { shape = begins s is new up quiet; same = λ c. refl }
 begin-shaped d past i s true true is new up quiet = alone d past i (act.Void 9) refl
 begin-shaped d past i s false busy is new up quiet = alone d past i (act.Void 2) refl
@@ -104,7 +106,8 @@ begin_row-shaped d past i t None (Some s) new is =
 
 deliver-shaped : (d : DocumentData) (past : List Act) (i : Item) (m : ℕ) (e : Envelope) (b : Bool)
     → sent_at m (sent past) ≡ Some e → (node d past e.to).up ≡ b
-    → IsShaped d past i (λ c. if b then act.Got m ∷ acts_of past c e.to (answer e.to (view d past e.to) e.from e.message) else act.Missed m ∷ [])
+    → IsShaped d past i (λ c. if b
+    then act.Got m ∷ acts_of past c e.to (answer e.to (view d past e.to) e.from e.message) else act.Missed m ∷ [])
 deliver-shaped d past i m e true is up = record { shape = delivers m e is up; same = λ c. refl }
 deliver-shaped d past i m e false is up = alone d past i (act.Missed m) refl
 
@@ -131,14 +134,18 @@ again-shaped d past i n [] code down true up is = alone d past i (act.Void code)
 again-shaped d past i n (o ∷ os) code down true up is = record { shape = again n (o ∷ os) up is; same = λ c. refl }
 again-shaped d past i n os code down false up is = alone d past i (act.Void down) refl
 
-peer-shaped : (d : DocumentData) (past : List Act) (i : Item) (n : NodeId) (t : TxId) (m : NodeId) (b pending_there : Bool)
+peer-shaped : (d : DocumentData) (past : List Act) (i : Item) (n : NodeId) (t : TxId) (m : NodeId)
+    (b pending_there : Bool)
     → (node d past n).up ≡ b
-    → IsShaped d past i (λ c. if not b then act.Void 6 ∷ [] else (if not pending_there then act.Void 6 ∷ [] else or_void 10 (ask_peer_outs (participant (view d past n)) t m) (acts_of past c n (ask_peer_outs (participant (view d past n)) t m))))
+    → IsShaped d past i (λ c. if not b then act.Void 6 ∷ [] else (if not pending_there then act.Void 6 ∷ [] else or_void
+    10 (ask_peer_outs (participant (view d past n)) t m)
+    (acts_of past c n (ask_peer_outs (participant (view d past n)) t m))))
 peer-shaped d past i n t m false pending_there up = alone d past i (act.Void 6) refl
 peer-shaped d past i n t m true false up = alone d past i (act.Void 6) refl
 peer-shaped d past i n t m true true up = go (ask_peer_outs (participant (view d past n)) t m) refl
   where
-    go : (os : List Out) → os ≡ ask_peer_outs (participant (view d past n)) t m → IsShaped d past i (λ c. or_void 10 os (acts_of past c n os))
+    go : (os : List Out) → os ≡ ask_peer_outs (participant (view d past n)) t m
+        → IsShaped d past i (λ c. or_void 10 os (acts_of past c n os))
     go [] is = alone d past i (act.Void 10) refl
     go (o ∷ os) is = record { shape = again n (o ∷ os) up (asks_peer t m is); same = λ c. refl }
 

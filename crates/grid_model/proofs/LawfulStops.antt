@@ -24,7 +24,8 @@ use Rattle.grid_model.proofs.RunsThatStop.{stop_at_the_decision, one_vote, decis
 abbrev pub one_rise : NodeId → ℕ
 one_rise n = as_number (2 == n)
 
-pub failing_device_call-stops : (n : NodeId) → Explains failing_device_call (after [] failing_device_call_acts) n (one_rise n)
+pub failing_device_call-stops : (n : NodeId)
+    → Explains failing_device_call (after [] failing_device_call_acts) n (one_rise n)
 failing_device_call-stops n = elim (cases_eq 2 n) [
   | inl same ↦ rw (← same) (record { most = omega arith; some = λ rose same. omega arith })
   | inr other ↦ (
@@ -94,10 +95,14 @@ kept_acts k how = one_vote k how ++ decision_kept_acts
 abbrev pub is_in_record : ℕ → Bool
 is_in_record k = nat_lt 0 k && nat_le k 4
 
-pub stop_at_the_decision-other : (k : ℕ) (how : ℕ) (h : List Act) (n : NodeId) → IsTrue (is_unarmed n (after [] h)) → stops (after [] h) n ≡ 0 → IsTrue (are_let (stop_at_the_decision k how) (after [] h) n) × Explains (stop_at_the_decision k how) (after [] h) n 0
+pub stop_at_the_decision-other : (k : ℕ) (how : ℕ) (h : List Act) (n : NodeId) → IsTrue (is_unarmed n (after [] h))
+    → stops (after [] h) n ≡ 0 → IsTrue (are_let (stop_at_the_decision k how) (after [] h) n)
+    × Explains (stop_at_the_decision k how) (after [] h) n 0
 stop_at_the_decision-other k how h n unarmed unstopped = (unarmed-are_let (stop_at_the_decision k how) (after [] h) n unarmed, unstopped-explains (stop_at_the_decision k how) (after [] h) n unstopped)
 
-pub gone-at : (k : ℕ) (how : ℕ) → IsTrue (is_in_record k) → (n : NodeId) → IsTrue (are_let (stop_at_the_decision k how) (after [] (gone_acts k how)) n) × Explains (stop_at_the_decision k how) (after [] (gone_acts k how)) n 0
+pub gone-at : (k : ℕ) (how : ℕ) → IsTrue (is_in_record k) → (n : NodeId)
+    → IsTrue (are_let (stop_at_the_decision k how) (after [] (gone_acts k how)) n)
+    × Explains (stop_at_the_decision k how) (after [] (gone_acts k how)) n 0
 gone-at k how inside n = elim (cases_eq 1 n) [
   | inl same ↦ rw (← same) (refl, record { most = rw inside (omega arith); some = λ rose. absurd (rose refl) })
   | inr other ↦ (
@@ -106,7 +111,8 @@ gone-at k how inside n = elim (cases_eq 1 n) [
 ]
 
 -- the record may be gone wherever the fuse stops it
-pub gone-lawful : (k : ℕ) (how : ℕ) → IsTrue (is_in_record k) → Lawful (stop_at_the_decision k how) (gone_acts k how) no_rise
+pub gone-lawful : (k : ℕ) (how : ℕ) → IsTrue (is_in_record k)
+    → Lawful (stop_at_the_decision k how) (gone_acts k how) no_rise
 gone-lawful k how inside = record {
   run = stop_at_the_decision-gone k how;
   fuses = λ n. (gone-at k how inside n).0;
@@ -117,10 +123,13 @@ gone-lawful k how inside = record {
 abbrev pub is_at_gate : ℕ → Bool
 is_at_gate k = nat_le 3 k && nat_le k 4
 
-pub kept-lets : (k : ℕ) (how : ℕ) → IsTrue (is_at_gate k) → IsTrue (are_let (stop_at_the_decision k how) (after [] (kept_acts k how)) 1)
+pub kept-lets : (k : ℕ) (how : ℕ) → IsTrue (is_at_gate k)
+    → IsTrue (are_let (stop_at_the_decision k how) (after [] (kept_acts k how)) 1)
 kept-lets k how inside = grind (arith, nat_tests)
 
-pub kept-at : (k : ℕ) (how : ℕ) → IsTrue (is_at_gate k) → (n : NodeId) → IsTrue (are_let (stop_at_the_decision k how) (after [] (kept_acts k how)) n) × Explains (stop_at_the_decision k how) (after [] (kept_acts k how)) n 0
+pub kept-at : (k : ℕ) (how : ℕ) → IsTrue (is_at_gate k) → (n : NodeId)
+    → IsTrue (are_let (stop_at_the_decision k how) (after [] (kept_acts k how)) n)
+    × Explains (stop_at_the_decision k how) (after [] (kept_acts k how)) n 0
 kept-at k how inside n = elim (cases_eq 1 n) [
   | inl same ↦ subst (λ m. IsTrue (are_let (stop_at_the_decision k how) (after [] (kept_acts k how)) m) × Explains (stop_at_the_decision k how) (after [] (kept_acts k how)) m 0) same (kept-lets k how inside, record { most = grind (arith, nat_tests); some = λ rose. absurd (rose refl) })
   | inr other ↦ (
@@ -129,7 +138,8 @@ kept-at k how inside n = elim (cases_eq 1 n) [
 ]
 
 -- the record may be kept where the fuse stops it behind its first sync
-pub kept-lawful : (k : ℕ) (how : ℕ) → IsTrue (is_at_gate k) → Lawful (stop_at_the_decision k how) (kept_acts k how) no_rise
+pub kept-lawful : (k : ℕ) (how : ℕ) → IsTrue (is_at_gate k)
+    → Lawful (stop_at_the_decision k how) (kept_acts k how) no_rise
 kept-lawful k how inside = record {
   run = stop_at_the_decision-kept k how;
   fuses = λ n. (kept-at k how inside n).0;
@@ -151,7 +161,9 @@ abbrev pub armed_decision : ℕ → DocumentData
 armed_decision k = record { cluster = two_nodes; scripts = copy_script ∷ []; items = item.Begin 1 ∷ item.Next 5 ∷ item.Fuse 1 k 0 ∷ item.Deliver 6 ∷ [] }
 
 abbrev pub armed_decision_acts : ℕ → List Act
-armed_decision_acts k = one_vote k 0 ++ (act.Got 6 ∷ act.Decided 1 1 ∷ act.Finished 1 ∷ act.Sent 7 1 1 (message.Tell 1 (outcome.Commit 1)) ∷ act.Sent 8 1 2 (message.Tell 1 (outcome.Commit 1)) ∷ [])
+armed_decision_acts k =
+    one_vote k 0 ++ (act.Got 6 ∷ act.Decided 1 1 ∷ act.Finished 1 ∷ act.Sent 7 1 1 (message.Tell 1 (outcome.Commit 1))
+    ∷ act.Sent 8 1 2 (message.Tell 1 (outcome.Commit 1)) ∷ [])
 
 pub armed_decision-run : (k : ℕ) → IsRun (armed_decision k) (armed_decision k).items (armed_decision_acts k)
 armed_decision-run k = played-run (armed_decision k) all_open (usually (armed_decision k).items) refl

@@ -11,7 +11,9 @@ at_here k x xs e = grind (arith, nat_tests)
 put_here : {A : Type 0} (k : ℕ) (a : A) (x : ℕ × A) (xs : List (ℕ × A)) → x.0 ≡ k → put_key k a (x ∷ xs) ≡ (k, a) ∷ xs
 put_here k a x xs e = grind (arith, nat_tests)
 
-pub place_here : {A : Type 0} (k : ℕ) (xs : List (ℕ × A)) (i : ℕ) (x : ℕ × A) → i < length xs → x ≡ get_or xs i x → x.0 ≡ k → at_key k (drop i xs) ≡ at_key k xs → ((a : A) → put_key k a xs ≡ take i xs ++ put_key k a (drop i xs)) → IsPlace k xs i
+pub place_here : {A : Type 0} (k : ℕ) (xs : List (ℕ × A)) (i : ℕ) (x : ℕ × A) → i < length xs → x ≡ get_or xs i x
+    → x.0 ≡ k → at_key k (drop i xs) ≡ at_key k xs → ((a : A) → put_key k a xs ≡ take i xs ++ put_key k a (drop i xs))
+    → IsPlace k xs i
 place_here {A} k xs i x h is e at put = record {
   inside = h;
   value = x.1;

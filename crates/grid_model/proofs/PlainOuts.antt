@@ -51,7 +51,9 @@ both false c is = grind arith
 at-node : (m n : NodeId) → IsTrue (m == n) → m ≡ n
 at-node m n is = grind (arith, nat_tests)
 
-step-plain : (d : DocumentData) (past : List Act) (n : NodeId) (b : Bool) (e : Option Envelope) (s : Option ScriptData) (a : Act) → IsTrue (is_plain d n b (out.Act a)) → (IsTrue b → got past ≡ e) → view d (a ∷ past) n ≡ behind e s (view d past n) (out.Act a)
+step-plain : (d : DocumentData) (past : List Act) (n : NodeId) (b : Bool) (e : Option Envelope) (s : Option ScriptData)
+    (a : Act) → IsTrue (is_plain d n b (out.Act a)) → (IsTrue b → got past ≡ e)
+    → view d (a ∷ past) n ≡ behind e s (view d past n) (out.Act a)
 step-plain d past n b e s (act.Prepared m t p) is got = let known = both b (m == n) is in rw (at-node m n known.1, ← got known.0) (step-prepared d past n t p s)
 step-plain d past n b e s (act.Held m t j sid) is got = let known = both b (m == n) is in rw (at-node m n known.1, ← got known.0) (step-held d past n t j sid s)
 step-plain d past n b e s (act.Served m t j k sid vn v) is got = let known = both b (m == n) is in rw (at-node m n known.1, ← got known.0) (step-served d past n t j k sid vn v s)
@@ -68,12 +70,15 @@ step-plain d past n b e s (act.Aborted t m why) is got = step-aborted d past t m
 step-plain d past n b e s a is got = grind arith
 
 -- they deliver nothing
-plain-got : (d : DocumentData) (past : List Act) (n : NodeId) (b : Bool) (a : Act) → IsTrue (is_plain d n b (out.Act a)) → got (a ∷ past) ≡ got past
+plain-got : (d : DocumentData) (past : List Act) (n : NodeId) (b : Bool) (a : Act) → IsTrue (is_plain d n b (out.Act a))
+    → got (a ∷ past) ≡ got past
 plain-got d past n b (act.Got m) is = grind arith
 plain-got d past n b a is = refl
 
 -- the view behind plain outs
-pub plain-view : (d : DocumentData) (past : List Act) (n : NodeId) (b : Bool) (e : Option Envelope) (s : Option ScriptData) (k : ℕ) (os : List Out) → IsTrue (are_plain d n b os) → (IsTrue b → got past ≡ e) → view d (after past (numbered k n os)) n ≡ behind_all e s (view d past n) os
+pub plain-view : (d : DocumentData) (past : List Act) (n : NodeId) (b : Bool) (e : Option Envelope)
+    (s : Option ScriptData) (k : ℕ) (os : List Out) → IsTrue (are_plain d n b os) → (IsTrue b → got past ≡ e)
+    → view d (after past (numbered k n os)) n ≡ behind_all e s (view d past n) os
 plain-view d past n b e s k [] is got_e = refl
 plain-view d past n b e s k (out.Send to said ∷ os) is got_e = plain-view d (act.Sent k n to said ∷ past) n b e s (k + 1) os is got_e ∙ ap (λ v. behind_all e s v os) (step-sent d past k n to said n e s)
 plain-view d past n b e s k (out.Act a ∷ os) is got_e =
@@ -82,14 +87,17 @@ plain-view d past n b e s k (out.Act a ∷ os) is got_e =
 
 -- ---- lists of plain outs
 
-pub plain-append : (d : DocumentData) (n : NodeId) (b : Bool) (os ps : List Out) → IsTrue (are_plain d n b os) → IsTrue (are_plain d n b ps) → IsTrue (are_plain d n b (os ++ ps))
+pub plain-append : (d : DocumentData) (n : NodeId) (b : Bool) (os ps : List Out) → IsTrue (are_plain d n b os)
+    → IsTrue (are_plain d n b ps) → IsTrue (are_plain d n b (os ++ ps))
 plain-append d n b [] ps is are = are
 plain-append d n b (o ∷ os) ps is are = let known = both (is_plain d n b o) (are_plain d n b os) is in rw (known.0) (plain-append d n b os ps known.1 are)
 
-pub plain-sends : (d : DocumentData) (n : NodeId) (b : Bool) (f : NodeId → Message) (ns : List NodeId) → IsTrue (are_plain d n b (map (λ m. out.Send m (f m)) ns))
+pub plain-sends : (d : DocumentData) (n : NodeId) (b : Bool) (f : NodeId → Message) (ns : List NodeId)
+    → IsTrue (are_plain d n b (map (λ m. out.Send m (f m)) ns))
 plain-sends d n b f [] = refl
 plain-sends d n b f (m ∷ ns) = plain-sends d n b f ns
 
-pub plain-owns : (d : DocumentData) (n : NodeId) (b : Bool) (t : TxId) (ys : List (ℕ × Value)) → IsTrue (are_plain d n b (map (λ y. out.Act (act.Own t y.0 y.1)) ys))
+pub plain-owns : (d : DocumentData) (n : NodeId) (b : Bool) (t : TxId) (ys : List (ℕ × Value))
+    → IsTrue (are_plain d n b (map (λ y. out.Act (act.Own t y.0 y.1)) ys))
 plain-owns d n b t [] = refl
 plain-owns d n b t (y ∷ ys) = plain-owns d n b t ys

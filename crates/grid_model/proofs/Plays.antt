@@ -66,7 +66,8 @@ abbrev pub reply : TxId → ℕ → Ident → Value → Message
 reply t op sid v = message.ReadRep (record { t = t; op = op; sid = sid; value = v })
 
 abbrev pub prepare : TxId → Ident → List NodeId → List Key → List (Key × Value) → Message
-prepare t sid parts reads writes = message.Prepare (record { t = t; sid = sid; parts = parts; reads = reads; writes = writes })
+prepare t sid parts reads writes =
+    message.Prepare (record { t = t; sid = sid; parts = parts; reads = reads; writes = writes })
 
 -- ---- what is played is a run
 
@@ -78,13 +79,16 @@ play d past (e ∷ es) = row d past e.0 e.1 ++ play d (after past (row d past e.
 abbrev pub items_of : List (Item × Choice) → List Item
 items_of es = map (λ e. e.0) es
 
-pub play-rows : (d : DocumentData) (past : List Act) (es : List (Item × Choice)) → Rows d past (items_of es) (play d past es)
+pub play-rows : (d : DocumentData) (past : List Act) (es : List (Item × Choice))
+    → Rows d past (items_of es) (play d past es)
 unfolding Rows
 play-rows d past [] = refl
 play-rows d past (e ∷ es) = (e.1, play d (after past (row d past e.0 e.1)) es, refl, play-rows d (after past (row d past e.0 e.1)) es)
 
 -- the acts of the start and of these events are a run of the document whose events they are
-pub played-run : (d : DocumentData) (opens : NodeId → Bool) (es : List (Item × Choice)) → items_of es ≡ flat_map events_in d.items → IsRun d d.items (start_row d.cluster.nodes opens ++ play d (after [] (start_row d.cluster.nodes opens)) es)
+pub played-run : (d : DocumentData) (opens : NodeId → Bool) (es : List (Item × Choice))
+    → items_of es ≡ flat_map events_in d.items
+    → IsRun d d.items (start_row d.cluster.nodes opens ++ play d (after [] (start_row d.cluster.nodes opens)) es)
 played-run d opens es same = record {
   opens = opens;
   rest = play d (after [] (start_row d.cluster.nodes opens)) es;

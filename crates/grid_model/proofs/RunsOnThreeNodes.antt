@@ -76,15 +76,18 @@ bystander_gets_nothing-lawful = calm-lawful bystander_gets_nothing bystander_get
 pub bystander_gets_nothing-phases : phases bystander_gets_nothing (after [] bystander_gets_nothing_acts) ≡ Closed 1 ∷ []
 bystander_gets_nothing-phases = refl
 
-pub bystander_gets_nothing-a_at_2 : newest_at bystander_gets_nothing (after [] bystander_gets_nothing_acts) 2 a ≡ (10, 0)
+pub bystander_gets_nothing-a_at_2 : newest_at bystander_gets_nothing (after [] bystander_gets_nothing_acts) 2 a ≡
+    (10, 0)
 bystander_gets_nothing-a_at_2 = refl
 
-pub bystander_gets_nothing-c_at_1 : newest_at bystander_gets_nothing (after [] bystander_gets_nothing_acts) 1 c ≡ (11, 1)
+pub bystander_gets_nothing-c_at_1 : newest_at bystander_gets_nothing (after [] bystander_gets_nothing_acts) 1 c ≡
+    (11, 1)
 bystander_gets_nothing-c_at_1 = refl
 
 -- each key has two holders
 abbrev pub replicas : ClusterData
-replicas = record { nodes = 3; places = (1 ∷ 2 ∷ []) ∷ (2 ∷ 3 ∷ []) ∷ (3 ∷ 1 ∷ []) ∷ []; inits = (a, 100) ∷ (b, 20) ∷ [] }
+replicas =
+    record { nodes = 3; places = (1 ∷ 2 ∷ []) ∷ (2 ∷ 3 ∷ []) ∷ (3 ∷ 1 ∷ []) ∷ []; inits = (a, 100) ∷ (b, 20) ∷ [] }
 
 -- a transfer from `a` to `b`
 abbrev pub replicated_transfer : DocumentData
@@ -202,5 +205,6 @@ retry_at_the_other_holder_acts =
 pub retry_at_the_other_holder-lawful : Lawful retry_at_the_other_holder retry_at_the_other_holder_acts no_rise
 retry_at_the_other_holder-lawful = calm-lawful retry_at_the_other_holder retry_at_the_other_holder_acts (played-run retry_at_the_other_holder all_open (usually retry_at_the_other_holder.items) refl) (λ n. refl) (λ n. refl)
 
-pub retry_at_the_other_holder-phases : phases retry_at_the_other_holder (after [] retry_at_the_other_holder_acts) ≡ Answered ∷ []
+pub retry_at_the_other_holder-phases : phases retry_at_the_other_holder (after [] retry_at_the_other_holder_acts) ≡
+    Answered ∷ []
 retry_at_the_other_holder-phases = refl

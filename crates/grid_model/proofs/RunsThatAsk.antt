@@ -86,7 +86,8 @@ told_by_a_part_acts =
 pub told_by_a_part-lawful : Lawful told_by_a_part told_by_a_part_acts no_rise
 told_by_a_part-lawful = calm-lawful told_by_a_part told_by_a_part_acts (played-run told_by_a_part all_open (usually told_by_a_part.items) refl) (λ n. refl) (λ n. refl)
 
-pub told_by_a_part-phases : phases told_by_a_part (after [] told_by_a_part_acts) ≡ Decided (record { final = 1; parts = 1 ∷ 2 ∷ [] }) ∷ []
+pub told_by_a_part-phases : phases told_by_a_part (after [] told_by_a_part_acts) ≡ Decided
+    (record { final = 1; parts = 1 ∷ 2 ∷ [] }) ∷ []
 told_by_a_part-phases = refl
 
 pub told_by_a_part-a_at_2 : newest_at told_by_a_part (after [] told_by_a_part_acts) 2 a ≡ (10, 0)

@@ -125,7 +125,8 @@ repeated_votes_acts =
 pub repeated_votes-lawful : Lawful repeated_votes repeated_votes_acts no_rise
 repeated_votes-lawful = calm-lawful repeated_votes repeated_votes_acts (played-run repeated_votes all_open (usually repeated_votes.items) refl) (λ n. refl) (λ n. refl)
 
-pub repeated_votes-phases : phases repeated_votes (after [] repeated_votes_acts) ≡ Decided (record { final = 1; parts = (1 ∷ 2 ∷ []) }) ∷ []
+pub repeated_votes-phases : phases repeated_votes (after [] repeated_votes_acts) ≡ Decided
+    (record { final = 1; parts = (1 ∷ 2 ∷ []) }) ∷ []
 repeated_votes-phases = refl
 
 -- a transaction reads what it wrote

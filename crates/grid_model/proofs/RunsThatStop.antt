@@ -55,18 +55,25 @@ decision_kept_acts =
 
 -- what the disks do: that of n1 fails at the decision
 abbrev pub stops_deciding : ℕ → ℕ → Choice → List (Item × Choice)
-stops_deciding k how found = usually (item.Begin 1 ∷ item.Next 5 ∷ item.Fuse 1 k how ∷ []) ++ ((item.Deliver 6, broken) ∷ (item.Restart 1, found) ∷ (item.Retry 1, usual) ∷ [])
+stops_deciding k how found =
+    usually (item.Begin 1 ∷ item.Next 5 ∷ item.Fuse 1 k how ∷ [])
+    ++ ((item.Deliver 6, broken) ∷ (item.Restart 1, found) ∷ (item.Retry 1, usual) ∷ [])
 
-pub stop_at_the_decision-gone : (k : ℕ) (how : ℕ) → IsRun (stop_at_the_decision k how) (stop_at_the_decision k how).items (one_vote k how ++ decision_gone_acts)
+pub stop_at_the_decision-gone : (k : ℕ) (how : ℕ)
+    → IsRun (stop_at_the_decision k how) (stop_at_the_decision k how).items (one_vote k how ++ decision_gone_acts)
 stop_at_the_decision-gone k how = played-run (stop_at_the_decision k how) all_open (stops_deciding k how unfound) refl
 
-pub stop_at_the_decision-kept : (k : ℕ) (how : ℕ) → IsRun (stop_at_the_decision k how) (stop_at_the_decision k how).items (one_vote k how ++ decision_kept_acts)
+pub stop_at_the_decision-kept : (k : ℕ) (how : ℕ)
+    → IsRun (stop_at_the_decision k how) (stop_at_the_decision k how).items (one_vote k how ++ decision_kept_acts)
 stop_at_the_decision-kept k how = played-run (stop_at_the_decision k how) all_open (stops_deciding k how usual) refl
 
-pub stop_at_the_decision-lost : (k : ℕ) (how : ℕ) → phases (stop_at_the_decision k how) (after [] (one_vote k how ++ decision_gone_acts)) ≡ Lost ∷ []
+pub stop_at_the_decision-lost : (k : ℕ) (how : ℕ)
+    → phases (stop_at_the_decision k how) (after [] (one_vote k how ++ decision_gone_acts)) ≡ Lost ∷ []
 stop_at_the_decision-lost k how = refl
 
-pub stop_at_the_decision-decided : (k : ℕ) (how : ℕ) → phases (stop_at_the_decision k how) (after [] (one_vote k how ++ decision_kept_acts)) ≡ Decided (record { final = 1; parts = (1 ∷ 2 ∷ []) }) ∷ []
+pub stop_at_the_decision-decided : (k : ℕ) (how : ℕ)
+    → phases (stop_at_the_decision k how) (after [] (one_vote k how ++ decision_kept_acts))
+    ≡ Decided (record { final = 1; parts = (1 ∷ 2 ∷ []) }) ∷ []
 stop_at_the_decision-decided k how = refl
 
 -- the home stops while it collects, and the parts ask

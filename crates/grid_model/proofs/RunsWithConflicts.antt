@@ -147,7 +147,8 @@ lock_until_applied_acts =
 pub lock_until_applied-lawful : Lawful lock_until_applied lock_until_applied_acts no_rise
 lock_until_applied-lawful = calm-lawful lock_until_applied lock_until_applied_acts (played-run lock_until_applied all_open (usually lock_until_applied.items) refl) (λ n. refl) (λ n. refl)
 
-pub lock_until_applied-phases : phases lock_until_applied (after [] lock_until_applied_acts) ≡ Collecting ∷ Decided (record { final = 2; parts = (2 ∷ []) }) ∷ Collecting ∷ []
+pub lock_until_applied-phases : phases lock_until_applied (after [] lock_until_applied_acts) ≡ Collecting ∷ Decided
+    (record { final = 2; parts = (2 ∷ []) }) ∷ Collecting ∷ []
 lock_until_applied-phases = refl
 
 pub lock_until_applied-a_at_2 : newest_at lock_until_applied (after [] lock_until_applied_acts) 2 a ≡ (10, 0)

@@ -82,7 +82,8 @@ held_read = record {
 
 -- the first update is decided, and has ended at n1
 abbrev pub ended_at_home : List Act
-ended_at_home = asks ++ (votes ++ (decides ++ (act.Got 7 ∷ act.Ended 1 1 (outcome.Commit 1) ∷ act.Sent 9 1 1 (message.Ack 1) ∷ [])))
+ended_at_home =
+    asks ++ (votes ++ (decides ++ (act.Got 7 ∷ act.Ended 1 1 (outcome.Commit 1) ∷ act.Sent 9 1 1 (message.Ack 1) ∷ [])))
 
 -- the second read is held
 abbrev pub held_read_front : List Act
@@ -117,7 +118,8 @@ held_read_acts =
 pub held_read-lawful : Lawful held_read held_read_acts no_rise
 held_read-lawful = calm-lawful held_read held_read_acts (played-run held_read all_open (usually held_read.items) refl) (λ n. refl) (λ n. refl)
 
-pub held_read-phases : phases held_read (after [] held_read_acts) ≡ Decided (record { final = 1; parts = (1 ∷ 2 ∷ []) }) ∷ Answered ∷ []
+pub held_read-phases : phases held_read (after [] held_read_acts) ≡ Decided (record { final = 1; parts = (1 ∷ 2 ∷ []) })
+    ∷ Answered ∷ []
 held_read-phases = refl
 
 -- a node promises a read, stops, and is opened again
@@ -166,7 +168,8 @@ ceiling_after_crash_acts =
 pub ceiling_after_crash-lawful : Lawful ceiling_after_crash ceiling_after_crash_acts no_rise
 ceiling_after_crash-lawful = calm-lawful ceiling_after_crash ceiling_after_crash_acts (played-run ceiling_after_crash all_open (usually ceiling_after_crash.items) refl) (λ n. refl) (λ n. refl)
 
-pub ceiling_after_crash-phases : phases ceiling_after_crash (after [] ceiling_after_crash_acts) ≡ Closed 1 ∷ Reading 1 ∷ Collecting ∷ []
+pub ceiling_after_crash-phases : phases ceiling_after_crash (after [] ceiling_after_crash_acts) ≡ Closed 1 ∷ Reading 1 ∷
+    Collecting ∷ []
 ceiling_after_crash-phases = refl
 
 -- two updates have the same final identifier, and a third transaction reads both

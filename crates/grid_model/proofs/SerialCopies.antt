@@ -48,20 +48,24 @@ abbrev pub AllTake : DocumentData → (TxId → List (ℕ × Value)) → List (I
 AllTake d values [] = Unit {0}
 AllTake d values (x ∷ xs) = Takes (script_of x.1 d.scripts) (values x.1) (last_map d values xs) × AllTake d values xs
 
-takes-same : (o : Option ScriptData) (values : List (ℕ × Value)) (m m' : Map) → ((k : Key) → m k ≡ m' k) → Takes o values m → Takes o values m'
+takes-same : (o : Option ScriptData) (values : List (ℕ × Value)) (m m' : Map) → ((k : Key) → m k ≡ m' k)
+    → Takes o values m → Takes o values m'
 takes-same None values m m' same h = tt
 takes-same (Some s) values m m' same h = (h.0, λ i k v is e. h.1 i k v is e ∙ same k)
 
-script-copy : (o : Option ScriptData) (values : List (ℕ × Value)) (m : Map) (k : Key) → Takes o values m → script_map o m k ≡ value_or (script_write o values k) (m k)
+script-copy : (o : Option ScriptData) (values : List (ℕ × Value)) (m : Map) (k : Key) → Takes o values m
+    → script_map o m k ≡ value_or (script_write o values k) (m k)
 script-copy None values m k h = refl
 script-copy (Some s) values m k h = map-serial m values s.ops k h.0 h.1 ∙ go (is_key_among k (written_keys [] s.ops))
   where
-    go : (b : Bool) → (if b then own_map s.ops values k else m k) ≡ value_or (if b then Some (own_map s.ops values k) else None) (m k)
+    go : (b : Bool) → (if b then own_map s.ops values k else m k)
+        ≡ value_or (if b then Some (own_map s.ops values k) else None) (m k)
     go true = refl
     go false = refl
 
 -- so the serial copy is what they wrote last
-pub copy-last : (d : DocumentData) (values : TxId → List (ℕ × Value)) (xs : List (Ident × TxId)) → AllTake d values xs → (k : Key) → copy_of d xs k ≡ last_map d values xs k
+pub copy-last : (d : DocumentData) (values : TxId → List (ℕ × Value)) (xs : List (Ident × TxId)) → AllTake d values xs
+    → (k : Key) → copy_of d xs k ≡ last_map d values xs k
 copy-last d values [] h k = refl
 copy-last d values (x ∷ xs) h k =
     let rest : (z : Key) → copy_of d xs z ≡ last_map d values xs z = copy-last d values xs h.1 in
@@ -69,7 +73,9 @@ copy-last d values (x ∷ xs) h k =
     ∙ ap (value_or (write_by d values k x.1)) (rest k)
 
 -- and each was shown what its script reads on the copy of those before it
-pub copy-reads : (d : DocumentData) (values : TxId → List (ℕ × Value)) (x : Ident × TxId) (xs : List (Ident × TxId)) (s : ScriptData) → AllTake d values (x ∷ xs) → script_of x.1 d.scripts ≡ Some s → reads_on (copy_of d xs) s.ops ≡ reads_by (values x.1) s.ops
+pub copy-reads : (d : DocumentData) (values : TxId → List (ℕ × Value)) (x : Ident × TxId) (xs : List (Ident × TxId))
+    (s : ScriptData) → AllTake d values (x ∷ xs) → script_of x.1 d.scripts ≡ Some s
+    → reads_on (copy_of d xs) s.ops ≡ reads_by (values x.1) s.ops
 copy-reads d values x xs s h e =
     let P : Option ScriptData → Type 0 = λ o. Takes o (values x.1) (last_map d values xs) in
     let t = subst P e h.0 in
@@ -77,7 +83,8 @@ copy-reads d values x xs s h e =
 
 -- ---- parts of a falling list
 
-pub take-rest : (d : DocumentData) (values : TxId → List (ℕ × Value)) (ys xs : List (Ident × TxId)) → AllTake d values (ys ++ xs) → AllTake d values xs
+pub take-rest : (d : DocumentData) (values : TxId → List (ℕ × Value)) (ys xs : List (Ident × TxId))
+    → AllTake d values (ys ++ xs) → AllTake d values xs
 take-rest d values [] xs h = h
 take-rest d values (y ∷ ys) xs h = take-rest d values ys xs h.1
 
@@ -93,20 +100,26 @@ up_to-all s x (y ∷ ys) le all =
     rw test (ap (λ zs. y ∷ zs) (up_to-all s x ys le all.1))
 
 -- those up to an identifier are the end of a falling list
-pub members-rest : (s : Ident) (xs : List (Ident × TxId)) → AreFalling xs → (ys : List (Ident × TxId)) × (xs ≡ ys ++ members_to s xs)
+pub members-rest : (s : Ident) (xs : List (Ident × TxId)) → AreFalling xs
+    → (ys : List (Ident × TxId)) × (xs ≡ ys ++ members_to s xs)
 members-rest s [] h = ([], refl)
 members-rest s (x ∷ xs) h = go (nat_le x.0 s) refl (members-rest s xs h.1)
   where
-    go : (b : Bool) → nat_le x.0 s ≡ b → ((ys : List (Ident × TxId)) × (xs ≡ ys ++ members_to s xs)) → (ys : List (Ident × TxId)) × (x ∷ xs ≡ ys ++ (if b then x ∷ members_to s xs else members_to s xs))
+    go : (b : Bool) → nat_le x.0 s ≡ b → ((ys : List (Ident × TxId)) × (xs ≡ ys ++ members_to s xs))
+        → (ys : List (Ident × TxId)) × (x ∷ xs ≡ ys ++ (if b then x ∷ members_to s xs else members_to s xs))
     go true e rest = ([], ap (λ zs. x ∷ zs) (sym (up_to-all s x xs (grind (arith, nat_tests, e)) h.0)))
     go false e rest = (x ∷ rest.0, ap (λ zs. x ∷ zs) rest.1)
 
 -- members above an identifier that did not write the key do not count
-pub last-skips : (w : TxId → Option Value) (start : Value) (s : Ident) (xs : List (Ident × TxId)) → ((f : Ident) (t : TxId) → has_member f t xs ≡ true → s < f → w t ≡ None) → last_written w start xs ≡ last_written w start (members_to s xs)
+pub last-skips : (w : TxId → Option Value) (start : Value) (s : Ident) (xs : List (Ident × TxId))
+    → ((f : Ident) (t : TxId) → has_member f t xs ≡ true → s < f → w t ≡ None)
+    → last_written w start xs ≡ last_written w start (members_to s xs)
 last-skips w start s [] none = refl
 last-skips w start s (x ∷ xs) none = go (nat_le x.0 s) refl (last-skips w start s xs (λ f t h lt. none f t (or_right (x.0 == f && x.1 == t) (has_member f t xs) h) lt))
   where
-    go : (b : Bool) → nat_le x.0 s ≡ b → last_written w start xs ≡ last_written w start (members_to s xs) → value_or (w x.1) (last_written w start xs) ≡ last_written w start (if b then x ∷ members_to s xs else members_to s xs)
+    go : (b : Bool) → nat_le x.0 s ≡ b → last_written w start xs ≡ last_written w start (members_to s xs)
+        → value_or (w x.1) (last_written w start xs)
+        ≡ last_written w start (if b then x ∷ members_to s xs else members_to s xs)
     go true e rest = ap (value_or (w x.1)) rest
     go false e rest =
         let silent : w x.1 ≡ None = none x.0 x.1 (grind (arith, nat_tests)) (grind (arith, nat_tests, e)) in

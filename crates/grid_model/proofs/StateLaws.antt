@@ -6,9 +6,11 @@ use Rattle.grid_model.specs.Histories.{after}
 use Rattle.grid_model.specs.States.{state_of, state_after}
 use Rattle.grid_model.proofs.EventShapes.{after-append}
 
-pub state-all : (d : DocumentData) (past acts : List Act) → state_of d (after past acts) ≡ state_after d (state_of d past) acts
+pub state-all : (d : DocumentData) (past acts : List Act)
+    → state_of d (after past acts) ≡ state_after d (state_of d past) acts
 state-all d past [] = refl
 state-all d past (a ∷ acts) = state-all d (a ∷ past) acts
 
-pub state-more : (d : DocumentData) (h acts : List Act) → state_of d (after [] (h ++ acts)) ≡ state_after d (state_of d (after [] h)) acts
+pub state-more : (d : DocumentData) (h acts : List Act)
+    → state_of d (after [] (h ++ acts)) ≡ state_after d (state_of d (after [] h)) acts
 state-more d h acts = ap (state_of d) (after-append [] h acts) ∙ state-all d (after [] h) acts

@@ -26,13 +26,15 @@ unarmed-fuse d (act.Compacted m ∷ past) n u = grind (arith, nat_tests, unarmed
 unarmed-fuse d (act.Up m f ∷ past) n u = rw (unarmed-fuse d past n u) refl
 unarmed-fuse d (a ∷ past) n u = rw (unarmed-fuse d past n u) refl
 
-pub unarmed-stop : (d : DocumentData) (past : List Act) (n : NodeId) → IsTrue (is_unarmed n past) → fuse_at_stop d past n ≡ None
+pub unarmed-stop : (d : DocumentData) (past : List Act) (n : NodeId) → IsTrue (is_unarmed n past)
+    → fuse_at_stop d past n ≡ None
 unarmed-stop d [] n u = refl
 unarmed-stop d (act.Armed m k how ∷ past) n u = grind (arith, nat_tests, unarmed-stop d past n)
 unarmed-stop d (act.Down m h ∷ past) n u = grind (arith, nat_tests, unarmed-fuse d past n, unarmed-stop d past n)
 unarmed-stop d (a ∷ past) n u = unarmed-stop d past n u
 
-pub unarmed-let : (d : DocumentData) (past : List Act) (a : Act) (n : NodeId) → IsTrue (is_unarmed n past) → IsTrue (is_let d past a n)
+pub unarmed-let : (d : DocumentData) (past : List Act) (a : Act) (n : NodeId) → IsTrue (is_unarmed n past)
+    → IsTrue (is_let d past a n)
 unarmed-let d past (act.Up m flag.Kept) n u = rw (unarmed-stop d past n u) (go (m == n) (is_compacting past n))
   where
     go : (here compacting : Bool) → IsTrue (not here || lets_found compacting None)
@@ -41,11 +43,13 @@ unarmed-let d past (act.Up m flag.Kept) n u = rw (unarmed-stop d past n u) (go (
     go false compacting = refl
 unarmed-let d past a n u = grind (arith, nat_tests, unarmed-fuse d past n u)
 
-pub unarmed-more : (n : NodeId) (a : Act) (past : List Act) → IsTrue (is_unarmed n (a ∷ past)) → IsTrue (is_unarmed n past)
+pub unarmed-more : (n : NodeId) (a : Act) (past : List Act) → IsTrue (is_unarmed n (a ∷ past))
+    → IsTrue (is_unarmed n past)
 unarmed-more n (act.Armed m k how) past u = grind (arith, nat_tests)
 unarmed-more n a past u = u
 
-pub unarmed-are_let : (d : DocumentData) (past : List Act) (n : NodeId) → IsTrue (is_unarmed n past) → IsTrue (are_let d past n)
+pub unarmed-are_let : (d : DocumentData) (past : List Act) (n : NodeId) → IsTrue (is_unarmed n past)
+    → IsTrue (are_let d past n)
 unarmed-are_let d [] n u = refl
 unarmed-are_let d (a ∷ past) n u = grind (arith, nat_tests, unarmed-let d past a n (unarmed-more n a past u), unarmed-are_let d past n (unarmed-more n a past u))
 
@@ -54,7 +58,8 @@ pub faults-stops : (d : DocumentData) (past : List Act) (n : NodeId) → faults 
 faults-stops d [] n = omega arith
 faults-stops d (a ∷ past) n = go (is_stop a n) (is_by_fuse d past a n) (faults-stops d past n)
   where
-    go : (stop : Bool) (by_fuse : Bool) → faults d past n ≤ stops past n → as_number (stop && not by_fuse) + faults d past n ≤ as_number stop + stops past n
+    go : (stop : Bool) (by_fuse : Bool) → faults d past n ≤ stops past n
+        → as_number (stop && not by_fuse) + faults d past n ≤ as_number stop + stops past n
     go false by_fuse less = omega arith
     go true false less = omega arith
     go true true less = omega arith
@@ -71,7 +76,9 @@ unstopped-explains d past n same = record {
 }
 
 -- a run in which no fuse is armed and no node stops in a record or at an opening is lawful with no rise
-pub calm-lawful : (d : DocumentData) (h : List Act) → IsRun d d.items h → ((n : NodeId) → IsTrue (is_unarmed n (after [] h))) → ((n : NodeId) → stops (after [] h) n ≡ 0) → Lawful d h no_rise
+pub calm-lawful : (d : DocumentData) (h : List Act) → IsRun d d.items h
+    → ((n : NodeId) → IsTrue (is_unarmed n (after [] h))) → ((n : NodeId) → stops (after [] h) n ≡ 0)
+    → Lawful d h no_rise
 calm-lawful d h run unarmed unstopped = record {
   run = run;
   fuses = λ n. unarmed-are_let d (after [] h) n (unarmed n);

@@ -65,7 +65,8 @@ pub held_at_2-desk : (view held_read while_held 2).desk 2 ≡ None
 held_at_2-desk = refl
 
 -- n1 has ended the update, which is decided and has no acknowledgement yet
-pub held_at_1-journal : (view held_read while_held 1).journal ≡ record'.Ended 1 (outcome.Commit 1) ∷ record'.Decided 1 1 (1 ∷ 2 ∷ []) ∷ record'.Prepared 1 1 (1 ∷ 2 ∷ []) 0 1 [] ((b, 11) ∷ []) ∷ []
+pub held_at_1-journal : (view held_read while_held 1).journal ≡ record'.Ended 1 (outcome.Commit 1) ∷ record'.Decided 1 1
+    (1 ∷ 2 ∷ []) ∷ record'.Prepared 1 1 (1 ∷ 2 ∷ []) 0 1 [] ((b, 11) ∷ []) ∷ []
 held_at_1-journal = refl
 
 pub held_at_1-held : (view held_read while_held 1).held ≡ []
@@ -76,7 +77,9 @@ held_at_1-update = refl
 
 -- the reader has the value of `b` at the snapshot 1, and reads `a`
 abbrev pub reader_open : Open
-reader_open = record { script = reader; progress = record { sid0 = 1; sid = Some 1; values = (1, 11) ∷ []; votes = []; turn = 0 } }
+reader_open =
+    record
+    { script = reader; progress = record { sid0 = 1; sid = Some 1; values = (1, 11) ∷ []; votes = []; turn = 0 } }
 
 pub held_at_1-desk : (view held_read while_held 1).desk 2 ≡ Some reader_open
 held_at_1-desk = refl

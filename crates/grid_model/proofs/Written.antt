@@ -25,32 +25,40 @@ pub with_values-keys : (m : Map) (ks : List Key) → keys_of_writes (with_values
 with_values-keys m [] = refl
 with_values-keys m (k ∷ ks) = ap (λ xs. k ∷ xs) (with_values-keys m ks)
 
-pub with_values-at : (m : Map) (k : Key) (ks : List Key) → written_value k (with_values m ks) ≡ (if is_key_among k ks then Some (m k) else None)
+pub with_values-at : (m : Map) (k : Key) (ks : List Key)
+    → written_value k (with_values m ks) ≡ (if is_key_among k ks then Some (m k) else None)
 with_values-at m k [] = refl
 with_values-at m k (x ∷ ks) = go (same_key k x) (same_key x k) (same_key-turned k x) same (with_values-at m k ks)
   where
     same : same_key k x ≡ true → m x ≡ m k
     same h = ap m (sym (same_key-is k x h))
 
-    go : (a b : Bool) → a ≡ b → (a ≡ true → m x ≡ m k) → written_value k (with_values m ks) ≡ (if is_key_among k ks then Some (m k) else None) → (if b then Some (m x) else written_value k (with_values m ks)) ≡ (if a || is_key_among k ks then Some (m k) else None)
+    go : (a b : Bool) → a ≡ b → (a ≡ true → m x ≡ m k)
+        → written_value k (with_values m ks) ≡ (if is_key_among k ks then Some (m k) else None)
+        → (if b then Some (m x) else written_value k (with_values m ks))
+        ≡ (if a || is_key_among k ks then Some (m k) else None)
     go true b e is rest = rw (← e) (ap (λ v. Some v) (is refl))
     go false b e is rest = rw (← e) rest
 
-pub among-filter : (p : Key → Bool) (k : Key) (ks : List Key) → is_key_among k (filter p ks) ≡ (is_key_among k ks && p k)
+pub among-filter : (p : Key → Bool) (k : Key) (ks : List Key)
+    → is_key_among k (filter p ks) ≡ (is_key_among k ks && p k)
 among-filter p k [] = refl
 among-filter p k (x ∷ ks) = go (p x) same (among-filter p k ks)
   where
     same : same_key k x ≡ true → p k ≡ p x
     same h = ap p (same_key-is k x h)
 
-    go : (b : Bool) → (same_key k x ≡ true → p k ≡ b) → is_key_among k (filter p ks) ≡ (is_key_among k ks && p k) → is_key_among k (if b then x ∷ filter p ks else filter p ks) ≡ ((same_key k x || is_key_among k ks) && p k)
+    go : (b : Bool) → (same_key k x ≡ true → p k ≡ b) → is_key_among k (filter p ks) ≡ (is_key_among k ks && p k)
+        → is_key_among k (if b then x ∷ filter p ks else filter p ks) ≡ ((same_key k x || is_key_among k ks) && p k)
     go true e rest = grind (arith, e, rest)
     go false e rest = grind (arith, e, rest)
 
 -- ---- the Prepare for a node
 
 -- with the value that the transaction wrote last
-pub prepare-value : (c : ClusterData) (x : Open) (n : NodeId) (k : Key) → written_value k (prepare_for c x n).writes ≡ (if is_key_among k (written_keys [] x.script.ops) && holds c.places n k then Some (own_map x.script.ops x.progress.values k) else None)
+pub prepare-value : (c : ClusterData) (x : Open) (n : NodeId) (k : Key) → written_value k (prepare_for c x n).writes
+    ≡ (if is_key_among k (written_keys [] x.script.ops) && holds c.places n k
+    then Some (own_map x.script.ops x.progress.values k) else None)
 prepare-value c x n k =
     with_values-at (own_map x.script.ops x.progress.values) k (filter (holds c.places n) (written_keys [] x.script.ops))
     ∙ ap (λ b. if b then Some (own_map x.script.ops x.progress.values k) else None) (among-filter (holds c.places n) k (written_keys [] x.script.ops))

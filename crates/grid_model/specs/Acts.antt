@@ -34,5 +34,6 @@ is_same_cause a b = false
 -- n refused t for this cause
 abbrev pub has_refused : NodeId → TxId → Cause → List Act → Bool
 has_refused n t why [] = false
-has_refused n t why (act.Refused m u other ∷ past) = (m == n && (u == t && is_same_cause why other)) || has_refused n t why past
+has_refused n t why (act.Refused m u other ∷ past) =
+    (m == n && (u == t && is_same_cause why other)) || has_refused n t why past
 has_refused n t why (a ∷ past) = has_refused n t why past

@@ -36,7 +36,9 @@ to_node (Some n) said = out.Send n said ∷ []
 -- the request of an operation, where there is one
 abbrev pub request_of : ClusterData → Open → ℕ → ℕ → Option Op → List Out
 request_of c x j q None = []
-request_of c x j q (Some o) = to_node (slice_get (preferred c.places x.script.home (key_of o)) q) (message.ReadReq (record { t = x.script.number; op = j; key = key_of o; date = date_by x.progress.sid0 x.progress.sid }))
+request_of c x j q (Some o) =
+    to_node (slice_get (preferred c.places x.script.home (key_of o)) q) (message.ReadReq
+    (record { t = x.script.number; op = j; key = key_of o; date = date_by x.progress.sid0 x.progress.sid }))
 
 -- the request of operation j goes to the holder of its key at place q of the preferred order
 abbrev pub request : ClusterData → Open → ℕ → ℕ → List Out
@@ -54,7 +56,9 @@ prepare_for c x n =
       sid = first_sid x.progress.sid x.progress.sid0;
       parts = parts_now c x;
       reads = filter (holds c.places n) (remote_keys [] x.script.ops);
-      writes = map (λ k. (k, own_map x.script.ops x.progress.values k)) (filter (holds c.places n) (written_keys [] x.script.ops));
+      writes =
+          map (λ k. (k, own_map x.script.ops x.progress.values k))
+          (filter (holds c.places n) (written_keys [] x.script.ops));
     }
 
 -- a Prepare to each of these nodes
@@ -67,7 +71,8 @@ prepares c x ns = map (λ n. out.Send n (message.Prepare (prepare_for c x n))) n
 -- the Prepares of an update, or the end of a read-only transaction
 abbrev pub advance_end : ClusterData → Open → Option ℕ → List Out
 advance_end c x (Some j) = request c x j 0
-advance_end c x None = if is_update x.script.ops then prepares c x (parts_now c x) else out.Act (act.Finished x.script.number) ∷ []
+advance_end c x None =
+    if is_update x.script.ops then prepares c x (parts_now c x) else out.Act (act.Finished x.script.number) ∷ []
 
 -- the own reads behind operation i are shown
 abbrev pub owns : TxId → ℕ → List (ℕ × Value) → List Out
@@ -75,4 +80,6 @@ owns t i values = map (λ y. out.Act (act.Own t y.0 y.1)) (filter (λ y. nat_lt 
 
 -- Advance of an open transaction behind operation i, 0 at its begin
 abbrev pub advance : ClusterData → Open → ℕ → List Out
-advance c x i = owns x.script.number i (own_reads 1 [] unread x.progress.values x.script.ops) ++ advance_end c x (waiting x.script.ops x.progress.values)
+advance c x i =
+    owns x.script.number i (own_reads 1 [] unread x.progress.values x.script.ops)
+    ++ advance_end c x (waiting x.script.ops x.progress.values)

@@ -126,7 +126,8 @@ pub record IsFirm (d : DocumentData) (past : List Act) (f : Ident) (t : TxId) : 
 -- that final identifier
 pub record AtomicOf (d : DocumentData) (past : List Act) : Type 0 where
   pub firm : (f : Ident) (t : TxId) → IsMember d past f t → IsFirm d past f t
-  pub member : (n : NodeId) (f : Ident) (t : TxId) → ended t (journal d past n) ≡ Some (outcome.Commit f) → IsMember d past f t
+  pub member : (n : NodeId) (f : Ident) (t : TxId) → ended t (journal d past n) ≡ Some (outcome.Commit f)
+      → IsMember d past f t
 
 -- atomic, of acts in the order of time
 abbrev pub Atomic : DocumentData → List Act → Type 0
@@ -171,9 +172,14 @@ pub record IsKept (d : DocumentData) (past : List Act) (logs : NodeId → List R
   pub member : order d past ≡ later ++ (final, s.number) ∷ before
   pub decided : IsTrue (has_decided s.number final (reverse (logs s.home)))
       ⊎ (IsTrue (was_compacted past s.home)
-      × ((n : NodeId) → IsTrue (is_among n (parts_in d (Some s))) → IsTrue (has_ended s.number final (reverse (logs n)))))
-  pub prepared : (n : NodeId) → IsTrue (is_among n (parts_in d (Some s))) → writes_at (prepared_of s.number (reverse (logs n))) ≡ Some (writes_on d n s (copy_of d before))
+      × ((n : NodeId) → IsTrue (is_among n (parts_in d (Some s)))
+      → IsTrue (has_ended s.number final (reverse (logs n)))))
+  pub prepared : (n : NodeId) → IsTrue (is_among n (parts_in d (Some s)))
+      → writes_at (prepared_of s.number (reverse (logs n))) ≡ Some (writes_on d n s (copy_of d before))
 
 -- Kept: each finished update is kept in all lists that the disks may hold
 abbrev pub Kept : DocumentData → List Act → Type 0
-Kept d h = (logs : NodeId → List Record) → AreLogs d (after [] h) logs → (s : ScriptData) (t : TxId) → script_of t d.scripts ≡ Some s → IsTrue (is_update s.ops) → IsTrue (is_finished (after [] h) t) → IsKept d (after [] h) logs s
+Kept d h =
+    (logs : NodeId → List Record) → AreLogs d (after [] h) logs → (s : ScriptData) (t : TxId)
+    → script_of t d.scripts ≡ Some s → IsTrue (is_update s.ops) → IsTrue (is_finished (after [] h) t)
+    → IsKept d (after [] h) logs s

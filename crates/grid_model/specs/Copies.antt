@@ -106,10 +106,14 @@ TakesCopy d past a = Unit {0}
 -- reply that was taken has the copy's value; and up to its commit identifier each node has the copy's
 -- versions of the keys that it holds.
 pub record OneCopyOf (d : DocumentData) (past : List Act) : Type 0 where
-  pub updates : (later before : List (Ident × TxId)) (x : Ident × TxId) → order d past ≡ later ++ x ∷ before → IsShown d past x.1 (copy_of d before)
-  pub readers : (s : ScriptData) (t : TxId) → script_of t d.scripts ≡ Some s → is_update s.ops ≡ false → IsTrue (is_finished past t) → IsShown d past t (copy d past (snapshot d past t))
+  pub updates : (later before : List (Ident × TxId)) (x : Ident × TxId) → order d past ≡ later ++ x ∷ before
+      → IsShown d past x.1 (copy_of d before)
+  pub readers : (s : ScriptData) (t : TxId) → script_of t d.scripts ≡ Some s → is_update s.ops ≡ false
+      → IsTrue (is_finished past t) → IsShown d past t (copy d past (snapshot d past t))
   pub replies : EachAct (TakesCopy d past) past
-  pub versions : (n : NodeId) (k : Key) (s : Ident) → IsTrue (holds d.cluster.places n k) → s ≤ commit_id (journal d past n) → (version_at (journal d past n) k (init d.cluster k) s).value ≡ copy d past s k
+  pub versions : (n : NodeId) (k : Key) (s : Ident) → IsTrue (holds d.cluster.places n k)
+      → s ≤ commit_id (journal d past n)
+      → (version_at (journal d past n) k (init d.cluster k) s).value ≡ copy d past s k
 
 -- one copy, of acts in the order of time
 abbrev pub OneCopy : DocumentData → List Act → Type 0

@@ -84,7 +84,9 @@ pub record GotAt (p : NodeId → NodeId → Message → Bool) (past : List Act) 
 pub record WaitsForRead (d : DocumentData) (past : List Act) (t : TxId) (j : ℕ) : Type 0 where
   pub asked : IsTrue (has_sent (λ x y said. is_home d t x && is_request_of t j said) past)
   pub quiet : has_got (λ x y said. is_reply_of t j said) past ≡ false
-  pub each : (n : NodeId) (later : List Act) → GotAt (λ x y said. is_request_of t j said) past n later → IsTrue (has_sent (λ x y said. x == n && (is_home d t y && is_reply_of t j said)) later || (has_stopped n later || is_held_at (node d past n) t j))
+  pub each : (n : NodeId) (later : List Act) → GotAt (λ x y said. is_request_of t j said) past n later → IsTrue
+      (has_sent (λ x y said. x == n && (is_home d t y && is_reply_of t j said)) later
+      || (has_stopped n later || is_held_at (node d past n) t j))
 
 -- the vote of a part: the home sent it a Prepare, no vote of it was got, and each Prepare that it got was
 -- answered to the home, or it went down in that step
@@ -93,7 +95,8 @@ pub record WaitsForVote (d : DocumentData) (past : List Act) (t : TxId) : Type 0
   pub is_part : IsTrue (is_among part (parts_in d (script_of t d.scripts)))
   pub asked : IsTrue (has_sent (λ x y said. is_home d t x && (y == part && is_prepare_of t said)) past)
   pub quiet : has_got (λ x y said. x == part && is_vote_of t said) past ≡ false
-  pub each : (later : List Act) → GotAt (λ x y said. is_prepare_of t said) past part later → IsTrue (began_down part later || has_sent (λ x y said. x == part && (is_home d t y && is_vote_of t said)) later)
+  pub each : (later : List Act) → GotAt (λ x y said. is_prepare_of t said) past part later
+      → IsTrue (began_down part later || has_sent (λ x y said. x == part && (is_home d t y && is_vote_of t said)) later)
 
 -- an open transaction is excused: its home is down, or it waits for a read or for a vote
 pub data ExcusedOf (d : DocumentData) (past : List Act) (s : ScriptData) : Type 0 where
@@ -103,7 +106,9 @@ pub data ExcusedOf (d : DocumentData) (past : List Act) (s : ScriptData) : Type 
 
 -- Excused: each transaction of the document that is reading or collecting at the end is excused
 abbrev pub Excused : DocumentData → List Act → Type 0
-Excused d h = (s : ScriptData) (t : TxId) → script_of t d.scripts ≡ Some s → IsTrue (is_open (phase d (after [] h) s)) → ExcusedOf d (after [] h) s
+Excused d h =
+    (s : ScriptData) (t : TxId) → script_of t d.scripts ≡ Some s → IsTrue (is_open (phase d (after [] h) s))
+    → ExcusedOf d (after [] h) s
 
 -- answered, aborted, lost, decided or closed
 abbrev pub is_settled : Phase → Bool
@@ -117,4 +122,6 @@ is_settled p = false
 -- Accounted: each transaction of the document that was begun is answered, aborted, lost, decided or
 -- closed at the end, or it is excused
 abbrev pub Accounted : DocumentData → List Act → Type 0
-Accounted d h = (s : ScriptData) (t : TxId) → script_of t d.scripts ≡ Some s → IsTrue (is_some (story d (after [] h) s.number)) → IsTrue (is_settled (phase d (after [] h) s)) ⊎ ExcusedOf d (after [] h) s
+Accounted d h =
+    (s : ScriptData) (t : TxId) → script_of t d.scripts ≡ Some s → IsTrue (is_some (story d (after [] h) s.number))
+    → IsTrue (is_settled (phase d (after [] h) s)) ⊎ ExcusedOf d (after [] h) s

@@ -41,7 +41,8 @@ IsDecided d past t f = (n : NodeId) × IsTrue (is_home d t n) × IsTrue (has_dec
 -- n served this read
 abbrev pub has_served : NodeId → TxId → ℕ → Ident → Value → List Act → Bool
 has_served n t j sid v [] = false
-has_served n t j sid v (act.Served m u i k s vn w ∷ past) = (m == n && (u == t && (i == j && (s == sid && w == v)))) || has_served n t j sid v past
+has_served n t j sid v (act.Served m u i k s vn w ∷ past) =
+    (m == n && (u == t && (i == j && (s == sid && w == v)))) || has_served n t j sid v past
 has_served n t j sid v (a ∷ past) = has_served n t j sid v past
 
 -- t was given up: aborted, or lost with its home
@@ -143,7 +144,8 @@ LocksExclude d past =
 -- a decision of t with f at its home n: each part has its Prepared, f is the greatest of the proposals,
 -- and it is above the snapshot identifier of t
 pub record RestsOnParts (d : DocumentData) (past : List Act) (t : TxId) (f : Ident) : Type 0 where
-  pub each : (n : NodeId) → IsTrue (is_among n (parts_at d t)) → (p : Ident) × IsTrue (has_prepared t p (journal d past n)) × (p ≤ f)
+  pub each : (n : NodeId) → IsTrue (is_among n (parts_at d t))
+      → (p : Ident) × IsTrue (has_prepared t p (journal d past n)) × (p ≤ f)
   pub reached : (n : NodeId) × IsTrue (is_among n (parts_at d t)) × IsTrue (has_prepared t f (journal d past n))
   pub fresh : snapshot d past t < f
 

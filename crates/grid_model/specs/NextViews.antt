@@ -41,12 +41,15 @@ changed_open f (Some x) = Some (record x { progress = f x.progress })
 
 -- the desk behind a message: a yes that counts
 abbrev pub desk_heard : View → NodeId → Message → TxId → Option Open
-desk_heard v x (message.Vote u (ballot.Yes p)) t = if (u == t) && counts_vote (participant v) (stage v t) x p then changed_open (with_vote x p) (v.desk t) else v.desk t
+desk_heard v x (message.Vote u (ballot.Yes p)) t =
+    if (u == t) && counts_vote (participant v) (stage v t) x p then changed_open (with_vote x p) (v.desk t)
+    else v.desk t
 desk_heard v x said t = v.desk t
 
 -- the acknowledgements behind a message: one that counts
 abbrev pub acks_heard : View → NodeId → Message → TxId → List NodeId
-acks_heard v x (message.Ack u) t = if (u == t) && counts_ack (participant v) (stage v t) x then with_node x (v.acks t) else v.acks t
+acks_heard v x (message.Ack u) t =
+    if (u == t) && counts_ack (participant v) (stage v t) x then with_node x (v.acks t) else v.acks t
 acks_heard v x said t = v.acks t
 
 -- the view behind a message from x, before the node gives anything
@@ -74,7 +77,8 @@ OwnDecisions d past n = (t : TxId) → IsTrue (is_own_decision d past n t)
 -- the decisions of n are its own
 abbrev pub Comes : DocumentData → List Act → NodeId → ℕ → Event → Type 0
 Comes d past n m (event.Begin s floor) = script_of s.number d.scripts ≡ Some s
-Comes d past n m (event.Deliver x said) = (sent_at m (sent past) ≡ Some (record { from = x; to = n; message = said })) × OwnDecisions d past n
+Comes d past n m (event.Deliver x said) =
+    (sent_at m (sent past) ≡ Some (record { from = x; to = n; message = said })) × OwnDecisions d past n
 Comes d past n m e = Unit {0}
 
 -- the past behind which n gives its outs: a message that is delivered is got first
@@ -116,7 +120,8 @@ next_behind e v o = learnt (record_by e v o) v.next
 -- the held reads behind an out: a read that is served behind another message was held
 abbrev pub held_behind : Option Envelope → List HeldRead → Out → List HeldRead
 held_behind e hs (out.Act (act.Held n t op sid)) = with_held (held_by e t op sid) hs
-held_behind e hs (out.Act (act.Served n t op k sid vn v)) = if is_request (said_by e) then hs else without_read t op k sid hs
+held_behind e hs (out.Act (act.Served n t op k sid vn v)) =
+    if is_request (said_by e) then hs else without_read t op k sid hs
 held_behind e hs o = hs
 
 -- the transaction that a script opens where no Decided of it stands open
@@ -133,11 +138,13 @@ if_update (Some x) = if is_update x.script.ops then Some x else None
 -- the desk behind an out: a transaction is opened, changed, or gone
 abbrev pub desk_behind : Option ScriptData → View → Out → TxId → Option Open
 desk_behind s v (out.Act (act.Began u n sid0)) t = if u == t then opened_by (undone t v.journal) s sid0 else v.desk t
-desk_behind s v (out.Act (act.Taken u j sid w)) t = if u == t then changed_open (with_value j sid w) (v.desk t) else v.desk t
+desk_behind s v (out.Act (act.Taken u j sid w)) t =
+    if u == t then changed_open (with_value j sid w) (v.desk t) else v.desk t
 desk_behind s v (out.Act (act.Finished u)) t = if u == t then if_update (v.desk t) else v.desk t
 desk_behind s v (out.Act (act.Aborted u n why)) t = if u == t then None else v.desk t
 desk_behind s v (out.Act (act.Decided u f)) t = if u == t then None else v.desk t
-desk_behind s v (out.Send to (message.ReadReq q)) t = if q.t == t then changed_open (with_request (length (holders v.cluster.places q.key))) (v.desk t) else v.desk t
+desk_behind s v (out.Send to (message.ReadReq q)) t =
+    if q.t == t then changed_open (with_request (length (holders v.cluster.places q.key))) (v.desk t) else v.desk t
 desk_behind s v o t = v.desk t
 
 -- the acknowledgements behind an out: none of a transaction that begins, is decided or is closed

@@ -98,7 +98,8 @@ held_by (Some e) t op sid = held_from e.from e.message t op sid
 
 -- ---- what an act changes at one node
 
--- nothing; a record is written, the clock raised, a read held, a held read freed; the node stops, is opened, or could not be opened
+-- nothing; a record is written, the clock raised, a read held, a held read freed; the node stops, is opened, or could
+-- not be opened
 pub data Change : Type 0 where
   Nothing : Change
   Writes : Option Record → Change
@@ -140,7 +141,8 @@ abbrev pub change : DocumentData → Option Envelope → Act → NodeId → Chan
 change d e (act.Prepared m t p) n = where_at (m == n) (Writes (prepared_by e t p))
 change d e (act.Ended m t o) n = where_at (m == n) (Writes (Some (record'.Ended t o)))
 change d e (act.Ceiling m c) n = where_at (m == n) (Writes (Some (record'.Ceiling c)))
-change d e (act.Decided t f) n = where_at (is_home d t n) (Writes (Some (record'.Decided t f (parts_in d (script_of t d.scripts)))))
+change d e (act.Decided t f) n =
+    where_at (is_home d t n) (Writes (Some (record'.Decided t f (parts_in d (script_of t d.scripts)))))
 change d e (act.Closed t) n = where_at (is_home d t n) (Writes (Some (record'.Closed t)))
 change d e (act.Raised m sid) n = where_at (m == n) (Raises sid)
 change d e (act.Held m t op sid) n = where_at (m == n) (Holds (held_by e t op sid))
@@ -195,7 +197,9 @@ changed (Raises sid) x = record x { next = max sid x.next }
 changed (Holds o) x = record x { held = with_held o x.held }
 changed (Frees t op k sid) x = record x { held = without_read t op k sid x.held }
 changed (Stops o) x = record x { doubt = o; held = []; up = false }
-changed (Starts kept) x = record x { journal = found kept x.doubt x.journal; doubt = None; next = floor (found kept x.doubt x.journal); up = true }
+changed (Starts kept) x =
+    record x
+    { journal = found kept x.doubt x.journal; doubt = None; next = floor (found kept x.doubt x.journal); up = true }
 changed Stays x = record x { up = false }
 
 -- node n behind these acts

@@ -42,7 +42,9 @@ use Rattle.grid_model.specs.Fitness.{is_fit_at, is_fit_begin, tx_in}
 
 -- the read is served with this version, and the answer goes to x
 abbrev pub served : NodeId → TxId → ℕ → Key → Ident → NodeId → Version → List Out
-served n t op k sid x w = out.Act (act.Served n t op k sid w.ident w.value) ∷ (out.Send x (message.ReadRep (record { t = t; op = op; sid = sid; value = w.value })) ∷ [])
+served n t op k sid x w =
+    out.Act (act.Served n t op k sid w.ident w.value)
+    ∷ (out.Send x (message.ReadRep (record { t = t; op = op; sid = sid; value = w.value })) ∷ [])
 
 -- the version of a key at an identifier
 abbrev pub version_for : ClusterData → List Record → Key → Ident → Version
@@ -51,7 +53,9 @@ version_for c r k sid = version_at r k (init c k) sid
 -- Release: the held reads that no pending proposal holds any more are served, in the order of their arrival
 abbrev pub release : ClusterData → List Record → NodeId → List HeldRead → List Out
 release c r n [] = []
-release c r n (h ∷ hs) = (if is_clear h.sid r then served n h.t h.op h.key h.sid h.from (version_for c r h.key h.sid) else []) ++ release c r n hs
+release c r n (h ∷ hs) =
+    (if is_clear h.sid r then served n h.t h.op h.key h.sid h.from (version_for c r h.key h.sid) else [])
+    ++ release c r n hs
 
 -- the identifier of a read: a first read is dated by its server
 abbrev pub dated : Date → Ident → Ident
@@ -83,7 +87,9 @@ read_outs n p x q sid =
 
 -- a read reply at the home
 abbrev pub reply_outs : ClusterData → ReadRep → Stage → List Out
-reply_outs c q (Reads x j) = if j == q.op then out.Act (act.Taken q.t q.op q.sid q.value) ∷ advance c (record x { progress = with_value q.op q.sid q.value x.progress }) q.op else []
+reply_outs c q (Reads x j) =
+    if j == q.op then out.Act (act.Taken q.t q.op q.sid q.value)
+    ∷ advance c (record x { progress = with_value q.op q.sid q.value x.progress }) q.op else []
 reply_outs c q s = []
 
 -- ---- votes
@@ -100,7 +106,8 @@ judged n x t None (Some y) p = refused n x t (cause.Newer y.0 y.1)
 judged n x t None None p = out.Act (act.Prepared n t p) ∷ (out.Send x (message.Vote t (ballot.Yes p)) ∷ [])
 
 -- a Prepare of t at n from x, by the outcome and the proposal that t has there
-abbrev pub prepared_outs : NodeId → NodeId → TxId → Option Outcome → Option Ident → Option TxId → Option (Key × Ident) → Ident → List Out
+abbrev pub prepared_outs : NodeId → NodeId → TxId → Option Outcome → Option Ident → Option TxId → Option (Key × Ident)
+    → Ident → List Out
 prepared_outs n x t (Some o) mine holder newer p = []
 prepared_outs n x t None (Some q) holder newer p = out.Send x (message.Vote t (ballot.Yes q)) ∷ []
 prepared_outs n x t None None holder newer p = judged n x t holder newer p
@@ -141,7 +148,8 @@ ballot_outs t ns votes x (ballot.No why) = out.Act (act.Aborted t x why) ∷ tel
 
 -- a vote from x at the home
 abbrev pub vote_outs : ClusterData → TxId → NodeId → Ballot → Stage → List Out
-vote_outs c t x b (Collects o) = if has_voted x o.progress.votes then [] else ballot_outs t (parts_now c o) o.progress.votes x b
+vote_outs c t x b (Collects o) =
+    if has_voted x o.progress.votes then [] else ballot_outs t (parts_now c o) o.progress.votes x b
 vote_outs c t x b s = []
 
 -- each of these nodes is among those
@@ -185,7 +193,8 @@ abort_outs n t None = []
 -- how t ended, told at n: what n gives but for its held reads
 abbrev pub end_outs : NodeId → Participant → TxId → Outcome → List Out
 end_outs n p t (outcome.Commit f) =
-    commit_outs n t f (pending t p.journal) (is_commit (ended t p.journal)) (to_node (home_of t p.journal) (message.Ack t))
+    commit_outs n t f (pending t p.journal) (is_commit (ended t p.journal))
+    (to_node (home_of t p.journal) (message.Ack t))
 end_outs n p t outcome.Abort = abort_outs n t (pending t p.journal)
 
 -- these outs, where a transaction is pending
@@ -233,7 +242,8 @@ first_ident p floor = max (commit_id p.journal) floor
 
 -- what n gives where a transaction of its own begins, whose session has this floor
 abbrev pub begin_outs : NodeId → Participant → ScriptData → Ident → List Out
-begin_outs n p s floor = out.Act (act.Began s.number n (first_ident p floor)) ∷ advance p.cluster (begun_at s (first_ident p floor)) 0
+begin_outs n p s floor =
+    out.Act (act.Began s.number n (first_ident p floor)) ∷ advance p.cluster (begun_at s (first_ident p floor)) 0
 
 -- those of the nodes that have not voted
 abbrev pub not_voted : List NodeId → List Voted → List NodeId
@@ -256,7 +266,8 @@ ask_outs p t = if is_some (pending t p.journal) then to_node (home_of t p.journa
 
 -- what n asks part m of t; nothing where t is not pending at n, or m is no part of it
 abbrev pub ask_peer_outs : Participant → TxId → NodeId → List Out
-ask_peer_outs p t m = if is_some (pending t p.journal) && names_part t m p.journal then out.Send m (message.AskPeer t) ∷ [] else []
+ask_peer_outs p t m =
+    if is_some (pending t p.journal) && names_part t m p.journal then out.Send m (message.AskPeer t) ∷ [] else []
 
 -- what n gives where its journal is made small
 abbrev pub compact_outs : NodeId → List Out

@@ -18,7 +18,8 @@ use Rattle.grid_model.specs.Schedules.{Choice, row, start_row, events_in}
 -- these acts are the rows of these events, one behind the other, by some choices of the disks
 unfoldable pub Rows : DocumentData → List Act → List Item → List Act → Type 0
 Rows d past [] h = h ≡ []
-Rows d past (e ∷ es) h = (c : Choice) × (rest : List Act) × (h ≡ row d past e c ++ rest) × Rows d (after past (row d past e c)) es rest
+Rows d past (e ∷ es) h =
+    (c : Choice) × (rest : List Act) × (h ≡ row d past e c ++ rest) × Rows d (after past (row d past e c)) es rest
 
 -- The acts of a run of these items: the start, then the row of each event, and nothing more. Free are
 -- whether a record is kept and a compaction goes on, whether a node that is opened comes up, and whether

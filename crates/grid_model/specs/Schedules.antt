@@ -139,14 +139,16 @@ abbrev pub retry_on : DocumentData → State → Choice → TxId → Option Scri
 retry_on d st c t None = []
 retry_on d st c t (Some s) =
     if (st.nodes s.home).up
-    then (let os : List Out = retry_outs d.cluster t (stage (view_in d st s.home) t) in or_void (void_code void.NothingOwed) os (acts_on st c s.home os))
+    then (let os : List Out = retry_outs d.cluster t (stage (view_in d st s.home) t) in
+    or_void (void_code void.NothingOwed) os (acts_on st c s.home os))
     else voided void.HomeDown
 
 -- `ask n t`: code 6 where n is down, or t is not pending at n
 abbrev pub ask_on : DocumentData → State → Choice → NodeId → TxId → List Act
 ask_on d st c n t =
     if (st.nodes n).up
-    then (let os : List Out = ask_outs (participant (view_in d st n)) t in or_void (void_code void.NotPending) os (acts_on st c n os))
+    then (let os : List Out = ask_outs (participant (view_in d st n)) t in
+    or_void (void_code void.NotPending) os (acts_on st c n os))
     else voided void.NotPending
 
 -- `ask n t m`: code 6 where n is down, or t is not pending at n, code 10 where m is no part of t
@@ -154,7 +156,8 @@ abbrev pub ask_peer_on : DocumentData → State → Choice → NodeId → TxId �
 ask_peer_on d st c n t m =
     if not (st.nodes n).up then voided void.NotPending else
     (if not (is_some (pending t (st.nodes n).journal)) then voided void.NotPending
-    else (let os : List Out = ask_peer_outs (participant (view_in d st n)) t m in or_void (void_code void.NotPart) os (acts_on st c n os)))
+    else (let os : List Out = ask_peer_outs (participant (view_in d st n)) t m in
+    or_void (void_code void.NotPart) os (acts_on st c n os)))
 
 -- `crash n`: code 7 where n is down already
 abbrev pub crash_on : State → NodeId → List Act

@@ -30,7 +30,8 @@ use Rattle.script_runs.specs.Waits.{waiting}
 
 -- ---- the phase
 
--- where a transaction is: unbegun, lost, closed with its final identifier, decided, aborted, answered, reading an operation, or collecting
+-- where a transaction is: unbegun, lost, closed with its final identifier, decided, aborted, answered, reading an
+-- operation, or collecting
 pub data Phase : Type 0 where
   Unbegun : Phase
   Lost : Phase
@@ -48,7 +49,9 @@ open_phase None = Collecting
 
 -- a transaction of which no decision stands
 abbrev pub undecided_phase : List Op → Story → Phase
-undecided_phase ops x = if x.aborted then Aborted else (if x.finished && not (is_update ops) then Answered else open_phase (waiting ops x.progress.values))
+undecided_phase ops x =
+    if x.aborted then Aborted
+    else (if x.finished && not (is_update ops) then Answered else open_phase (waiting ops x.progress.values))
 
 -- a transaction that was not lost, by the decision that stands
 abbrev pub decided_phase : List Op → Story → Bool → Option Decision → Phase
@@ -139,7 +142,8 @@ with_vote n p x = record x { votes = with_voted n p x.votes }
 
 -- a transaction that is begun where so many Decided of it are over
 abbrev pub begun : ℕ → Ident → Story
-begun k sid0 = record { progress = at_begin sid0; skipped = k; acks = []; finished = false; aborted = false; lost = false }
+begun k sid0 =
+    record { progress = at_begin sid0; skipped = k; acks = []; finished = false; aborted = false; lost = false }
 
 -- how many Decided of a transaction do not count
 abbrev pub skipped_in : Option Story → ℕ
@@ -179,7 +183,8 @@ if_told false f (Some x) = Some x
 
 -- a yes counts where the transaction is collecting and the vote is fit
 abbrev pub is_counted_vote : List NodeId → Phase → List Record → Ident → NodeId → Ident → Bool
-is_counted_vote ns p r next x proposal = is_collecting p && (is_small_node r next && (is_fit_ballot (ballot.Yes proposal) && is_part ns p x))
+is_counted_vote ns p r next x proposal =
+    is_collecting p && (is_small_node r next && (is_fit_ballot (ballot.Yes proposal) && is_part ns p x))
 
 -- the phase is decided
 abbrev pub is_decided : Phase → Bool
@@ -192,7 +197,8 @@ is_counted_ack ns p r next x = is_decided p && (is_small_node r next && is_part 
 
 -- a message that comes from x to the home, which is this node
 abbrev pub heard : List NodeId → Phase → Node → TxId → NodeId → Message → Option Story → Option Story
-heard ns p h t x (message.Vote u (ballot.Yes proposal)) o = if_told ((u == t) && is_counted_vote ns p h.journal h.next x proposal) (progressed (with_vote x proposal)) o
+heard ns p h t x (message.Vote u (ballot.Yes proposal)) o =
+    if_told ((u == t) && is_counted_vote ns p h.journal h.next x proposal) (progressed (with_vote x proposal)) o
 heard ns p h t x (message.Ack u) o = if_told ((u == t) && is_counted_ack ns p h.journal h.next x) (with_ack x) o
 heard ns p h t x said o = o
 
@@ -205,7 +211,9 @@ phase_at s o h = phase_by s.ops o (is_closed s.number h.journal) (later_decision
 abbrev pub heard_on : DocumentData → (NodeId → Node) → Option ScriptData → Option Envelope → Option Story → Option Story
 heard_on d nodes None e o = o
 heard_on d nodes s None o = o
-heard_on d nodes (Some s) (Some e) o = if e.to == s.home then heard (parts_of d s) (phase_at s o (nodes s.home)) (nodes s.home) s.number e.from e.message o else o
+heard_on d nodes (Some s) (Some e) o =
+    if e.to == s.home then heard (parts_of d s) (phase_at s o (nodes s.home)) (nodes s.home) s.number e.from e.message o
+    else o
 
 -- the same, behind a past
 abbrev pub heard_at : DocumentData → List Act → Option ScriptData → Option Envelope → Option Story → Option Story
@@ -213,7 +221,8 @@ heard_at d past s e o = heard_on d (node d past) s e o
 
 -- the story behind a message that is sent: a read request turns to the next holder
 abbrev pub asked : DocumentData → TxId → Message → Option Story → Option Story
-asked d t (message.ReadReq q) o = if_told (q.t == t) (progressed (with_request (length (holders d.cluster.places q.key)))) o
+asked d t (message.ReadReq q) o =
+    if_told (q.t == t) (progressed (with_request (length (holders d.cluster.places q.key)))) o
 asked d t said o = o
 
 -- the story of t behind one act more, by the messages that were sent and by the nodes

@@ -20,7 +20,9 @@ ghost use Rattle.grid_model.specs.NextViews.{Comes, brought, next_view};
 /// the outs. The message is one that was sent to the node, or the script is one of the document; each
 /// record is kept.
 pub fn law_next_view()
-    ensures { (d : DocumentData) (past : List Act) (n m k : ℕ) (e : Event) → Comes d past n m e → view d (after (brought m e past) (numbered k n (outs_of n (view d past n) e))) n ≡ next_view n (view d past n) e (outs_of n (view d past n) e) }
+    ensures { (d : DocumentData) (past : List Act) (n m k : ℕ) (e : Event) → Comes d past n m e
+        → view d (after (brought m e past) (numbered k n (outs_of n (view d past n) e))) n
+        ≡ next_view n (view d past n) e (outs_of n (view d past n) e) }
 {}
 
 /// Behind each list of acts the disk list of a node and its journal have the same Small; and where each
@@ -42,5 +44,6 @@ pub fn law_disklog()
 pub fn law_state()
     ensures row { (d : DocumentData) (past : List Act) (i : Item) (c : Choice) → row d past i c ≡ row_on d (state_of d past) i c }
     ensures step { (d : DocumentData) (past : List Act) (a : Act) → state_of d (a ∷ past) ≡ state_behind d (state_of d past) a }
-    ensures behind { (d : DocumentData) (h acts : List Act) → state_of d (after [] (h ++ acts)) ≡ state_after d (state_of d (after [] h)) acts }
+    ensures behind { (d : DocumentData) (h acts : List Act)
+        → state_of d (after [] (h ++ acts)) ≡ state_after d (state_of d (after [] h)) acts }
 {}

@@ -19,13 +19,17 @@ use Rattle.journal_records.specs.Records.{record_bytes, IsRecord, first_both, wh
 
 -- ---- two values
 
-codec_both : {A B : Type 0} {Is : A → Type 0} {Are : B → Type 0} {f : A → List ℕ} {g : B → List ℕ} {first : List ℕ → Option (A × List ℕ)} {second : List ℕ → Option (B × List ℕ)}
-    → IsCodec Is f first → IsCodec Are g second → IsCodec (λ x. Is x.0 × Are x.1) (λ x. f x.0 ++ g x.1) (first_both first second)
+codec_both : {A B : Type 0} {Is : A → Type 0} {Are : B → Type 0} {f : A → List ℕ} {g : B → List ℕ}
+    {first : List ℕ → Option (A × List ℕ)} {second : List ℕ → Option (B × List ℕ)}
+    → IsCodec Is f first → IsCodec Are g second
+    → IsCodec (λ x. Is x.0 × Are x.1) (λ x. f x.0 ++ g x.1) (first_both first second)
 codec_both {A} {B} {Is} {Are} {f} {g} {first} {second} one two = record { again = again; takes = takes } where
-  again : (x : A × B) (rest : List ℕ) → Is x.0 × Are x.1 → first_both first second ((f x.0 ++ g x.1) ++ rest) ≡ Some (x, rest)
+  again : (x : A × B) (rest : List ℕ) → Is x.0 × Are x.1
+      → first_both first second ((f x.0 ++ g x.1) ++ rest) ≡ Some (x, rest)
   again x rest is = ap (first_both first second) (append_assoc (f x.0) (g x.1) rest) ∙ rw (one.again x.0 (g x.1 ++ rest) is.0, two.again x.1 rest is.1) refl
 
-  takes : (bytes : List ℕ) (x : A × B) (rest : List ℕ) → IsBytes bytes → first_both first second bytes ≡ Some (x, rest) → (Is x.0 × Are x.1) × (bytes ≡ (f x.0 ++ g x.1) ++ rest)
+  takes : (bytes : List ℕ) (x : A × B) (rest : List ℕ) → IsBytes bytes → first_both first second bytes ≡ Some (x, rest)
+      → (Is x.0 × Are x.1) × (bytes ≡ (f x.0 ++ g x.1) ++ rest)
   takes bytes x rest fits e =
       let a = bind_some (first bytes) (λ y. second y.1 >>= λ z. Some ((y.0, z.0), z.1)) (x, rest) e in
       let b = bind_some (second a.0.1) (λ z. Some ((a.0.0, z.0), z.1)) (x, rest) a.2 in
@@ -39,17 +43,20 @@ codec_both {A} {B} {Is} {Are} {f} {g} {first} {second} one two = record { again 
 -- ---- all of the bytes
 
 -- a record that is made of a value behind its tag, and its one spelling
-record IsKind {A : Type 0} (Is : A → Type 0) (f : A → List ℕ) (first : List ℕ → Option (A × List ℕ)) (tag : ℕ) (make : A → Record) : Type 0 where
+record IsKind {A : Type 0} (Is : A → Type 0) (f : A → List ℕ) (first : List ℕ → Option (A × List ℕ)) (tag : ℕ)
+    (make : A → Record) : Type 0 where
   pub codec : IsCodec Is f first
   pub fits : (a : A) → Is a → IsRecord (make a)
   pub spelled : (a : A) → record_bytes (make a) ≡ tag ∷ f a
 
-whole_again : {A : Type 0} {Is : A → Type 0} {f : A → List ℕ} {first : List ℕ → Option (A × List ℕ)} → IsCodec Is f first → (a : A) → Is a → whole (first (f a)) ≡ Some a
+whole_again : {A : Type 0} {Is : A → Type 0} {f : A → List ℕ} {first : List ℕ → Option (A × List ℕ)}
+    → IsCodec Is f first → (a : A) → Is a → whole (first (f a)) ≡ Some a
 whole_again {A} {Is} {f} {first} codec a is =
     let read : first (f a) ≡ Some (a, []) = ap first (sym (append-nil (f a))) ∙ codec.again a [] is in
     ap (λ (o : Option (A × List ℕ)). whole o) read
 
-whole_takes : {A : Type 0} {Is : A → Type 0} {f : A → List ℕ} {first : List ℕ → Option (A × List ℕ)} → IsCodec Is f first
+whole_takes : {A : Type 0} {Is : A → Type 0} {f : A → List ℕ} {first : List ℕ → Option (A × List ℕ)}
+    → IsCodec Is f first
     → (bytes : List ℕ) (a : A) → IsBytes bytes → whole (first bytes) ≡ Some a → Is a × (bytes ≡ f a)
 whole_takes {A} {Is} {f} {first} codec bytes a fits e = by_read (first bytes) refl e where
   by_read : (o : Option (A × List ℕ)) → first bytes ≡ o → whole o ≡ Some a → Is a × (bytes ≡ f a)
@@ -61,19 +68,23 @@ whole_takes {A} {Is} {f} {first} codec bytes a fits e = by_read (first bytes) re
       let all : bytes ≡ f x.0 = p.1 ∙ ap (λ (y : List ℕ). f x.0 ++ y) none ∙ append-nil (f x.0) in
       subst (λ (y : A). Is y × (bytes ≡ f y)) g.1 (p.0, all)
 
-mapped_some : {A B : Type 0} (make : A → B) (o : Option A) (b : B) → option_map make o ≡ Some b → (a : A) × (o ≡ Some a) × (make a ≡ b)
+mapped_some : {A B : Type 0} (make : A → B) (o : Option A) (b : B) → option_map make o ≡ Some b
+    → (a : A) × (o ≡ Some a) × (make a ≡ b)
 mapped_some make None b e = absurd cc
 mapped_some make (Some a) b e = (a, refl, cc)
 
-kind_takes : {A : Type 0} {Is : A → Type 0} {f : A → List ℕ} {first : List ℕ → Option (A × List ℕ)} {tag : ℕ} {make : A → Record} → IsKind Is f first tag make
-    → (bytes : List ℕ) (r : Record) → IsBytes bytes → option_map make (whole (first bytes)) ≡ Some r → IsRecord r × (tag ∷ bytes ≡ record_bytes r)
+kind_takes : {A : Type 0} {Is : A → Type 0} {f : A → List ℕ} {first : List ℕ → Option (A × List ℕ)} {tag : ℕ}
+    {make : A → Record} → IsKind Is f first tag make
+    → (bytes : List ℕ) (r : Record) → IsBytes bytes → option_map make (whole (first bytes)) ≡ Some r
+    → IsRecord r × (tag ∷ bytes ≡ record_bytes r)
 kind_takes {A} {Is} {f} {first} {tag} {make} kind bytes r fits e =
     let m = mapped_some make (whole (first bytes)) r e in
     let p = whole_takes kind.codec bytes m.0 fits m.1 in
     let all : tag ∷ bytes ≡ record_bytes (make m.0) = ap (λ (y : List ℕ). tag ∷ y) p.1 ∙ sym (kind.spelled m.0) in
     subst (λ (y : Record). IsRecord y × (tag ∷ bytes ≡ record_bytes y)) m.2 (kind.fits m.0 p.0, all)
 
-kind_again : {A : Type 0} {Is : A → Type 0} {f : A → List ℕ} {first : List ℕ → Option (A × List ℕ)} {tag : ℕ} {make : A → Record} → IsKind Is f first tag make
+kind_again : {A : Type 0} {Is : A → Type 0} {f : A → List ℕ} {first : List ℕ → Option (A × List ℕ)} {tag : ℕ}
+    {make : A → Record} → IsKind Is f first tag make
     → (a : A) → Is a → option_map make (whole (first (f a))) ≡ Some (make a)
 kind_again {A} {Is} {f} {first} {tag} {make} kind a is = ap (λ (o : Option A). option_map make o) (whole_again kind.codec a is)
 
@@ -83,10 +94,14 @@ abbrev PreparedParts : Type 0
 PreparedParts = ℕ × (ℕ × (List ℕ × (ℕ × (ℕ × (List (List ℕ) × List (List ℕ × ℕ))))))
 
 abbrev IsPrepared : PreparedParts → Type 0
-IsPrepared a = IsTx a.0 × (IsNode a.1.0 × (AreNodes a.1.1.0 × ((a.1.1.1.0 < 2 ^ 64) × ((a.1.1.1.1.0 < 2 ^ 64) × (AreKeys a.1.1.1.1.1.0 × AreWrites a.1.1.1.1.1.1)))))
+IsPrepared a =
+    IsTx a.0 × (IsNode a.1.0 × (AreNodes a.1.1.0
+    × ((a.1.1.1.0 < 2 ^ 64) × ((a.1.1.1.1.0 < 2 ^ 64) × (AreKeys a.1.1.1.1.1.0 × AreWrites a.1.1.1.1.1.1)))))
 
 abbrev prepared_bytes : PreparedParts → List ℕ
-prepared_bytes a = two_bytes a.0 ++ ((a.1.0 ∷ []) ++ (nodes_bytes a.1.1.0 ++ (eight_bytes a.1.1.1.0 ++ (eight_bytes a.1.1.1.1.0 ++ (keys_bytes a.1.1.1.1.1.0 ++ writes_bytes a.1.1.1.1.1.1)))))
+prepared_bytes a =
+    two_bytes a.0 ++ ((a.1.0 ∷ []) ++ (nodes_bytes a.1.1.0 ++ (eight_bytes a.1.1.1.0
+    ++ (eight_bytes a.1.1.1.1.0 ++ (keys_bytes a.1.1.1.1.1.0 ++ writes_bytes a.1.1.1.1.1.1)))))
 
 codec_prepared : IsCodec IsPrepared prepared_bytes first_prepared
 codec_prepared = codec_both codec_tx (codec_both (codec_within 1 16) (codec_both codec_nodes (codec_both codec_eight (codec_both codec_eight (codec_both codec_keys codec_writes)))))
@@ -111,7 +126,8 @@ kind_ceiling : IsKind (λ c. c < 2 ^ 64) eight_bytes first_eight 3 Ceiling
 unfolding record_bytes IsRecord
 kind_ceiling = record { codec = codec_eight; fits = λ c is. is; spelled = λ c. ap (λ (y : List ℕ). 3 ∷ y) (append-nil (eight_bytes c)) }
 
-kind_decided : IsKind (λ a. IsTx a.0 × ((a.1.0 < 2 ^ 64) × AreNodes a.1.1)) (λ a. two_bytes a.0 ++ (eight_bytes a.1.0 ++ nodes_bytes a.1.1)) first_decided 4 as_decided
+kind_decided : IsKind (λ a. IsTx a.0 × ((a.1.0 < 2 ^ 64) × AreNodes a.1.1))
+    (λ a. two_bytes a.0 ++ (eight_bytes a.1.0 ++ nodes_bytes a.1.1)) first_decided 4 as_decided
 unfolding record_bytes IsRecord
 kind_decided = record {
   codec = codec_both codec_tx (codec_both codec_eight codec_nodes);
@@ -142,7 +158,8 @@ by_tag tag n x y z e = elim (eqb_tells tag n) [
   | inr p ↦ inr (rw p.0 at e)
 ]
 
-pub decode_takes : (body : List ℕ) (r : Record) → IsBytes body → decode_of body ≡ Some r → IsRecord r × (body ≡ record_bytes r)
+pub decode_takes : (body : List ℕ) (r : Record) → IsBytes body → decode_of body ≡ Some r
+    → IsRecord r × (body ≡ record_bytes r)
 unfolding decode_of
 decode_takes [] r fits e = absurd cc
 decode_takes (tag ∷ body) r fits e =

@@ -48,23 +48,28 @@ pub at_ok : {A E : Type 0} (r : Result A E) (P : Type 0) → P → OnOk r P
 at_ok (Ok x) P p = p
 at_ok (Err e) P p = tt
 
-pub small_from : {A E : Type 0} (rec : Record) (r : Result A E) → OnOk r (IsRecord rec) → OnOk r (length (record_bytes rec) ≤ 2407)
+pub small_from : {A E : Type 0} (rec : Record) (r : Result A E) → OnOk r (IsRecord rec)
+    → OnOk r (length (record_bytes rec) ≤ 2407)
 small_from rec (Ok x) is = record_small rec is
 small_from rec (Err e) is = tt
 
 -- ---- a Prepared
 
 -- its spans lie in the bytes
-pub prepared_within : (t home sid p : ℕ) (bytes : List ℕ) (reads_at writes_at end : ℕ) → reads_at ≤ writes_at → writes_at ≤ length bytes → end ≡ length bytes
-    → All (IsWithin bytes) (datum.Number t ∷ datum.Number home ∷ datum.Span 0 reads_at ∷ datum.Number sid ∷ datum.Number p ∷ datum.Span reads_at writes_at ∷ datum.Span writes_at end ∷ [])
+pub prepared_within : (t home sid p : ℕ) (bytes : List ℕ) (reads_at writes_at end : ℕ) → reads_at ≤ writes_at
+    → writes_at ≤ length bytes → end ≡ length bytes
+    → All (IsWithin bytes) (datum.Number t ∷ datum.Number home ∷ datum.Span 0 reads_at ∷ datum.Number sid
+    ∷ datum.Number p ∷ datum.Span reads_at writes_at ∷ datum.Span writes_at end ∷ [])
 prepared_within t home sid p bytes reads_at writes_at end order within e =
     let values : List Datum = datum.Number t ∷ datum.Number home ∷ datum.Span 0 reads_at ∷ datum.Number sid ∷ datum.Number p ∷ datum.Span reads_at writes_at ∷ datum.Span writes_at end ∷ [] in
     let each : AllByRecursion (IsWithin bytes) values = (tt, (tt, ((omega arith, omega arith), (tt, (tt, ((order, within), ((omega arith, omega arith), tt))))))) in
     All-from_recursion (IsWithin bytes) values each
 
-pub prepared_short : (t home sid p : ℕ) (parts : List ℕ) (reads : List (List ℕ)) (writes : List (List ℕ × ℕ)) (a b c : List ℕ) → AreNodes parts → AreKeys reads → AreWrites writes
+pub prepared_short : (t home sid p : ℕ) (parts : List ℕ) (reads : List (List ℕ)) (writes : List (List ℕ × ℕ))
+    (a b c : List ℕ) → AreNodes parts → AreKeys reads → AreWrites writes
     → a ≡ nodes_bytes parts → b ≡ keys_bytes reads → c ≡ writes_bytes writes
-    → length (1 ∷ (two_bytes t ++ ((home ∷ []) ++ (a ++ (eight_bytes sid ++ (eight_bytes p ++ (b ++ (c ++ [])))))))) ≤ 2407
+    → length (1 ∷ (two_bytes t ++ ((home ∷ []) ++ (a ++ (eight_bytes sid ++ (eight_bytes p ++ (b ++ (c ++ []))))))))
+    ≤ 2407
 prepared_short t home sid p parts reads writes a b c are-parts are-reads are-writes a-is b-is c-is =
     let text7 : List ℕ = c ++ [] in
     let text6 : List ℕ = b ++ text7 in

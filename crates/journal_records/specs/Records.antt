@@ -21,7 +21,8 @@ tag_of (Closed t) = 5
 
 -- the table of a record's kind
 abbrev pub fields_of : Record → List Field
-fields_of (Prepared t home parts sid p reads writes) = field.Tx ∷ field.Node ∷ field.Nodes ∷ field.U64 ∷ field.U64 ∷ field.Keys ∷ field.Writes ∷ []
+fields_of (Prepared t home parts sid p reads writes) =
+    field.Tx ∷ field.Node ∷ field.Nodes ∷ field.U64 ∷ field.U64 ∷ field.Keys ∷ field.Writes ∷ []
 fields_of (Ended t outcome) = field.Tx ∷ field.Outcome ∷ []
 fields_of (Ceiling c) = field.U64 ∷ []
 fields_of (Decided t f parts) = field.Tx ∷ field.U64 ∷ field.Nodes ∷ []
@@ -30,7 +31,8 @@ fields_of (Closed t) = field.Tx ∷ []
 -- what a record's fields mean
 abbrev pub meanings_of : Record → List Meaning
 meanings_of (Prepared t home parts sid p reads writes) =
-    Number t ∷ Number home ∷ Bytes (nodes_bytes parts) ∷ Number sid ∷ Number p ∷ Bytes (keys_bytes reads) ∷ Bytes (writes_bytes writes) ∷ []
+    Number t ∷ Number home ∷ Bytes (nodes_bytes parts) ∷ Number sid ∷ Number p
+    ∷ Bytes (keys_bytes reads) ∷ Bytes (writes_bytes writes) ∷ []
 meanings_of (Ended t outcome) = Number t ∷ Bytes (outcome_bytes outcome) ∷ []
 meanings_of (Ceiling c) = Number c ∷ []
 meanings_of (Decided t f parts) = Number t ∷ Number f ∷ Bytes (nodes_bytes parts) ∷ []
@@ -42,14 +44,16 @@ record_bytes r = layout_bytes (tag_of r) (fields_of r) (meanings_of r)
 
 -- the records: numbers in their ranges, 1 to 16 rising parts, at most 32 keys and at most 32 writes
 unfoldable pub IsRecord : Record → Type 0
-IsRecord (Prepared t home parts sid p reads writes) = IsTx t × IsNode home × AreNodes parts × (sid < 2 ^ 64) × (p < 2 ^ 64) × AreKeys reads × AreWrites writes
+IsRecord (Prepared t home parts sid p reads writes) =
+    IsTx t × IsNode home × AreNodes parts × (sid < 2 ^ 64) × (p < 2 ^ 64) × AreKeys reads × AreWrites writes
 IsRecord (Ended t outcome) = IsTx t × IsOutcome outcome
 IsRecord (Ceiling c) = c < 2 ^ 64
 IsRecord (Decided t f parts) = IsTx t × (f < 2 ^ 64) × AreNodes parts
 IsRecord (Closed t) = IsTx t
 
 -- two values, one behind the other
-abbrev pub first_both : {A B : Type 0} → (List ℕ → Option (A × List ℕ)) → (List ℕ → Option (B × List ℕ)) → List ℕ → Option ((A × B) × List ℕ)
+abbrev pub first_both : {A B : Type 0} → (List ℕ → Option (A × List ℕ)) → (List ℕ → Option (B × List ℕ)) → List ℕ
+    → Option ((A × B) × List ℕ)
 first_both first second bytes = first bytes >>= λ a. second a.1 >>= λ b. Some ((a.0, b.0), b.1)
 
 -- a value with nothing behind it
@@ -58,8 +62,12 @@ whole None = None
 whole (Some x) = if length x.1 == 0 then Some x.0 else None
 
 -- what stands behind the tag of each kind
-abbrev pub first_prepared : List ℕ → Option ((ℕ × (ℕ × (List ℕ × (ℕ × (ℕ × (List (List ℕ) × List (List ℕ × ℕ))))))) × List ℕ)
-first_prepared bytes = first_both first_tx (first_both (first_within 1 16) (first_both first_nodes (first_both first_eight (first_both first_eight (first_both first_keys first_writes))))) bytes
+abbrev pub first_prepared : List ℕ
+    → Option ((ℕ × (ℕ × (List ℕ × (ℕ × (ℕ × (List (List ℕ) × List (List ℕ × ℕ))))))) × List ℕ)
+first_prepared bytes =
+    first_both first_tx (first_both (first_within 1 16)
+    (first_both first_nodes (first_both first_eight (first_both first_eight (first_both first_keys first_writes)))))
+    bytes
 
 abbrev pub first_ended : List ℕ → Option ((ℕ × Outcome) × List ℕ)
 first_ended bytes = first_both first_tx first_outcome bytes
@@ -89,7 +97,8 @@ decode_of (tag ∷ body) =
 
 -- what the caller of `encode` sees to: 1 to 16 rising parts, at most 32 keys and at most 32 writes
 abbrev pub CanEncode : Record → Type 0
-CanEncode (Prepared t home parts sid p reads writes) = (1 ≤ length parts) × (length parts ≤ 16) × IsStrictlyIncreasing parts × (length reads ≤ 32) × (length writes ≤ 32)
+CanEncode (Prepared t home parts sid p reads writes) =
+    (1 ≤ length parts) × (length parts ≤ 16) × IsStrictlyIncreasing parts × (length reads ≤ 32) × (length writes ≤ 32)
 CanEncode (Decided t f parts) = (1 ≤ length parts) × (length parts ≤ 16) × IsStrictlyIncreasing parts
 CanEncode r = Unit {0}
 
@@ -98,7 +107,8 @@ abbrev pub Stands : List ℕ → Field → Datum → Type 0
 Stands body f d = Fits f (meaning body d) × IsWithin body d
 
 -- the lists stand one behind the other, the second and the third from these places on
-pub record AreSpelled (parts : List ℕ) (reads : List (List ℕ)) (writes : List (List ℕ × ℕ)) (bytes : List ℕ) (reads_at writes_at : ℕ) : Type 0 where
+pub record AreSpelled (parts : List ℕ) (reads : List (List ℕ)) (writes : List (List ℕ × ℕ)) (bytes : List ℕ)
+    (reads_at writes_at : ℕ) : Type 0 where
   pub parts_are : AreNodes parts
   pub reads_are : AreKeys reads
   pub writes_are : AreWrites writes

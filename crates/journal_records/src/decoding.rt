@@ -14,8 +14,10 @@ use std::alloc::Global;
 /// The values of a body that is the spelling of this layout, whole; `None` exactly where it is not.
 fn whole<const N: usize>(layout: &Layout<N>, body: &[u8]) -> Option<[Datum; N]>
     requires { N ≤ 8 }
-    ensures taken { IfSome result (λ values. IsTaken layout.now.tag layout.now.fields body.now values (length body.now)) }
-    ensures none { IfNone result ((ms : List Meaning) → AllFit layout.now.fields ms → body.now ≡ layout_bytes layout.now.tag layout.now.fields ms → ⊥) }
+    ensures taken { IfSome result
+        (λ values. IsTaken layout.now.tag layout.now.fields body.now values (length body.now)) }
+    ensures none { IfNone result ((ms : List Meaning) → AllFit layout.now.fields ms
+        → body.now ≡ layout_bytes layout.now.tag layout.now.fields ms → ⊥) }
 {
     let Some(taken) = layout.take(body) else {
         return None;

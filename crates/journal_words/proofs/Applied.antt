@@ -19,13 +19,15 @@ use Rattle.journal_words.proofs.Floors.{above-commits, commits-floor}
 
 -- ---- the commits
 
-pub ended-commits : (t : TxId) (f : Ident) (r : List Record) → ended t r ≡ Some (outcome.Commit f) → has_pair t f (commits r) ≡ true
+pub ended-commits : (t : TxId) (f : Ident) (r : List Record) → ended t r ≡ Some (outcome.Commit f)
+    → has_pair t f (commits r) ≡ true
 ended-commits t f [] h = absurd (grind (arith, h))
 ended-commits t f (record'.Ended u (outcome.Commit e) ∷ r) h = grind (arith, nat_tests, ended-commits t f r)
 ended-commits t f (record'.Ended u outcome.Abort ∷ r) h = grind (arith, nat_tests, ended-commits t f r)
 ended-commits t f (y ∷ r) h = ended-commits t f r h
 
-pub commits-ended : (c : ClusterData) (n : NodeId) (t : TxId) (f : Ident) (r : List Record) → all_fit c n r ≡ true → has_pair t f (commits r) ≡ true → ended t r ≡ Some (outcome.Commit f)
+pub commits-ended : (c : ClusterData) (n : NodeId) (t : TxId) (f : Ident) (r : List Record) → all_fit c n r ≡ true
+    → has_pair t f (commits r) ≡ true → ended t r ≡ Some (outcome.Commit f)
 commits-ended c n t f [] fit h = absurd (grind (arith, h))
 commits-ended c n t f (record'.Ended u (outcome.Commit e) ∷ r) fit h = elim (or_cases (u == t && e == f) (has_pair t f (commits r)) h) [
   | inl here ↦ grind (arith, nat_tests, here)
@@ -34,13 +36,16 @@ commits-ended c n t f (record'.Ended u (outcome.Commit e) ∷ r) fit h = elim (o
 commits-ended c n t f (record'.Ended u outcome.Abort ∷ r) fit h = ended-stays c n t (outcome.Commit f) (record'.Ended u outcome.Abort) r fit (commits-ended c n t f r (rest-fits c n (record'.Ended u outcome.Abort) r fit) h)
 commits-ended c n t f (y ∷ r) fit h = commits-ended c n t f r (rest-fits c n y r fit) h
 
-pub commits-grow : (t : TxId) (f : Ident) (y : Record) (r : List Record) → has_pair t f (commits r) ≡ true → has_pair t f (commits (y ∷ r)) ≡ true
+pub commits-grow : (t : TxId) (f : Ident) (y : Record) (r : List Record) → has_pair t f (commits r) ≡ true
+    → has_pair t f (commits (y ∷ r)) ≡ true
 commits-grow t f (record'.Ended u (outcome.Commit e)) r h = or_right (u == t && e == f) (has_pair t f (commits r)) h
 commits-grow t f (record'.Ended u outcome.Abort) r h = h
 commits-grow t f y r h = h
 
 -- below every pending proposal no commit comes anew
-pub commits-below : (c : ClusterData) (n : NodeId) (s : Ident) (t : TxId) (f : Ident) (y : Record) (r : List Record) → all_fit c n (y ∷ r) ≡ true → is_clear s r ≡ true → f ≤ s → has_pair t f (commits (y ∷ r)) ≡ true → has_pair t f (commits r) ≡ true
+pub commits-below : (c : ClusterData) (n : NodeId) (s : Ident) (t : TxId) (f : Ident) (y : Record) (r : List Record)
+    → all_fit c n (y ∷ r) ≡ true → is_clear s r ≡ true → f ≤ s → has_pair t f (commits (y ∷ r)) ≡ true
+    → has_pair t f (commits r) ≡ true
 commits-below c n s t f (record'.Ended u (outcome.Commit e)) r fit clear le h = elim (or_cases (u == t && e == f) (has_pair t f (commits r)) h) [
   | inl here ↦ absurd (
       let q = commit-fits c n r u e (newest-fits c n (record'.Ended u (outcome.Commit e)) r fit) in
@@ -54,18 +59,23 @@ commits-below c n s t f y r fit clear le h = h
 
 -- ---- applied is: committed, and below every pending proposal
 
-applied-each : (t : TxId) (f : Ident) (r : List Record) (xs : List (TxId × Ident)) → has_pair t f (applied_of r xs) ≡ (has_pair t f xs && is_clear f r)
+applied-each : (t : TxId) (f : Ident) (r : List Record) (xs : List (TxId × Ident))
+    → has_pair t f (applied_of r xs) ≡ (has_pair t f xs && is_clear f r)
 applied-each t f r [] = refl
 applied-each t f r (x ∷ xs) = go (is_clear x.1 r) same (applied-each t f r xs)
   where
     same : (x.0 == t && x.1 == f) ≡ true → is_clear f r ≡ is_clear x.1 r
     same h = let e : f ≡ x.1 = grind (arith, nat_tests, h) in ap (λ g. is_clear g r) e
 
-    go : (b : Bool) → ((x.0 == t && x.1 == f) ≡ true → is_clear f r ≡ b) → has_pair t f (applied_of r xs) ≡ (has_pair t f xs && is_clear f r) → has_pair t f (if b then x ∷ applied_of r xs else applied_of r xs) ≡ (((x.0 == t && x.1 == f) || has_pair t f xs) && is_clear f r)
+    go : (b : Bool) → ((x.0 == t && x.1 == f) ≡ true → is_clear f r ≡ b)
+        → has_pair t f (applied_of r xs) ≡ (has_pair t f xs && is_clear f r)
+        → has_pair t f (if b then x ∷ applied_of r xs else applied_of r xs)
+        ≡ (((x.0 == t && x.1 == f) || has_pair t f xs) && is_clear f r)
     go true e more = grind (arith, e, more)
     go false e more = grind (arith, e, more)
 
-pub applied-is : (t : TxId) (f : Ident) (r : List Record) → has_pair t f (applied r) ≡ (has_pair t f (commits r) && is_clear f r)
+pub applied-is : (t : TxId) (f : Ident) (r : List Record)
+    → has_pair t f (applied r) ≡ (has_pair t f (commits r) && is_clear f r)
 applied-is t f r = applied-each t f r (commits r)
 
 -- what an applied commit is
@@ -73,16 +83,19 @@ pub record IsApplied (t : TxId) (f : Ident) (r : List Record) : Type 0 where
   pub committed : ended t r ≡ Some (outcome.Commit f)
   pub clear : is_clear f r ≡ true
 
-pub applied-says : (c : ClusterData) (n : NodeId) (t : TxId) (f : Ident) (r : List Record) → all_fit c n r ≡ true → has_pair t f (applied r) ≡ true → IsApplied t f r
+pub applied-says : (c : ClusterData) (n : NodeId) (t : TxId) (f : Ident) (r : List Record) → all_fit c n r ≡ true
+    → has_pair t f (applied r) ≡ true → IsApplied t f r
 applied-says c n t f r fit h =
     let a = and_parts (has_pair t f (commits r)) (is_clear f r) (sym (applied-is t f r) ∙ h) in
     record { committed = commits-ended c n t f r fit a.0; clear = a.1 }
 
-pub says-applied : (t : TxId) (f : Ident) (r : List Record) → ended t r ≡ Some (outcome.Commit f) → is_clear f r ≡ true → has_pair t f (applied r) ≡ true
+pub says-applied : (t : TxId) (f : Ident) (r : List Record) → ended t r ≡ Some (outcome.Commit f) → is_clear f r ≡ true
+    → has_pair t f (applied r) ≡ true
 says-applied t f r e clear = applied-is t f r ∙ and_from (has_pair t f (commits r)) (is_clear f r) (ended-commits t f r e) clear
 
 -- below every pending proposal each commit is applied
-pub clear-applied : (s : Ident) (t : TxId) (f : Ident) (r : List Record) → ended t r ≡ Some (outcome.Commit f) → is_clear s r ≡ true → f ≤ s → has_pair t f (applied r) ≡ true
+pub clear-applied : (s : Ident) (t : TxId) (f : Ident) (r : List Record) → ended t r ≡ Some (outcome.Commit f)
+    → is_clear s r ≡ true → f ≤ s → has_pair t f (applied r) ≡ true
 clear-applied s t f r e clear le = says-applied t f r e (clear-below s f r le clear)
 
 pub applied-floor : (t : TxId) (f : Ident) (r : List Record) → has_pair t f (applied r) ≡ true → f ≤ floor r
@@ -91,20 +104,24 @@ applied-floor t f r h = commits-floor t f r (and_parts (has_pair t f (commits r)
 -- ---- growth
 
 -- a record that fits has no proposal at or below a commit
-pub commit-under : (c : ClusterData) (n : NodeId) (t : TxId) (f : Ident) (y : Record) (r : List Record) → fits c n r y ≡ true → has_pair t f (commits r) ≡ true → is_over f y ≡ true
+pub commit-under : (c : ClusterData) (n : NodeId) (t : TxId) (f : Ident) (y : Record) (r : List Record)
+    → fits c n r y ≡ true → has_pair t f (commits r) ≡ true → is_over f y ≡ true
 commit-under c n t f (record'.Prepared u home parts sid p reads writes) r fit h =
     let above = (prepared-fits c n r u parts sid p reads writes fit).above in
     let lt = above-commits p t f r above h in
     grind (arith, nat_tests)
 commit-under c n t f y r fit h = refl
 
-pub applied-grows : (c : ClusterData) (n : NodeId) (t : TxId) (f : Ident) (y : Record) (r : List Record) → fits c n r y ≡ true → has_pair t f (applied r) ≡ true → has_pair t f (applied (y ∷ r)) ≡ true
+pub applied-grows : (c : ClusterData) (n : NodeId) (t : TxId) (f : Ident) (y : Record) (r : List Record)
+    → fits c n r y ≡ true → has_pair t f (applied r) ≡ true → has_pair t f (applied (y ∷ r)) ≡ true
 applied-grows c n t f y r fit h =
     let a = and_parts (has_pair t f (commits r)) (is_clear f r) (sym (applied-is t f r) ∙ h) in
     applied-is t f (y ∷ r) ∙ and_from (has_pair t f (commits (y ∷ r))) (is_clear f (y ∷ r)) (commits-grow t f y r a.0) (clear-more f y r (commit-under c n t f y r fit a.0) a.1)
 
 -- below every pending proposal nothing is applied anew
-pub applied-below : (c : ClusterData) (n : NodeId) (s : Ident) (t : TxId) (f : Ident) (y : Record) (r : List Record) → all_fit c n (y ∷ r) ≡ true → is_clear s r ≡ true → f ≤ s → has_pair t f (applied (y ∷ r)) ≡ true → has_pair t f (applied r) ≡ true
+pub applied-below : (c : ClusterData) (n : NodeId) (s : Ident) (t : TxId) (f : Ident) (y : Record) (r : List Record)
+    → all_fit c n (y ∷ r) ≡ true → is_clear s r ≡ true → f ≤ s → has_pair t f (applied (y ∷ r)) ≡ true
+    → has_pair t f (applied r) ≡ true
 applied-below c n s t f y r fit clear le h =
     let a = and_parts (has_pair t f (commits (y ∷ r))) (is_clear f (y ∷ r)) (sym (applied-is t f (y ∷ r)) ∙ h) in
     applied-is t f r ∙ and_from (has_pair t f (commits r)) (is_clear f r) (commits-below c n s t f y r fit clear le a.0) (clear-below s f r le clear)
@@ -134,7 +151,8 @@ zero-clear c n (record'.Ended u o ∷ r) fit = above-without 0 u (pendings r) (z
 zero-clear c n (y ∷ r) fit = zero-clear c n r (rest-fits c n y r fit)
 
 -- it is below every pending proposal
-pub commit_id-clear : (c : ClusterData) (n : NodeId) (r : List Record) → all_fit c n r ≡ true → is_clear (commit_id r) r ≡ true
+pub commit_id-clear : (c : ClusterData) (n : NodeId) (r : List Record) → all_fit c n r ≡ true
+    → is_clear (commit_id r) r ≡ true
 commit_id-clear c n r fit = elim (greatest-one (applied r)) [
   | inl none ↦ (let P : Ident → Type 0 = λ s. is_clear s r ≡ true in subst P (sym none) (zero-clear c n r fit))
   | inr one ↦ (applied-says c n one.0 (commit_id r) r fit one.1).clear

@@ -23,7 +23,8 @@ best_of w start (x ∷ xs) = later x.1 x.0 (w x.0) (best_of w start xs)
 abbrev pub writer : List Record → Key → TxId → Option Value
 writer r k = λ u. wrote_in (prepared_of u r) k
 
-pub best-is : (r : List Record) (k : Key) (start : Value) (xs : List (TxId × Ident)) → best r k start xs ≡ best_of (writer r k) start xs
+pub best-is : (r : List Record) (k : Key) (start : Value) (xs : List (TxId × Ident))
+    → best r k start xs ≡ best_of (writer r k) start xs
 best-is r k start [] = refl
 best-is r k start (x ∷ xs) = rw (best-is r k start xs)
 
@@ -39,7 +40,8 @@ later-self : (f : Ident) (u : TxId) (x : Value) (b : Version) → IsAtMost f u (
 later-self f u x b = grind (arith, nat_tests)
 
 -- each that wrote is at most the best
-pub best-bound : (w : TxId → Option Value) (start : Value) (u : TxId) (f : Ident) (v : Value) (xs : List (TxId × Ident)) → has_pair u f xs ≡ true → w u ≡ Some v → IsAtMost f u (best_of w start xs)
+pub best-bound : (w : TxId → Option Value) (start : Value) (u : TxId) (f : Ident) (v : Value) (xs : List (TxId × Ident))
+    → has_pair u f xs ≡ true → w u ≡ Some v → IsAtMost f u (best_of w start xs)
 best-bound w start u f v [] h e = absurd (grind (arith, h))
 best-bound w start u f v (x ∷ xs) h e = elim (or_cases (x.0 == u && x.1 == f) (has_pair u f xs) h) [
   | inl here ↦
@@ -52,21 +54,26 @@ best-bound w start u f v (x ∷ xs) h e = elim (or_cases (x.0 == u && x.1 == f) 
 -- the best is one that wrote, or the initial value
 pub data IsOneOf (w : TxId → Option Value) (start : Value) (xs : List (TxId × Ident)) (b : Version) : Type 0 where
   initial : b ≡ record { ident = 0; of = 0; value = start } → IsOneOf w start xs b
-  written : (u : TxId) (f : Ident) (v : Value) → has_pair u f xs ≡ true → w u ≡ Some v → b ≡ record { ident = f; of = u; value = v } → IsOneOf w start xs b
+  written : (u : TxId) (f : Ident) (v : Value) → has_pair u f xs ≡ true → w u ≡ Some v
+      → b ≡ record { ident = f; of = u; value = v } → IsOneOf w start xs b
 
-one-more : (w : TxId → Option Value) (start : Value) (x : TxId × Ident) (xs : List (TxId × Ident)) (b : Version) → IsOneOf w start xs b → IsOneOf w start (x ∷ xs) b
+one-more : (w : TxId → Option Value) (start : Value) (x : TxId × Ident) (xs : List (TxId × Ident)) (b : Version)
+    → IsOneOf w start xs b → IsOneOf w start (x ∷ xs) b
 one-more w start x xs b (initial e) = initial e
 one-more w start x xs b (written u f v h e is) = written u f v (or_right (x.0 == u && x.1 == f) (has_pair u f xs) h) e is
 
-pub best-one : (w : TxId → Option Value) (start : Value) (xs : List (TxId × Ident)) → IsOneOf w start xs (best_of w start xs)
+pub best-one : (w : TxId → Option Value) (start : Value) (xs : List (TxId × Ident))
+    → IsOneOf w start xs (best_of w start xs)
 best-one w start [] = initial refl
 best-one w start (x ∷ xs) = go (w x.0) refl (best-one w start xs)
   where
-    choose : (v : Value) (b : Bool) → w x.0 ≡ Some v → IsOneOf w start xs (best_of w start xs) → IsOneOf w start (x ∷ xs) (if b then record { ident = x.1; of = x.0; value = v } else best_of w start xs)
+    choose : (v : Value) (b : Bool) → w x.0 ≡ Some v → IsOneOf w start xs (best_of w start xs)
+        → IsOneOf w start (x ∷ xs) (if b then record { ident = x.1; of = x.0; value = v } else best_of w start xs)
     choose v true e h = written x.0 x.1 v (grind (arith, nat_tests)) e refl
     choose v false e h = one-more w start x xs _ h
 
-    go : (o : Option Value) → w x.0 ≡ o → IsOneOf w start xs (best_of w start xs) → IsOneOf w start (x ∷ xs) (later x.1 x.0 o (best_of w start xs))
+    go : (o : Option Value) → w x.0 ≡ o → IsOneOf w start xs (best_of w start xs)
+        → IsOneOf w start (x ∷ xs) (later x.1 x.0 o (best_of w start xs))
     go None e h = one-more w start x xs _ h
     go (Some v) e h = choose v (is_behind x.1 x.0 (best_of w start xs)) e h
 
@@ -74,9 +81,13 @@ best-one w start (x ∷ xs) = go (w x.0) refl (best-one w start xs)
 
 -- each of the first list that wrote is in the second, and wrote the same there, at an identifier from 1 on
 abbrev pub IsWithin : (w w' : TxId → Option Value) (xs ys : List (TxId × Ident)) → Type 0
-IsWithin w w' xs ys = (u : TxId) (f : Ident) (v : Value) → has_pair u f xs ≡ true → w u ≡ Some v → (has_pair u f ys ≡ true) × (w' u ≡ Some v) × (1 ≤ f)
+IsWithin w w' xs ys =
+    (u : TxId) (f : Ident) (v : Value) → has_pair u f xs ≡ true → w u ≡ Some v
+    → (has_pair u f ys ≡ true) × (w' u ≡ Some v) × (1 ≤ f)
 
-same-best : (w w' : TxId → Option Value) (start : Value) (xs ys : List (TxId × Ident)) → IsWithin w w' xs ys → IsWithin w' w ys xs → (a b : Version) → a ≡ best_of w start xs → b ≡ best_of w' start ys → IsOneOf w start xs a → IsOneOf w' start ys b → a ≡ b
+same-best : (w w' : TxId → Option Value) (start : Value) (xs ys : List (TxId × Ident)) → IsWithin w w' xs ys
+    → IsWithin w' w ys xs → (a b : Version) → a ≡ best_of w start xs → b ≡ best_of w' start ys → IsOneOf w start xs a
+    → IsOneOf w' start ys b → a ≡ b
 same-best w w' start xs ys to from a b ea eb (initial e) (initial e') = e ∙ sym e'
 same-best w w' start xs ys to from a b ea eb (initial e) (written u f x h k is) = absurd (
     let there = from u f x h k in
@@ -98,5 +109,6 @@ same-best w w' start xs ys to from a b ea eb (written u f x h k is) (written v e
     same-version : (u v : TxId) (f e : Ident) (x y : Value) → IsAtMost f u (record { ident = e; of = v; value = y }) → IsAtMost e v (record { ident = f; of = u; value = x }) → w u ≡ Some x → w v ≡ Some y → (let a : Version = record { ident = f; of = u; value = x } in let b : Version = record { ident = e; of = v; value = y } in a ≡ b)
     same-version u v f e x y m m' k k' = grind (arith, m, m', k, k')
 
-pub best-same : (w w' : TxId → Option Value) (start : Value) (xs ys : List (TxId × Ident)) → IsWithin w w' xs ys → IsWithin w' w ys xs → best_of w start xs ≡ best_of w' start ys
+pub best-same : (w w' : TxId → Option Value) (start : Value) (xs ys : List (TxId × Ident)) → IsWithin w w' xs ys
+    → IsWithin w' w ys xs → best_of w start xs ≡ best_of w' start ys
 best-same w w' start xs ys to from = same-best w w' start xs ys to from (best_of w start xs) (best_of w' start ys) refl refl (best-one w start xs) (best-one w' start ys)

@@ -27,7 +27,8 @@ use Rattle.journal_words.proofs.Locks.{holder-free, pending-locks}
 
 -- ---- nothing newer
 
-newer-here : (m sid : Ident) (k : Key) (o : Option (Key × Ident)) → (if nat_lt sid m then Some (k, m) else o) ≡ None → (m ≤ sid) × (o ≡ None)
+newer-here : (m sid : Ident) (k : Key) (o : Option (Key × Ident)) → (if nat_lt sid m then Some (k, m) else o) ≡ None
+    → (m ≤ sid) × (o ≡ None)
 newer-here m sid k o h = go (nat_lt sid m) refl h
   where
     go : (b : Bool) → nat_lt sid m ≡ b → (if b then Some (k, m) else o) ≡ None → (m ≤ sid) × (o ≡ None)
@@ -35,7 +36,8 @@ newer-here m sid k o h = go (nat_lt sid m) refl h
     go false e h = (grind (arith, nat_tests, e), h)
 
 -- none of these keys has an applied version above sid
-pub newer-none : (r : List Record) (ks : List Key) (sid : Ident) (k : Key) → newer r ks sid ≡ None → is_key_among k ks ≡ true → newest r k ≤ sid
+pub newer-none : (r : List Record) (ks : List Key) (sid : Ident) (k : Key) → newer r ks sid ≡ None
+    → is_key_among k ks ≡ true → newest r k ≤ sid
 newer-none r [] sid k h is = absurd (grind (arith, is))
 newer-none r (x ∷ ks) sid k h is =
     let here = newer-here (newest r x) sid x (newer r ks sid) h in
@@ -50,22 +52,31 @@ newer-none r (x ∷ ks) sid k h is =
 -- and where b reads a key that a writes it is at most the snapshot identifier of b
 pub data IsBefore (o : Option Outcome) (a b : Prepared) : Type 0 where
   aborted : o ≡ Some outcome.Abort → IsBefore o a b
-  committed : (f : Ident) → o ≡ Some (outcome.Commit f) → f < b.proposal → ((k : Key) → is_key_among k (keys_of_writes a.writes) ≡ true → is_key_among k b.reads ≡ true → f ≤ b.sid) → IsBefore o a b
+  committed : (f : Ident) → o ≡ Some (outcome.Commit f) → f < b.proposal
+      → ((k : Key) → is_key_among k (keys_of_writes a.writes) ≡ true → is_key_among k b.reads ≡ true → f ≤ b.sid)
+      → IsBefore o a b
 
 -- it stays before it
-pub before-stays : (c : ClusterData) (n : NodeId) (t : TxId) (a b : Prepared) (y : Record) (r : List Record) → all_fit c n (y ∷ r) ≡ true → IsBefore (ended t r) a b → IsBefore (ended t (y ∷ r)) a b
+pub before-stays : (c : ClusterData) (n : NodeId) (t : TxId) (a b : Prepared) (y : Record) (r : List Record)
+    → all_fit c n (y ∷ r) ≡ true → IsBefore (ended t r) a b → IsBefore (ended t (y ∷ r)) a b
 before-stays c n t a b y r fit (aborted e) = aborted (ended-stays c n t outcome.Abort y r fit e)
 before-stays c n t a b y r fit (committed f e lt each) = committed f (ended-stays c n t (outcome.Commit f) y r fit e) lt each
 
-written-some : (k : Key) (t : TxId) (a : Prepared) (r : List Record) → prepared_of t r ≡ Some a → is_key_among k (keys_of_writes a.writes) ≡ true → (v : Value) × (wrote_in (prepared_of t r) k ≡ Some v)
+written-some : (k : Key) (t : TxId) (a : Prepared) (r : List Record) → prepared_of t r ≡ Some a
+    → is_key_among k (keys_of_writes a.writes) ≡ true → (v : Value) × (wrote_in (prepared_of t r) k ≡ Some v)
 written-some k t a r e h = go (written_value k a.writes) refl (sym (written-among k a.writes) ∙ h)
   where
-    go : (o : Option Value) → written_value k a.writes ≡ o → is_some o ≡ true → (v : Value) × (wrote_in (prepared_of t r) k ≡ Some v)
+    go : (o : Option Value) → written_value k a.writes ≡ o → is_some o ≡ true
+        → (v : Value) × (wrote_in (prepared_of t r) k ≡ Some v)
     go None is h = absurd (grind (arith, h))
     go (Some v) is h = (v, rw e is)
 
 -- who conflicts with a new Prepared is before it
-pub conflict-before : (c : ClusterData) (n : NodeId) (t u : TxId) (a : Prepared) (home : NodeId) (parts : List NodeId) (sid p : Ident) (reads : List Key) (writes : List (Key × Value)) (r : List Record) → all_fit c n (record'.Prepared u home parts sid p reads writes ∷ r) ≡ true → t ≢ u → prepared_of t r ≡ Some a → conflict a.reads a.writes reads writes ≡ true → IsBefore (ended t r) a (record { home = home; sid = sid; proposal = p; reads = reads; writes = writes })
+pub conflict-before : (c : ClusterData) (n : NodeId) (t u : TxId) (a : Prepared) (home : NodeId) (parts : List NodeId)
+    (sid p : Ident) (reads : List Key) (writes : List (Key × Value)) (r : List Record)
+    → all_fit c n (record'.Prepared u home parts sid p reads writes ∷ r) ≡ true → t ≢ u → prepared_of t r ≡ Some a
+    → conflict a.reads a.writes reads writes ≡ true
+    → IsBefore (ended t r) a (record { home = home; sid = sid; proposal = p; reads = reads; writes = writes })
 conflict-before c n t u a home parts sid p reads writes r fit ne e both =
     let rest = rest-fits c n (record'.Prepared u home parts sid p reads writes) r fit in
     let f = prepared-fits c n r u parts sid p reads writes (newest-fits c n (record'.Prepared u home parts sid p reads writes) r fit) in
@@ -78,7 +89,9 @@ conflict-before c n t u a home parts sid p reads writes r fit ne e both =
         let no'' : conflict a.reads a.writes reads writes ≡ false = rw e at no' in
         grind (arith, no'', both))
 
-    go : FitsPrepared c n r u parts sid p reads writes → all_fit c n r ≡ true → (o : Option Outcome) → ended t r ≡ o → is_locking t r ≡ false → IsBefore o a (record { home = home; sid = sid; proposal = p; reads = reads; writes = writes })
+    go : FitsPrepared c n r u parts sid p reads writes → all_fit c n r ≡ true → (o : Option Outcome) → ended t r ≡ o
+        → is_locking t r ≡ false
+        → IsBefore o a (record { home = home; sid = sid; proposal = p; reads = reads; writes = writes })
     go f rest None is l = absurd (
         let runs = pending-locks t a.proposal r (running-pending c n t a r rest e is) in
         grind (arith, runs, l))
@@ -95,7 +108,9 @@ conflict-before c n t u a home parts sid p reads writes r fit ne e both =
 
 -- ---- of two that conflict one is before the other
 
-pub conflicts-ordered : (c : ClusterData) (n : NodeId) (t u : TxId) (a b : Prepared) (r : List Record) → all_fit c n r ≡ true → t ≢ u → prepared_of t r ≡ Some a → prepared_of u r ≡ Some b → conflict a.reads a.writes b.reads b.writes ≡ true → IsBefore (ended t r) a b ⊎ IsBefore (ended u r) b a
+pub conflicts-ordered : (c : ClusterData) (n : NodeId) (t u : TxId) (a b : Prepared) (r : List Record)
+    → all_fit c n r ≡ true → t ≢ u → prepared_of t r ≡ Some a → prepared_of u r ≡ Some b
+    → conflict a.reads a.writes b.reads b.writes ≡ true → IsBefore (ended t r) a b ⊎ IsBefore (ended u r) b a
 conflicts-ordered c n t u a b [] fit ne ea eb both = absurd (grind (arith, ea))
 conflicts-ordered c n t u a b (record'.Prepared v home parts sid p reads writes ∷ r) fit ne ea eb both =
     let y : Record = record'.Prepared v home parts sid p reads writes in
@@ -122,7 +137,9 @@ conflicts-ordered c n t u a b (record'.Prepared v home parts sid p reads writes 
           ]
     ]
   where
-    first : (w : TxId) (x : Prepared) → v ≡ w → prepared_of w (record'.Prepared v home parts sid p reads writes ∷ r) ≡ Some x → (let z : Prepared = record { home = home; sid = sid; proposal = p; reads = reads; writes = writes } in z ≡ x)
+    first : (w : TxId) (x : Prepared) → v ≡ w
+        → prepared_of w (record'.Prepared v home parts sid p reads writes ∷ r) ≡ Some x
+        → (let z : Prepared = record { home = home; sid = sid; proposal = p; reads = reads; writes = writes } in z ≡ x)
     first w x same e =
         let z : Prepared = record { home = home; sid = sid; proposal = p; reads = reads; writes = writes } in
         let P : TxId → Type 0 = λ i. prepared_of i (record'.Prepared v home parts sid p reads writes ∷ r) ≡ Some z in

@@ -25,7 +25,8 @@ closes t (record'.Closed u) = u == t
 closes t y = false
 
 -- a Decided
-pub decided-here : (t : TxId) (f : Ident) (parts : List NodeId) (r : List Record) → decision t (record'.Decided t f parts ∷ r) ≡ Some (record { final = f; parts = parts })
+pub decided-here : (t : TxId) (f : Ident) (parts : List NodeId) (r : List Record)
+    → decision t (record'.Decided t f parts ∷ r) ≡ Some (record { final = f; parts = parts })
 decided-here t f parts r = (let self : t == t ≡ true = grind (arith, nat_tests) in rw self refl)
 
 -- a Closed
@@ -52,12 +53,14 @@ some-decision : (o : Option Decision) → is_some o ≡ true → (x : Decision) 
 some-decision None h = absurd (grind (arith, h))
 some-decision (Some x) h = (x, refl)
 
-pub decision-some : (t : TxId) (y : Record) (r : List Record) → is_some (decision t r) ≡ true → is_some (decision t (y ∷ r)) ≡ true
+pub decision-some : (t : TxId) (y : Record) (r : List Record) → is_some (decision t r) ≡ true
+    → is_some (decision t (y ∷ r)) ≡ true
 decision-some t (record'.Decided u f parts) r h = grind (arith, h)
 decision-some t y r h = h
 
 -- who is closed was decided
-pub closed-decided : (c : ClusterData) (n : NodeId) (t : TxId) (r : List Record) → all_fit c n r ≡ true → is_closed t r ≡ true → (x : Decision) × (decision t r ≡ Some x)
+pub closed-decided : (c : ClusterData) (n : NodeId) (t : TxId) (r : List Record) → all_fit c n r ≡ true
+    → is_closed t r ≡ true → (x : Decision) × (decision t r ≡ Some x)
 closed-decided c n t [] fit h = absurd (grind (arith, h))
 closed-decided c n t (record'.Closed u ∷ r) fit h = elim (cases_eq u t) [
   | inl same ↦
@@ -84,7 +87,9 @@ pub decision-has : (t : TxId) (x : Decision) (r : List Record) → decision t r 
 decision-has t x [] h = absurd (grind (arith, h))
 decision-has t x (record'.Decided u f parts ∷ r) h = go (u == t) refl h (decision-has t x r)
   where
-    go : (b : Bool) → u == t ≡ b → (if b then Some (record { final = f; parts = parts }) else decision t r) ≡ Some x → (decision t r ≡ Some x → has_decided t x.final r ≡ true) → ((u == t && f == x.final) || has_decided t x.final r) ≡ true
+    go : (b : Bool) → u == t ≡ b → (if b then Some (record { final = f; parts = parts }) else decision t r) ≡ Some x
+        → (decision t r ≡ Some x → has_decided t x.final r ≡ true)
+        → ((u == t && f == x.final) || has_decided t x.final r) ≡ true
     go true e h rest =
         let is : (let y : Decision = record { final = f; parts = parts } in y ≡ x) = grind (arith, h) in
         let P : Decision → Type 0 = λ y. ((u == t && f == y.final) || has_decided t y.final r) ≡ true in
@@ -97,9 +102,11 @@ has_decided-any t f [] h = absurd (grind (arith, h))
 has_decided-any t f (record'.Decided u e parts ∷ r) h = grind (arith, nat_tests, has_decided-any t f r)
 has_decided-any t f (y ∷ r) h = has_decided-any t f r h
 
-pub has_decided-says : (t : TxId) (f : Ident) (r : List Record) → has_decided t f r ≡ true → (x : Decision) × (decision t r ≡ Some x)
+pub has_decided-says : (t : TxId) (f : Ident) (r : List Record) → has_decided t f r ≡ true
+    → (x : Decision) × (decision t r ≡ Some x)
 has_decided-says t f r h = some-decision (decision t r) (has_decided-any t f r h)
 
-pub has_decided-grows : (t : TxId) (f : Ident) (y : Record) (r : List Record) → has_decided t f r ≡ true → has_decided t f (y ∷ r) ≡ true
+pub has_decided-grows : (t : TxId) (f : Ident) (y : Record) (r : List Record) → has_decided t f r ≡ true
+    → has_decided t f (y ∷ r) ≡ true
 has_decided-grows t f (record'.Decided u e parts) r h = or_right (u == t && e == f) (has_decided t f r) h
 has_decided-grows t f y r h = h

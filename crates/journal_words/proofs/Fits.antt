@@ -19,7 +19,8 @@ use Rattle.journal_words.specs.Journals.{prepared_of, pending, holder, newer, De
 -- ---- the parts of what fits
 
 -- a Prepared that fits
-pub record FitsPrepared (c : ClusterData) (n : NodeId) (r : List Record) (t : TxId) (parts : List NodeId) (sid p : Ident) (reads : List Key) (writes : List (Key × Value)) : Type 0 where
+pub record FitsPrepared (c : ClusterData) (n : NodeId) (r : List Record) (t : TxId) (parts : List NodeId)
+    (sid p : Ident) (reads : List Key) (writes : List (Key × Value)) : Type 0 where
   pub new : prepared_of t r ≡ None
   pub fresh : sid < p
   pub above : is_above p r ≡ true
@@ -32,7 +33,9 @@ none-is : {A : Type 0} (o : Option A) → is_none o ≡ true → o ≡ None
 none-is None h = refl
 none-is (Some x) h = cc
 
-pub prepared-fits : (c : ClusterData) (n : NodeId) (r : List Record) (t : TxId) (parts : List NodeId) (sid p : Ident) (reads : List Key) (writes : List (Key × Value)) → fits_prepared c n r t parts sid p reads writes ≡ true → FitsPrepared c n r t parts sid p reads writes
+pub prepared-fits : (c : ClusterData) (n : NodeId) (r : List Record) (t : TxId) (parts : List NodeId) (sid p : Ident)
+    (reads : List Key) (writes : List (Key × Value)) → fits_prepared c n r t parts sid p reads writes ≡ true
+    → FitsPrepared c n r t parts sid p reads writes
 prepared-fits c n r t parts sid p reads writes h =
     let a = and_parts (is_none (prepared_of t r)) _ h in
     let b = and_parts (nat_lt sid p) _ a.1 in
@@ -51,21 +54,25 @@ prepared-fits c n r t parts sid p reads writes h =
     }
 
 -- the other way
-pub fits-prepared : (c : ClusterData) (n : NodeId) (r : List Record) (t : TxId) (parts : List NodeId) (sid p : Ident) (reads : List Key) (writes : List (Key × Value)) → FitsPrepared c n r t parts sid p reads writes → fits_prepared c n r t parts sid p reads writes ≡ true
+pub fits-prepared : (c : ClusterData) (n : NodeId) (r : List Record) (t : TxId) (parts : List NodeId) (sid p : Ident)
+    (reads : List Key) (writes : List (Key × Value)) → FitsPrepared c n r t parts sid p reads writes
+    → fits_prepared c n r t parts sid p reads writes ≡ true
 fits-prepared c n r t parts sid p reads writes h =
     let new = h.new in let free = h.free in let seen = h.seen in let above = h.above in let part = h.part in let lists = h.lists in
     let fresh : nat_lt sid p ≡ true = (let lt = h.fresh in grind (arith, nat_tests)) in
     rw (new, fresh, above, part, lists, free, seen) refl
 
 -- an Ended that fits: the transaction is pending, and a final identifier is at least its proposal
-pub outcome-fits : (c : ClusterData) (n : NodeId) (r : List Record) (t : TxId) (o : Outcome) → fits c n r (record'.Ended t o) ≡ true → (p : Ident) × (pending t r ≡ Some p)
+pub outcome-fits : (c : ClusterData) (n : NodeId) (r : List Record) (t : TxId) (o : Outcome)
+    → fits c n r (record'.Ended t o) ≡ true → (p : Ident) × (pending t r ≡ Some p)
 outcome-fits c n r t o h = go (pending t r) h
   where
     go : (q : Option Ident) → fits_outcome q o ≡ true → (p : Ident) × (q ≡ Some p)
     go None h = absurd (grind (arith, h))
     go (Some p) h = (p, refl)
 
-pub commit-fits : (c : ClusterData) (n : NodeId) (r : List Record) (t : TxId) (f : Ident) → fits c n r (record'.Ended t (outcome.Commit f)) ≡ true → (p : Ident) × (pending t r ≡ Some p) × (p ≤ f)
+pub commit-fits : (c : ClusterData) (n : NodeId) (r : List Record) (t : TxId) (f : Ident)
+    → fits c n r (record'.Ended t (outcome.Commit f)) ≡ true → (p : Ident) × (pending t r ≡ Some p) × (p ≤ f)
 commit-fits c n r t f h = go (pending t r) h
   where
     go : (q : Option Ident) → fits_outcome q (outcome.Commit f) ≡ true → (p : Ident) × (q ≡ Some p) × (p ≤ f)
@@ -73,13 +80,15 @@ commit-fits c n r t f h = go (pending t r) h
     go (Some p) h = (p, refl, grind (arith, nat_tests, h))
 
 -- a Decided that fits
-pub decided-fits : (c : ClusterData) (n : NodeId) (r : List Record) (t : TxId) (f : Ident) (parts : List NodeId) → fits c n r (record'.Decided t f parts) ≡ true → (undone t r ≡ None) × (1 ≤ f)
+pub decided-fits : (c : ClusterData) (n : NodeId) (r : List Record) (t : TxId) (f : Ident) (parts : List NodeId)
+    → fits c n r (record'.Decided t f parts) ≡ true → (undone t r ≡ None) × (1 ≤ f)
 decided-fits c n r t f parts h =
     let a = and_parts (is_none (undone t r)) (nat_le 1 f) h in
     (none-is (undone t r) a.0, grind (arith, nat_tests, a.1))
 
 -- a Closed that fits
-pub closed-fits : (c : ClusterData) (n : NodeId) (r : List Record) (t : TxId) → fits c n r (record'.Closed t) ≡ true → (x : Decision) × (undone t r ≡ Some x)
+pub closed-fits : (c : ClusterData) (n : NodeId) (r : List Record) (t : TxId) → fits c n r (record'.Closed t) ≡ true
+    → (x : Decision) × (undone t r ≡ Some x)
 closed-fits c n r t h = go (undone t r) h
   where
     go : (q : Option Decision) → is_some q ≡ true → (x : Decision) × (q ≡ Some x)
@@ -88,11 +97,14 @@ closed-fits c n r t h = go (undone t r) h
 
 -- ---- lists all of whose records fit
 
-pub newest-fits : (c : ClusterData) (n : NodeId) (x : Record) (r : List Record) → all_fit c n (x ∷ r) ≡ true → fits c n r x ≡ true
+pub newest-fits : (c : ClusterData) (n : NodeId) (x : Record) (r : List Record) → all_fit c n (x ∷ r) ≡ true
+    → fits c n r x ≡ true
 newest-fits c n x r h = (and_parts (fits c n r x) (all_fit c n r) h).0
 
-pub rest-fits : (c : ClusterData) (n : NodeId) (x : Record) (r : List Record) → all_fit c n (x ∷ r) ≡ true → all_fit c n r ≡ true
+pub rest-fits : (c : ClusterData) (n : NodeId) (x : Record) (r : List Record) → all_fit c n (x ∷ r) ≡ true
+    → all_fit c n r ≡ true
 rest-fits c n x r h = (and_parts (fits c n r x) (all_fit c n r) h).1
 
-pub more-fits : (c : ClusterData) (n : NodeId) (x : Record) (r : List Record) → fits c n r x ≡ true → all_fit c n r ≡ true → all_fit c n (x ∷ r) ≡ true
+pub more-fits : (c : ClusterData) (n : NodeId) (x : Record) (r : List Record) → fits c n r x ≡ true
+    → all_fit c n r ≡ true → all_fit c n (x ∷ r) ≡ true
 more-fits c n x r f h = and_from (fits c n r x) (all_fit c n r) f h

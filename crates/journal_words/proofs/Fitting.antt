@@ -52,10 +52,12 @@ pub proposal_above_proposals-fails : fits_n2 (first ∷ []) (prepared 2 0 1 [] (
 proposal_above_proposals-fails = refl
 
 -- the proposal is above the final identifiers before it
-pub proposal_above_finals-fails : fits_n2 (record'.Ended 1 (outcome.Commit 5) ∷ first ∷ []) (prepared 2 0 5 [] ((c, 7) ∷ [])) ≡ false
+pub proposal_above_finals-fails : fits_n2 (record'.Ended 1 (outcome.Commit 5) ∷ first ∷ [])
+    (prepared 2 0 5 [] ((c, 7) ∷ [])) ≡ false
 proposal_above_finals-fails = refl
 
-pub proposal_above_finals-fits : fits_n2 (record'.Ended 1 (outcome.Commit 5) ∷ first ∷ []) (prepared 2 0 6 [] ((c, 7) ∷ [])) ≡ true
+pub proposal_above_finals-fits : fits_n2 (record'.Ended 1 (outcome.Commit 5) ∷ first ∷ [])
+    (prepared 2 0 6 [] ((c, 7) ∷ [])) ≡ true
 proposal_above_finals-fits = refl
 
 -- a proposal need not be above a ceiling
@@ -98,7 +100,8 @@ pub pending_holder-fails : fits_n2 (first ∷ []) (prepared 2 0 2 (a ∷ []) [])
 pending_holder-fails = refl
 
 -- or one that ended with commit and is not applied, since another is pending with a proposal that is not above
-pub unapplied_holder-fails : fits_n2 (record'.Ended 2 (outcome.Commit 2) ∷ prepared 2 0 2 [] ((c, 7) ∷ []) ∷ first ∷ []) (prepared 3 2 3 (c ∷ []) []) ≡ false
+pub unapplied_holder-fails : fits_n2 (record'.Ended 2 (outcome.Commit 2) ∷ prepared 2 0 2 [] ((c, 7) ∷ []) ∷ first ∷ [])
+    (prepared 3 2 3 (c ∷ []) []) ≡ false
 unapplied_holder-fails = refl
 
 -- it holds none once it is applied, or where it aborted
@@ -165,7 +168,8 @@ pub decided_twice-fails : fits_n2 (record'.Decided 1 1 (2 ∷ []) ∷ []) (recor
 decided_twice-fails = refl
 
 -- it may be again, once it is closed
-pub decided_behind_closed-fits : fits_n2 (record'.Closed 1 ∷ record'.Decided 1 1 (2 ∷ []) ∷ []) (record'.Decided 1 2 (2 ∷ [])) ≡ true
+pub decided_behind_closed-fits : fits_n2 (record'.Closed 1 ∷ record'.Decided 1 1 (2 ∷ []) ∷ [])
+    (record'.Decided 1 2 (2 ∷ [])) ≡ true
 decided_behind_closed-fits = refl
 
 -- the final identifier is at least 1
@@ -185,5 +189,6 @@ pub closed_twice-fails : fits_n2 (record'.Closed 1 ∷ record'.Decided 1 1 (2 �
 closed_twice-fails = refl
 
 -- it may be again, where it was decided again
-pub closed_again-fits : fits_n2 (record'.Decided 1 2 (2 ∷ []) ∷ record'.Closed 1 ∷ record'.Decided 1 1 (2 ∷ []) ∷ []) (record'.Closed 1) ≡ true
+pub closed_again-fits : fits_n2 (record'.Decided 1 2 (2 ∷ []) ∷ record'.Closed 1 ∷ record'.Decided 1 1 (2 ∷ []) ∷ [])
+    (record'.Closed 1) ≡ true
 closed_again-fits = refl

@@ -55,14 +55,16 @@ above-higher p q (record'.Ended u (outcome.Commit f) ∷ r) le h = grind (arith,
 above-higher p q (record'.Ended u outcome.Abort ∷ r) le h = above-higher p q r le h
 above-higher p q (y ∷ r) le h = above-higher p q r le h
 
-pub above-final : (p : Ident) (t : TxId) (f : Ident) (r : List Record) → is_above p r ≡ true → ended t r ≡ Some (outcome.Commit f) → f < p
+pub above-final : (p : Ident) (t : TxId) (f : Ident) (r : List Record) → is_above p r ≡ true
+    → ended t r ≡ Some (outcome.Commit f) → f < p
 above-final p t f [] a h = absurd (grind (arith, h))
 above-final p t f (record'.Prepared u home parts sid e reads writes ∷ r) a h = grind (arith, nat_tests, above-final p t f r)
 above-final p t f (record'.Ended u (outcome.Commit g) ∷ r) a h = grind (arith, nat_tests, above-final p t f r)
 above-final p t f (record'.Ended u outcome.Abort ∷ r) a h = grind (arith, nat_tests, above-final p t f r)
 above-final p t f (y ∷ r) a h = above-final p t f r a h
 
-pub above-commits : (p : Ident) (t : TxId) (f : Ident) (r : List Record) → is_above p r ≡ true → has_pair t f (commits r) ≡ true → f < p
+pub above-commits : (p : Ident) (t : TxId) (f : Ident) (r : List Record) → is_above p r ≡ true
+    → has_pair t f (commits r) ≡ true → f < p
 above-commits p t f [] a h = absurd (grind (arith, h))
 above-commits p t f (record'.Prepared u home parts sid e reads writes ∷ r) a h = grind (arith, nat_tests, above-commits p t f r)
 above-commits p t f (record'.Ended u (outcome.Commit g) ∷ r) a h = grind (arith, nat_tests, above-commits p t f r)

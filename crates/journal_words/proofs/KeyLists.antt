@@ -11,11 +11,13 @@ use Rattle.journal_words.specs.Journals.{written_value, keys_of_writes, shares, 
 -- ---- one list
 
 -- a key that a list writes has a value there
-pub written-among : (k : Key) (ws : List (Key × Value)) → is_key_among k (keys_of_writes ws) ≡ is_some (written_value k ws)
+pub written-among : (k : Key) (ws : List (Key × Value))
+    → is_key_among k (keys_of_writes ws) ≡ is_some (written_value k ws)
 written-among k [] = refl
 written-among k (w ∷ ws) = go (same_key k w.0) (same_key w.0 k) (same_key-turned k w.0) (written-among k ws)
   where
-    go : (a b : Bool) → a ≡ b → is_key_among k (keys_of_writes ws) ≡ is_some (written_value k ws) → (a || is_key_among k (keys_of_writes ws)) ≡ is_some (if b then Some w.1 else written_value k ws)
+    go : (a b : Bool) → a ≡ b → is_key_among k (keys_of_writes ws) ≡ is_some (written_value k ws)
+        → (a || is_key_among k (keys_of_writes ws)) ≡ is_some (if b then Some w.1 else written_value k ws)
     go true b e h = rw (← e) refl
     go false b e h = rw (← e) h
 
@@ -64,7 +66,8 @@ shares-turned xs ys = go (shares xs ys) (shares ys xs) refl refl
 
 -- ---- conflicts
 
-pub conflict-turned : (reads reads' : List Key) (writes writes' : List (Key × Value)) → conflict reads writes reads' writes' ≡ conflict reads' writes' reads writes
+pub conflict-turned : (reads reads' : List Key) (writes writes' : List (Key × Value))
+    → conflict reads writes reads' writes' ≡ conflict reads' writes' reads writes
 conflict-turned reads reads' writes writes' =
     rw (shares-turned (keys_of_writes writes) reads', shares-turned (keys_of_writes writes) (keys_of_writes writes'), shares-turned reads (keys_of_writes writes'))
     (turned (shares reads' (keys_of_writes writes)) (shares (keys_of_writes writes') (keys_of_writes writes)) (shares (keys_of_writes writes') reads))
@@ -73,12 +76,16 @@ conflict-turned reads reads' writes writes' =
     turned a b c = grind arith
 
 -- a key that the first writes and the second reads
-pub conflict-read : (k : Key) (reads reads' : List Key) (writes writes' : List (Key × Value)) → is_key_among k (keys_of_writes writes) ≡ true → is_key_among k reads' ≡ true → conflict reads writes reads' writes' ≡ true
+pub conflict-read : (k : Key) (reads reads' : List Key) (writes writes' : List (Key × Value))
+    → is_key_among k (keys_of_writes writes) ≡ true → is_key_among k reads' ≡ true
+    → conflict reads writes reads' writes' ≡ true
 conflict-read k reads reads' writes writes' w r =
     or_left (shares (keys_of_writes writes) reads') (shares (keys_of_writes writes) (keys_of_writes writes') || shares reads (keys_of_writes writes')) (shares-both k (keys_of_writes writes) reads' (record { first = w; second = r }))
 
 -- a key that both write
-pub conflict-write : (k : Key) (reads reads' : List Key) (writes writes' : List (Key × Value)) → is_key_among k (keys_of_writes writes) ≡ true → is_key_among k (keys_of_writes writes') ≡ true → conflict reads writes reads' writes' ≡ true
+pub conflict-write : (k : Key) (reads reads' : List Key) (writes writes' : List (Key × Value))
+    → is_key_among k (keys_of_writes writes) ≡ true → is_key_among k (keys_of_writes writes') ≡ true
+    → conflict reads writes reads' writes' ≡ true
 conflict-write k reads reads' writes writes' w w' =
     let h : shares (keys_of_writes writes) (keys_of_writes writes') ≡ true = shares-both k (keys_of_writes writes) (keys_of_writes writes') (record { first = w; second = w' }) in
     or_right (shares (keys_of_writes writes) reads') (shares (keys_of_writes writes) (keys_of_writes writes') || shares reads (keys_of_writes writes')) (or_left (shares (keys_of_writes writes) (keys_of_writes writes')) (shares reads (keys_of_writes writes')) h)

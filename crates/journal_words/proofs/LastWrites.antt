@@ -41,7 +41,8 @@ turned-member f t [] = refl
 turned-member f t (x ∷ xs) = grind (arith, turned-member f t xs)
 
 -- none of those that follow x comes behind it
-pub all-up_to : (x : Ident × TxId) (f : Ident) (t : TxId) (xs : List (Ident × TxId)) → AllUpTo x xs → has_member f t xs ≡ true → is_before x (f, t) ≡ false
+pub all-up_to : (x : Ident × TxId) (f : Ident) (t : TxId) (xs : List (Ident × TxId)) → AllUpTo x xs
+    → has_member f t xs ≡ true → is_before x (f, t) ≡ false
 all-up_to x f t [] all h = absurd (grind (arith, h))
 all-up_to x f t (y ∷ ys) all h = elim (or_cases (y.0 == f && y.1 == t) (has_member f t ys) h) [
   | inl here ↦
@@ -54,11 +55,14 @@ all-up_to x f t (y ∷ ys) all h = elim (or_cases (y.0 == f && y.1 == t) (has_me
 ]
 
 -- the best of a falling list is its last write
-pub falling-best : (w : TxId → Option Value) (start : Value) (xs : List (Ident × TxId)) → AreFalling xs → ((f : Ident) (t : TxId) (v : Value) → has_member f t xs ≡ true → w t ≡ Some v → 1 ≤ f) → (best_of w start (turned xs)).value ≡ last_written w start xs
+pub falling-best : (w : TxId → Option Value) (start : Value) (xs : List (Ident × TxId)) → AreFalling xs
+    → ((f : Ident) (t : TxId) (v : Value) → has_member f t xs ≡ true → w t ≡ Some v → 1 ≤ f)
+    → (best_of w start (turned xs)).value ≡ last_written w start xs
 falling-best w start [] fall each = refl
 falling-best w start (x ∷ xs) fall each = go (w x.1) refl (falling-best w start xs fall.1 (λ f t v h e. each f t v (or_right (x.0 == f && x.1 == t) (has_member f t xs) h) e)) (best-one w start (turned xs))
   where
-    choose : (v : Value) (b : Version) → 1 ≤ x.0 → w x.1 ≡ Some v → IsOneOf w start (turned xs) b → (if is_behind x.0 x.1 b then record { ident = x.0; of = x.1; value = v } else b).value ≡ v
+    choose : (v : Value) (b : Version) → 1 ≤ x.0 → w x.1 ≡ Some v → IsOneOf w start (turned xs) b
+        → (if is_behind x.0 x.1 b then record { ident = x.0; of = x.1; value = v } else b).value ≡ v
     choose v b least is (initial e) = (let P : Version → Type 0 = λ z. (if is_behind x.0 x.1 z then record { ident = x.0; of = x.1; value = v } else z).value ≡ v in subst P (sym e) (grind (arith, nat_tests, least)))
     choose v b least is (written u f v' h e' e) =
         let up = all-up_to x f u xs fall.0 (sym (turned-member f u xs) ∙ h) in
@@ -68,7 +72,9 @@ falling-best w start (x ∷ xs) fall each = go (w x.1) refl (falling-best w star
         same : (u : TxId) (f : Ident) (v' : Value) → is_before x (f, u) ≡ false → w u ≡ Some v' → (let z : Version = record { ident = f; of = u; value = v' } in (if is_behind x.0 x.1 z then record { ident = x.0; of = x.1; value = v } else z).value ≡ v)
         same u f v' up e' = grind (arith, nat_tests, up, e', is)
 
-    go : (o : Option Value) → w x.1 ≡ o → (best_of w start (turned xs)).value ≡ last_written w start xs → IsOneOf w start (turned xs) (best_of w start (turned xs)) → (later x.0 x.1 o (best_of w start (turned xs))).value ≡ value_or o (last_written w start xs)
+    go : (o : Option Value) → w x.1 ≡ o → (best_of w start (turned xs)).value ≡ last_written w start xs
+        → IsOneOf w start (turned xs) (best_of w start (turned xs))
+        → (later x.0 x.1 o (best_of w start (turned xs))).value ≡ value_or o (last_written w start xs)
     go None e rest one = rest
     go (Some v) e rest one = choose v (best_of w start (turned xs)) (each x.0 x.1 v (grind (arith, nat_tests)) e) e one
 
@@ -76,7 +82,11 @@ falling-best w start (x ∷ xs) fall each = go (w x.1) refl (falling-best w star
 
 -- where the versions of a key up to s are those that the members of a falling list wrote, the value read
 -- at s is their last write
-pub version-last : (c : ClusterData) (n : NodeId) (r : List Record) (k : Key) (start : Value) (s : Ident) (w : TxId → Option Value) (ds : List (Ident × TxId)) → all_fit c n r ≡ true → AreFalling ds → ((t : TxId) (f : Ident) (v : Value) → IsVersion r k t f v → f ≤ s → (has_member f t ds ≡ true) × (w t ≡ Some v)) → ((t : TxId) (f : Ident) (v : Value) → has_member f t ds ≡ true → w t ≡ Some v → IsVersion r k t f v × (f ≤ s)) → (version_at r k start s).value ≡ last_written w start ds
+pub version-last : (c : ClusterData) (n : NodeId) (r : List Record) (k : Key) (start : Value) (s : Ident)
+    (w : TxId → Option Value) (ds : List (Ident × TxId)) → all_fit c n r ≡ true → AreFalling ds
+    → ((t : TxId) (f : Ident) (v : Value) → IsVersion r k t f v → f ≤ s → (has_member f t ds ≡ true) × (w t ≡ Some v))
+    → ((t : TxId) (f : Ident) (v : Value) → has_member f t ds ≡ true → w t ≡ Some v → IsVersion r k t f v × (f ≤ s))
+    → (version_at r k start s).value ≡ last_written w start ds
 version-last c n r k start s w ds fit fall to from =
     ap (λ (z : Version). z.value) (version-is r k start s ∙ best-same (writer r k) w start (up_to s (applied r)) (turned ds) there back)
     ∙ falling-best w start ds fall (λ f t v h e. positive t f (from t f v h e).0.applied)

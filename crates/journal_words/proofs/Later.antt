@@ -32,7 +32,8 @@ pub undecided-later : (k : ℕ) (t : TxId) (r : List Record) → decision t r �
 undecided-later k t r is = rw (is, undecided-times t r is) (grind (arith, nat_tests))
 
 -- a record more takes no later decision away
-pub later-more : (k : ℕ) (t : TxId) (x : Record) (r : List Record) → later_decision k t (x ∷ r) ≡ None → later_decision k t r ≡ None
+pub later-more : (k : ℕ) (t : TxId) (x : Record) (r : List Record) → later_decision k t (x ∷ r) ≡ None
+    → later_decision k t r ≡ None
 later-more k t (record'.Decided u f parts) r none = grind (arith, nat_tests)
 later-more k t x r none = none
 
@@ -59,7 +60,8 @@ over-more k t x r over = record { most = over.most; rest = over.rest }
 pub later-now : (t : TxId) (r : List Record) → later_decision (times_over t r) t r ≡ undone t r
 later-now t r = go (is_closed t r) (undone t r) refl refl
   where
-    go : (closed : Bool) (o : Option Decision) → is_closed t r ≡ closed → undone t r ≡ o → later_decision (times_over t r) t r ≡ undone t r
+    go : (closed : Bool) (o : Option Decision) → is_closed t r ≡ closed → undone t r ≡ o
+        → later_decision (times_over t r) t r ≡ undone t r
     go closed None at is = rw is (grind (arith, nat_tests))
     go true (Some y) at is = grind (arith, at, is)
     go false (Some y) at is = rw is (later-all t r ∙ (rw at at is))

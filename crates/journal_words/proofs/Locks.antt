@@ -26,12 +26,14 @@ abbrev pub is_listed : TxId → List TxId → Bool
 is_listed t [] = false
 is_listed t (u ∷ us) = (u == t) || is_listed t us
 
-pub prepared-listed : (u : TxId) (r : List Record) → is_some (prepared_of u r) ≡ true → is_listed u (prepared_all r) ≡ true
+pub prepared-listed : (u : TxId) (r : List Record) → is_some (prepared_of u r) ≡ true
+    → is_listed u (prepared_all r) ≡ true
 prepared-listed u [] h = absurd (grind (arith, h))
 prepared-listed u (record'.Prepared v home parts sid p reads writes ∷ r) h = grind (arith, nat_tests, prepared-listed u r)
 prepared-listed u (y ∷ r) h = prepared-listed u r h
 
-holder-here : (b l d : Bool) (v : TxId) (o : Option TxId) → (if b && (l && d) then lesser v o else o) ≡ None → b ≡ true → l ≡ true → d ≡ false
+holder-here : (b l d : Bool) (v : TxId) (o : Option TxId) → (if b && (l && d) then lesser v o else o) ≡ None → b ≡ true
+    → l ≡ true → d ≡ false
 holder-here b l d v None h e k = grind (arith, h, e, k)
 holder-here b l d v (Some w) h e k = grind (arith, h, e, k)
 
@@ -40,7 +42,9 @@ holder-rest b v None h = refl
 holder-rest true v (Some w) h = grind (arith, h)
 holder-rest false v (Some w) h = h
 
-none-holds : (us : List TxId) (r : List Record) (t : TxId) (reads : List Key) (writes : List (Key × Value)) (u : TxId) → holder_among us r t reads writes ≡ None → is_listed u us ≡ true → u ≢ t → is_locking u r ≡ true → conflicts_with (prepared_of u r) reads writes ≡ false
+none-holds : (us : List TxId) (r : List Record) (t : TxId) (reads : List Key) (writes : List (Key × Value)) (u : TxId)
+    → holder_among us r t reads writes ≡ None → is_listed u us ≡ true → u ≢ t → is_locking u r ≡ true
+    → conflicts_with (prepared_of u r) reads writes ≡ false
 none-holds [] r t reads writes u h is ne l = absurd (grind (arith, is))
 none-holds (v ∷ us) r t reads writes u h is ne l = elim (cases_eq v u) [
   | inl same ↦
@@ -51,7 +55,9 @@ none-holds (v ∷ us) r t reads writes u h is ne l = elim (cases_eq v u) [
 ]
 
 -- where there is no holder, nobody else who locks conflicts
-pub holder-free : (r : List Record) (t : TxId) (reads : List Key) (writes : List (Key × Value)) (u : TxId) → holder r t reads writes ≡ None → u ≢ t → is_locking u r ≡ true → conflicts_with (prepared_of u r) reads writes ≡ false
+pub holder-free : (r : List Record) (t : TxId) (reads : List Key) (writes : List (Key × Value)) (u : TxId)
+    → holder r t reads writes ≡ None → u ≢ t → is_locking u r ≡ true
+    → conflicts_with (prepared_of u r) reads writes ≡ false
 holder-free r t reads writes u h ne l = go (is_some (prepared_of u r)) refl
   where
     none : (o : Option Prepared) → is_some o ≡ false → conflicts_with o reads writes ≡ false
@@ -64,7 +70,9 @@ holder-free r t reads writes u h ne l = go (is_some (prepared_of u r)) refl
 
 -- ---- who locks behind a record locked before it, but for a new Prepared
 
-unapplied-before : (o : Option Outcome) (y : Record) (r : List Record) → ((f : Ident) → o ≡ Some (outcome.Commit f) → is_over f y ≡ true) → is_unapplied o (y ∷ r) ≡ true → is_unapplied o r ≡ true
+unapplied-before : (o : Option Outcome) (y : Record) (r : List Record)
+    → ((f : Ident) → o ≡ Some (outcome.Commit f) → is_over f y ≡ true) → is_unapplied o (y ∷ r) ≡ true
+    → is_unapplied o r ≡ true
 unapplied-before None y r over h = absurd (grind (arith, h))
 unapplied-before (Some outcome.Abort) y r over h = absurd (grind (arith, h))
 unapplied-before (Some (outcome.Commit f)) y r over h = go (is_clear f r) refl
@@ -76,7 +84,8 @@ unapplied-before (Some (outcome.Commit f)) y r over h = go (is_clear f r) refl
 pub pending-locks : (t : TxId) (p : Ident) (r : List Record) → pending t r ≡ Some p → is_locking t r ≡ true
 pending-locks t p r h = rw h refl
 
-pub locking-before : (c : ClusterData) (n : NodeId) (t : TxId) (y : Record) (r : List Record) → all_fit c n (y ∷ r) ≡ true → prepares t y ≡ false → is_locking t (y ∷ r) ≡ true → is_locking t r ≡ true
+pub locking-before : (c : ClusterData) (n : NodeId) (t : TxId) (y : Record) (r : List Record)
+    → all_fit c n (y ∷ r) ≡ true → prepares t y ≡ false → is_locking t (y ∷ r) ≡ true → is_locking t r ≡ true
 locking-before c n t (record'.Prepared u home parts sid p reads writes) r fit other h =
     let y : Record = record'.Prepared u home parts sid p reads writes in
     let above = (prepared-fits c n r u parts sid p reads writes (newest-fits c n y r fit)).above in
@@ -108,14 +117,17 @@ locking-before c n t y r fit other h = elim (or_cases (is_some (pending t r)) (i
 
 -- ---- two that lock do not conflict
 
-apart-first : (x : Prepared) (o : Option Prepared) → conflicts_with o x.reads x.writes ≡ false → are_apart (Some x) o ≡ true
+apart-first : (x : Prepared) (o : Option Prepared) → conflicts_with o x.reads x.writes ≡ false
+    → are_apart (Some x) o ≡ true
 apart-first x o h = rw h refl
 
-apart-second : (x : Prepared) (o : Option Prepared) → conflicts_with o x.reads x.writes ≡ false → are_apart o (Some x) ≡ true
+apart-second : (x : Prepared) (o : Option Prepared) → conflicts_with o x.reads x.writes ≡ false
+    → are_apart o (Some x) ≡ true
 apart-second x None h = refl
 apart-second x (Some y) h = rw (conflict-turned x.reads y.reads x.writes y.writes, h) refl
 
-pub locks-apart : (c : ClusterData) (n : NodeId) (t u : TxId) (r : List Record) → all_fit c n r ≡ true → t ≢ u → is_locking t r ≡ true → is_locking u r ≡ true → are_apart (prepared_of t r) (prepared_of u r) ≡ true
+pub locks-apart : (c : ClusterData) (n : NodeId) (t u : TxId) (r : List Record) → all_fit c n r ≡ true → t ≢ u
+    → is_locking t r ≡ true → is_locking u r ≡ true → are_apart (prepared_of t r) (prepared_of u r) ≡ true
 locks-apart c n t u [] fit ne lt lu = absurd (grind (arith, lt))
 locks-apart c n t u (record'.Prepared v home parts sid p reads writes ∷ r) fit ne lt lu =
     elim (cases_eq v t) [
@@ -144,10 +156,12 @@ locks-apart c n t u (record'.Prepared v home parts sid p reads writes ∷ r) fit
         let P : TxId → Type 0 = λ z. prepared_of z (record'.Prepared v home parts sid p reads writes ∷ r) ≡ Some x in
         subst P same (prepared-first c n r v home parts sid p reads writes (newest-fits c n (record'.Prepared v home parts sid p reads writes) r fit))
 
-    before : (w : TxId) → v == w ≡ false → is_locking w (record'.Prepared v home parts sid p reads writes ∷ r) ≡ true → is_locking w r ≡ true
+    before : (w : TxId) → v == w ≡ false → is_locking w (record'.Prepared v home parts sid p reads writes ∷ r) ≡ true
+        → is_locking w r ≡ true
     before w other l = locking-before c n w (record'.Prepared v home parts sid p reads writes) r fit other l
 
-    rest : (w : TxId) → v == w ≡ false → is_locking w (record'.Prepared v home parts sid p reads writes ∷ r) ≡ true → conflicts_with (prepared_of w r) reads writes ≡ false
+    rest : (w : TxId) → v == w ≡ false → is_locking w (record'.Prepared v home parts sid p reads writes ∷ r) ≡ true
+        → conflicts_with (prepared_of w r) reads writes ≡ false
     rest w other l =
         let free = (prepared-fits c n r v parts sid p reads writes (newest-fits c n (record'.Prepared v home parts sid p reads writes) r fit)).free in
         holder-free r v reads writes w free (grind (arith, nat_tests, other)) (before w other l)

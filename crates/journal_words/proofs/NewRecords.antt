@@ -27,7 +27,8 @@ pub record IsProposal (t : TxId) (p : Ident) (y : Record) : Type 0 where
 
 -- ---- a Decided, a Closed
 
-pub decision-before : (t : TxId) (x : Decision) (y : Record) (r : List Record) → decision t (y ∷ r) ≡ Some x → (y ≡ record'.Decided t x.final x.parts) ⊎ (decision t r ≡ Some x)
+pub decision-before : (t : TxId) (x : Decision) (y : Record) (r : List Record) → decision t (y ∷ r) ≡ Some x
+    → (y ≡ record'.Decided t x.final x.parts) ⊎ (decision t r ≡ Some x)
 decision-before t x (record'.Decided u f parts) r h = elim (cases_eq u t) [
   | inl same ↦
       let self : u == t ≡ true = grind (arith, nat_tests) in

@@ -21,7 +21,8 @@ some-is (Some x) h = (x, refl)
 
 -- ---- the Prepared of a transaction: once it stands it stays the first
 
-pub prepared-stays : (t : TxId) (y : Record) (r : List Record) (x : Prepared) → prepared_of t r ≡ Some x → prepared_of t (y ∷ r) ≡ Some x
+pub prepared-stays : (t : TxId) (y : Record) (r : List Record) (x : Prepared) → prepared_of t r ≡ Some x
+    → prepared_of t (y ∷ r) ≡ Some x
 prepared-stays t (record'.Prepared u home parts sid p reads writes) r x h = rw h (go (u == t))
   where
     go : (b : Bool) → (let y : Prepared = record { home = home; sid = sid; proposal = p; reads = reads; writes = writes } in (if b then older (Some x) y else Some x) ≡ Some x)
@@ -34,12 +35,17 @@ abbrev pub prepares : TxId → Record → Bool
 prepares t (record'.Prepared u home parts sid p reads writes) = u == t
 prepares t y = false
 
-pub prepared-other : (t : TxId) (y : Record) (r : List Record) → prepares t y ≡ false → prepared_of t (y ∷ r) ≡ prepared_of t r
+pub prepared-other : (t : TxId) (y : Record) (r : List Record) → prepares t y ≡ false
+    → prepared_of t (y ∷ r) ≡ prepared_of t r
 prepared-other t (record'.Prepared u home parts sid p reads writes) r h = rw h refl
 prepared-other t y r h = refl
 
 -- a Prepared that fits is the first of its transaction
-pub prepared-first : (c : ClusterData) (n : NodeId) (r : List Record) (t : TxId) (home : NodeId) (parts : List NodeId) (sid p : Ident) (reads : List Key) (writes : List (Key × Value)) → fits c n r (record'.Prepared t home parts sid p reads writes) ≡ true → prepared_of t (record'.Prepared t home parts sid p reads writes ∷ r) ≡ Some (record { home = home; sid = sid; proposal = p; reads = reads; writes = writes })
+pub prepared-first : (c : ClusterData) (n : NodeId) (r : List Record) (t : TxId) (home : NodeId) (parts : List NodeId)
+    (sid p : Ident) (reads : List Key) (writes : List (Key × Value))
+    → fits c n r (record'.Prepared t home parts sid p reads writes) ≡ true
+    → prepared_of t (record'.Prepared t home parts sid p reads writes ∷ r)
+    ≡ Some (record { home = home; sid = sid; proposal = p; reads = reads; writes = writes })
 prepared-first c n r t home parts sid p reads writes h =
     let new = (prepared-fits c n r t parts sid p reads writes h).new in
     let self : t == t ≡ true = grind (arith, nat_tests) in
@@ -53,15 +59,18 @@ pending-some t p (record'.Prepared u home parts sid q reads writes ∷ r) h = gr
 pending-some t p (record'.Ended u o ∷ r) h = grind (arith, nat_tests, pending-some t p r)
 pending-some t p (y ∷ r) h = pending-some t p r h
 
-pub pending-prepared : (t : TxId) (p : Ident) (r : List Record) → pending t r ≡ Some p → (x : Prepared) × (prepared_of t r ≡ Some x)
+pub pending-prepared : (t : TxId) (p : Ident) (r : List Record) → pending t r ≡ Some p
+    → (x : Prepared) × (prepared_of t r ≡ Some x)
 pending-prepared t p r h = some-is (prepared_of t r) (pending-some t p r h)
 
-some-stays : (t : TxId) (y : Record) (r : List Record) → is_some (prepared_of t r) ≡ true → is_some (prepared_of t (y ∷ r)) ≡ true
+some-stays : (t : TxId) (y : Record) (r : List Record) → is_some (prepared_of t r) ≡ true
+    → is_some (prepared_of t (y ∷ r)) ≡ true
 some-stays t y r h =
     let x = some-is (prepared_of t r) h in
     rw (prepared-stays t y r x.0 x.1) refl
 
-ended-some : (c : ClusterData) (n : NodeId) (t : TxId) (o : Outcome) (r : List Record) → all_fit c n r ≡ true → ended t r ≡ Some o → is_some (prepared_of t r) ≡ true
+ended-some : (c : ClusterData) (n : NodeId) (t : TxId) (o : Outcome) (r : List Record) → all_fit c n r ≡ true
+    → ended t r ≡ Some o → is_some (prepared_of t r) ≡ true
 ended-some c n t o [] fit h = absurd (grind (arith, h))
 ended-some c n t o (record'.Ended u o' ∷ r) fit h = elim (cases_eq u t) [
   | inl same ↦
@@ -75,7 +84,8 @@ ended-some c n t o (record'.Ended u o' ∷ r) fit h = elim (cases_eq u t) [
 ended-some c n t o (record'.Prepared u home parts sid p reads writes ∷ r) fit h = some-stays t (record'.Prepared u home parts sid p reads writes) r (ended-some c n t o r (rest-fits c n (record'.Prepared u home parts sid p reads writes) r fit) h)
 ended-some c n t o (y ∷ r) fit h = ended-some c n t o r (rest-fits c n y r fit) h
 
-pub ended-prepared : (c : ClusterData) (n : NodeId) (t : TxId) (o : Outcome) (r : List Record) → all_fit c n r ≡ true → ended t r ≡ Some o → (x : Prepared) × (prepared_of t r ≡ Some x)
+pub ended-prepared : (c : ClusterData) (n : NodeId) (t : TxId) (o : Outcome) (r : List Record) → all_fit c n r ≡ true
+    → ended t r ≡ Some o → (x : Prepared) × (prepared_of t r ≡ Some x)
 ended-prepared c n t o r fit h = some-is (prepared_of t r) (ended-some c n t o r fit h)
 
 -- who has no Prepared is neither pending nor ended
@@ -86,7 +96,8 @@ unprepared-pending t r h = go (pending t r) refl
     go None e = refl
     go (Some p) e = absurd (let x = pending-prepared t p r e in let y = x.1 in grind (arith, h, y))
 
-pub unprepared-ended : (c : ClusterData) (n : NodeId) (t : TxId) (r : List Record) → all_fit c n r ≡ true → prepared_of t r ≡ None → ended t r ≡ None
+pub unprepared-ended : (c : ClusterData) (n : NodeId) (t : TxId) (r : List Record) → all_fit c n r ≡ true
+    → prepared_of t r ≡ None → ended t r ≡ None
 unprepared-ended c n t r fit h = go (ended t r) refl
   where
     go : (q : Option Outcome) → ended t r ≡ q → q ≡ None
@@ -105,7 +116,8 @@ pending-ended : (x : Option Prepared) (o : Outcome) → pending_by x (Some o) �
 pending-ended None o = refl
 pending-ended (Some x) o = refl
 
-pub pending-is : (c : ClusterData) (n : NodeId) (t : TxId) (r : List Record) → all_fit c n r ≡ true → pending t r ≡ pending_by (prepared_of t r) (ended t r)
+pub pending-is : (c : ClusterData) (n : NodeId) (t : TxId) (r : List Record) → all_fit c n r ≡ true
+    → pending t r ≡ pending_by (prepared_of t r) (ended t r)
 pending-is c n t [] fit = refl
 pending-is c n t (record'.Prepared u home parts sid p reads writes ∷ r) fit = elim (cases_eq u t) [
   | inl same ↦
@@ -136,28 +148,34 @@ pub record IsPending (t : TxId) (p : Ident) (r : List Record) : Type 0 where
   pub proposal : said.proposal ≡ p
   pub running : ended t r ≡ None
 
-pub pending-says : (c : ClusterData) (n : NodeId) (t : TxId) (p : Ident) (r : List Record) → all_fit c n r ≡ true → pending t r ≡ Some p → IsPending t p r
+pub pending-says : (c : ClusterData) (n : NodeId) (t : TxId) (p : Ident) (r : List Record) → all_fit c n r ≡ true
+    → pending t r ≡ Some p → IsPending t p r
 pending-says c n t p r fit h = go (prepared_of t r) (ended t r) refl refl (sym (pending-is c n t r fit) ∙ h)
   where
-    go : (x : Option Prepared) (o : Option Outcome) → prepared_of t r ≡ x → ended t r ≡ o → pending_by x o ≡ Some p → IsPending t p r
+    go : (x : Option Prepared) (o : Option Outcome) → prepared_of t r ≡ x → ended t r ≡ o → pending_by x o ≡ Some p
+        → IsPending t p r
     go None o e f g = absurd (grind (arith, g))
     go (Some x) None e f g = record { said = x; prepared = e; proposal = grind (arith, g); running = f }
     go (Some x) (Some o) e f g = absurd (grind (arith, g))
 
-pub running-pending : (c : ClusterData) (n : NodeId) (t : TxId) (x : Prepared) (r : List Record) → all_fit c n r ≡ true → prepared_of t r ≡ Some x → ended t r ≡ None → pending t r ≡ Some x.proposal
+pub running-pending : (c : ClusterData) (n : NodeId) (t : TxId) (x : Prepared) (r : List Record) → all_fit c n r ≡ true
+    → prepared_of t r ≡ Some x → ended t r ≡ None → pending t r ≡ Some x.proposal
 running-pending c n t x r fit e f = pending-is c n t r fit ∙ rw (e, f) refl
 
-pub ended-over : (c : ClusterData) (n : NodeId) (t : TxId) (o : Outcome) (r : List Record) → all_fit c n r ≡ true → ended t r ≡ Some o → pending t r ≡ None
+pub ended-over : (c : ClusterData) (n : NodeId) (t : TxId) (o : Outcome) (r : List Record) → all_fit c n r ≡ true
+    → ended t r ≡ Some o → pending t r ≡ None
 ended-over c n t o r fit e = pending-is c n t r fit ∙ rw e (pending-ended (prepared_of t r) o)
 
 -- ---- an Ended stands once
 
-pub ended-first : (c : ClusterData) (n : NodeId) (t : TxId) (o : Outcome) (r : List Record) → all_fit c n (record'.Ended t o ∷ r) ≡ true → ended t r ≡ None
+pub ended-first : (c : ClusterData) (n : NodeId) (t : TxId) (o : Outcome) (r : List Record)
+    → all_fit c n (record'.Ended t o ∷ r) ≡ true → ended t r ≡ None
 ended-first c n t o r fit =
     let q = outcome-fits c n r t o (newest-fits c n (record'.Ended t o) r fit) in
     (pending-says c n t q.0 r (rest-fits c n (record'.Ended t o) r fit) q.1).running
 
-pub ended-stays : (c : ClusterData) (n : NodeId) (t : TxId) (o : Outcome) (y : Record) (r : List Record) → all_fit c n (y ∷ r) ≡ true → ended t r ≡ Some o → ended t (y ∷ r) ≡ Some o
+pub ended-stays : (c : ClusterData) (n : NodeId) (t : TxId) (o : Outcome) (y : Record) (r : List Record)
+    → all_fit c n (y ∷ r) ≡ true → ended t r ≡ Some o → ended t (y ∷ r) ≡ Some o
 ended-stays c n t o (record'.Ended u o') r fit h = elim (cases_eq u t) [
   | inl same ↦ absurd (
       let P : TxId → Type 0 = λ v. ended v r ≡ None in
@@ -167,7 +185,8 @@ ended-stays c n t o (record'.Ended u o') r fit h = elim (cases_eq u t) [
 ]
 ended-stays c n t o y r fit h = h
 
-pub ended-later : (c : ClusterData) (n : NodeId) (t : TxId) (o : Outcome) (s r : List Record) → all_fit c n (s ++ r) ≡ true → ended t r ≡ Some o → ended t (s ++ r) ≡ Some o
+pub ended-later : (c : ClusterData) (n : NodeId) (t : TxId) (o : Outcome) (s r : List Record)
+    → all_fit c n (s ++ r) ≡ true → ended t r ≡ Some o → ended t (s ++ r) ≡ Some o
 ended-later c n t o [] r fit h = h
 ended-later c n t o (y ∷ s) r fit h = ended-stays c n t o y (s ++ r) fit (ended-later c n t o s r (rest-fits c n y (s ++ r) fit) h)
 

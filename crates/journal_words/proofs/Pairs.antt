@@ -17,11 +17,13 @@ has_pair t p (x ∷ xs) = (x.0 == t && x.1 == p) || has_pair t p xs
 pub pair-here : (t : TxId) (p : Ident) (xs : List (TxId × Ident)) → has_pair t p ((t, p) ∷ xs) ≡ true
 pair-here t p xs = grind (arith, nat_tests)
 
-pub pair-kept : (t v : TxId) (p : Ident) (xs : List (TxId × Ident)) → t ≢ v → has_pair t p xs ≡ true → has_pair t p (without v xs) ≡ true
+pub pair-kept : (t v : TxId) (p : Ident) (xs : List (TxId × Ident)) → t ≢ v → has_pair t p xs ≡ true
+    → has_pair t p (without v xs) ≡ true
 pair-kept t v p [] ne h = h
 pair-kept t v p (x ∷ xs) ne h = grind (arith, nat_tests, pair-kept t v p xs ne)
 
-pub pair-taken : (t v : TxId) (p : Ident) (xs : List (TxId × Ident)) → has_pair t p (without v xs) ≡ true → (t ≢ v) × (has_pair t p xs ≡ true)
+pub pair-taken : (t v : TxId) (p : Ident) (xs : List (TxId × Ident)) → has_pair t p (without v xs) ≡ true
+    → (t ≢ v) × (has_pair t p xs ≡ true)
 pair-taken t v p [] h = absurd (grind (arith, h))
 pair-taken t v p (x ∷ xs) h = elim (cases_eq x.0 v) [
   | inl same ↦
@@ -40,7 +42,8 @@ pair-taken t v p (x ∷ xs) h = elim (cases_eq x.0 v) [
 
 -- ---- above all of these
 
-pub all-above : (s p : Ident) (t : TxId) (xs : List (TxId × Ident)) → all_above s xs ≡ true → has_pair t p xs ≡ true → s < p
+pub all-above : (s p : Ident) (t : TxId) (xs : List (TxId × Ident)) → all_above s xs ≡ true → has_pair t p xs ≡ true
+    → s < p
 all-above s p t [] h e = absurd (grind (arith, e))
 all-above s p t (x ∷ xs) h e = grind (arith, nat_tests, all-above s p t xs)
 
@@ -48,12 +51,14 @@ pub above-below : (s f : Ident) (xs : List (TxId × Ident)) → f ≤ s → all_
 above-below s f [] le h = refl
 above-below s f (x ∷ xs) le h = grind (arith, nat_tests, above-below s f xs le)
 
-pub above-without : (s : Ident) (t : TxId) (xs : List (TxId × Ident)) → all_above s xs ≡ true → all_above s (without t xs) ≡ true
+pub above-without : (s : Ident) (t : TxId) (xs : List (TxId × Ident)) → all_above s xs ≡ true
+    → all_above s (without t xs) ≡ true
 above-without s t [] h = refl
 above-without s t (x ∷ xs) h = grind (arith, nat_tests, above-without s t xs)
 
 -- a pair that is not above s
-pub not-above : (s : Ident) (xs : List (TxId × Ident)) → all_above s xs ≡ false → (t : TxId) × (p : Ident) × (has_pair t p xs ≡ true) × (p ≤ s)
+pub not-above : (s : Ident) (xs : List (TxId × Ident)) → all_above s xs ≡ false
+    → (t : TxId) × (p : Ident) × (has_pair t p xs ≡ true) × (p ≤ s)
 not-above s [] h = absurd (grind (arith, h))
 not-above s (x ∷ xs) h = elim (cases_Bool (nat_lt s x.1)) [
   | inl above ↦

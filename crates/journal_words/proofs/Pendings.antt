@@ -23,7 +23,8 @@ pending-listed t p (record'.Prepared u home parts sid q reads writes ∷ r) h = 
 pending-listed t p (record'.Ended u o ∷ r) h = grind (arith, nat_tests, pending-listed t p r, pair-kept)
 pending-listed t p (y ∷ r) h = pending-listed t p r h
 
-pub listed-pending : (c : ClusterData) (n : NodeId) (t : TxId) (p : Ident) (r : List Record) → all_fit c n r ≡ true → has_pair t p (pendings r) ≡ true → pending t r ≡ Some p
+pub listed-pending : (c : ClusterData) (n : NodeId) (t : TxId) (p : Ident) (r : List Record) → all_fit c n r ≡ true
+    → has_pair t p (pendings r) ≡ true → pending t r ≡ Some p
 listed-pending c n t p [] fit h = absurd (grind (arith, h))
 listed-pending c n t p (record'.Prepared u home parts sid q reads writes ∷ r) fit h =
     elim (or_cases (u == t && q == p) (has_pair t p (pendings r)) h) [
@@ -49,14 +50,17 @@ listed-pending c n t p (y ∷ r) fit h = listed-pending c n t p r (rest-fits c n
 
 -- ---- below every pending proposal
 
-pub clear-pending : (s : Ident) (t : TxId) (p : Ident) (r : List Record) → is_clear s r ≡ true → pending t r ≡ Some p → s < p
+pub clear-pending : (s : Ident) (t : TxId) (p : Ident) (r : List Record) → is_clear s r ≡ true → pending t r ≡ Some p
+    → s < p
 clear-pending s t p r h e = all-above s p t (pendings r) h (pending-listed t p r e)
 
 pub clear-below : (s f : Ident) (r : List Record) → f ≤ s → is_clear s r ≡ true → is_clear f r ≡ true
 clear-below s f r le h = above-below s f (pendings r) le h
 
 -- whose proposal is at most it has ended
-pub clear-ended : (c : ClusterData) (n : NodeId) (s : Ident) (t : TxId) (x : Prepared) (r : List Record) → all_fit c n r ≡ true → is_clear s r ≡ true → prepared_of t r ≡ Some x → x.proposal ≤ s → (o : Outcome) × (ended t r ≡ Some o)
+pub clear-ended : (c : ClusterData) (n : NodeId) (s : Ident) (t : TxId) (x : Prepared) (r : List Record)
+    → all_fit c n r ≡ true → is_clear s r ≡ true → prepared_of t r ≡ Some x → x.proposal ≤ s
+    → (o : Outcome) × (ended t r ≡ Some o)
 clear-ended c n s t x r fit clear e le = go (ended t r) refl
   where
     go : (o : Option Outcome) → ended t r ≡ o → (o' : Outcome) × (o ≡ Some o')
@@ -70,7 +74,8 @@ pub record IsHeldBy (s : Ident) (r : List Record) : Type 0 where
   pub pending : pending of r ≡ Some proposal
   pub most : proposal ≤ s
 
-pub not-clear : (c : ClusterData) (n : NodeId) (s : Ident) (r : List Record) → all_fit c n r ≡ true → is_clear s r ≡ false → IsHeldBy s r
+pub not-clear : (c : ClusterData) (n : NodeId) (s : Ident) (r : List Record) → all_fit c n r ≡ true
+    → is_clear s r ≡ false → IsHeldBy s r
 not-clear c n s r fit h =
     let x = not-above s (pendings r) h in
     record { of = x.0; proposal = x.1; pending = listed-pending c n x.0 x.1 r fit x.2; most = x.3 }
@@ -82,7 +87,8 @@ abbrev pub is_over : Ident → Record → Bool
 is_over s (record'.Prepared t home parts sid p reads writes) = nat_lt s p
 is_over s y = true
 
-pub clear-more : (s : Ident) (y : Record) (r : List Record) → is_over s y ≡ true → is_clear s r ≡ true → is_clear s (y ∷ r) ≡ true
+pub clear-more : (s : Ident) (y : Record) (r : List Record) → is_over s y ≡ true → is_clear s r ≡ true
+    → is_clear s (y ∷ r) ≡ true
 clear-more s (record'.Prepared t home parts sid p reads writes) r a h = and_from (nat_lt s p) (all_above s (pendings r)) a h
 clear-more s (record'.Ended t o) r a h = above-without s t (pendings r) h
 clear-more s y r a h = h

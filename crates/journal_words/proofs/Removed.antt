@@ -13,6 +13,7 @@ pub without-reverse : (t : ℕ) (xs : List (ℕ × ℕ)) → without t (reverse 
 without-reverse t [] = refl
 without-reverse t (x ∷ xs) = rw (reverse_onto xs x []) (without-append t (reverse xs) (x ∷ []) ∙ rw (without-reverse t xs) (go (x.0 == t)))
   where
-    go : (b : Bool) → reverse (filter (λ y. not (y.0 == t)) xs) ++ (if b then [] else x ∷ []) ≡ reverse (if not b then x ∷ filter (λ y. not (y.0 == t)) xs else filter (λ y. not (y.0 == t)) xs)
+    go : (b : Bool) → reverse (filter (λ y. not (y.0 == t)) xs) ++ (if b then [] else x ∷ [])
+        ≡ reverse (if not b then x ∷ filter (λ y. not (y.0 == t)) xs else filter (λ y. not (y.0 == t)) xs)
     go true = append-nil _
     go false = sym (reverse_onto (filter (λ y. not (y.0 == t)) xs) x [])

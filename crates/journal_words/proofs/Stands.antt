@@ -22,7 +22,8 @@ pub record IsSound (c : ClusterData) (n : NodeId) (x : Prepared) : Type 0 where
   pub fresh : x.sid < x.proposal
   pub lists : are_lists c n x.reads x.writes ≡ true
 
-pub prepared-sound : (c : ClusterData) (n : NodeId) (t : TxId) (x : Prepared) (r : List Record) → all_fit c n r ≡ true → prepared_of t r ≡ Some x → IsSound c n x
+pub prepared-sound : (c : ClusterData) (n : NodeId) (t : TxId) (x : Prepared) (r : List Record) → all_fit c n r ≡ true
+    → prepared_of t r ≡ Some x → IsSound c n x
 prepared-sound c n t x [] fit h = absurd (grind (arith, h))
 prepared-sound c n t x (record'.Prepared u home parts sid p reads writes ∷ r) fit h =
     let f = prepared-fits c n r u parts sid p reads writes (newest-fits c n (record'.Prepared u home parts sid p reads writes) r fit) in
@@ -37,7 +38,8 @@ prepared-sound c n t x (record'.Prepared u home parts sid p reads writes ∷ r) 
 prepared-sound c n t x (y ∷ r) fit h = prepared-sound c n t x r (rest-fits c n y r fit) h
 
 -- a Prepared with this proposal stands: it is the first
-pub has_prepared-says : (c : ClusterData) (n : NodeId) (t : TxId) (p : Ident) (r : List Record) → all_fit c n r ≡ true → has_prepared t p r ≡ true → (x : Prepared) × (prepared_of t r ≡ Some x) × (x.proposal ≡ p)
+pub has_prepared-says : (c : ClusterData) (n : NodeId) (t : TxId) (p : Ident) (r : List Record) → all_fit c n r ≡ true
+    → has_prepared t p r ≡ true → (x : Prepared) × (prepared_of t r ≡ Some x) × (x.proposal ≡ p)
 has_prepared-says c n t p [] fit h = absurd (grind (arith, h))
 has_prepared-says c n t p (record'.Prepared u home parts sid q reads writes ∷ r) fit h = elim (or_cases (u == t && q == p) (has_prepared t p r) h) [
   | inl here ↦
@@ -55,7 +57,8 @@ has_prepared-says c n t p (record'.Prepared u home parts sid q reads writes ∷ 
 has_prepared-says c n t p (y ∷ r) fit h = has_prepared-says c n t p r (rest-fits c n y r fit) h
 
 -- two proposals of one transaction are one
-pub prepared-once : (c : ClusterData) (n : NodeId) (t : TxId) (p q : Ident) (r : List Record) → all_fit c n r ≡ true → has_prepared t p r ≡ true → has_prepared t q r ≡ true → p ≡ q
+pub prepared-once : (c : ClusterData) (n : NodeId) (t : TxId) (p q : Ident) (r : List Record) → all_fit c n r ≡ true
+    → has_prepared t p r ≡ true → has_prepared t q r ≡ true → p ≡ q
 prepared-once c n t p q r fit h k =
     let x = has_prepared-says c n t p r fit h in
     let y = has_prepared-says c n t q r fit k in
@@ -64,13 +67,15 @@ prepared-once c n t p q r fit h k =
     let same : x.0 ≡ y.0 = (cc) in
     sym x.2 ∙ ap (λ (z : Prepared). z.proposal) same ∙ y.2
 
-pub has_prepared-grows : (t : TxId) (p : Ident) (y : Record) (r : List Record) → has_prepared t p r ≡ true → has_prepared t p (y ∷ r) ≡ true
+pub has_prepared-grows : (t : TxId) (p : Ident) (y : Record) (r : List Record) → has_prepared t p r ≡ true
+    → has_prepared t p (y ∷ r) ≡ true
 has_prepared-grows t p (record'.Prepared u home parts sid q reads writes) r h = or_right (u == t && q == p) (has_prepared t p r) h
 has_prepared-grows t p y r h = h
 
 -- ---- an Ended with commit
 
-final-here : (c : ClusterData) (n : NodeId) (t : TxId) (f : Ident) (x : Prepared) (r : List Record) → all_fit c n (record'.Ended t (outcome.Commit f) ∷ r) ≡ true → prepared_of t r ≡ Some x → x.proposal ≤ f
+final-here : (c : ClusterData) (n : NodeId) (t : TxId) (f : Ident) (x : Prepared) (r : List Record)
+    → all_fit c n (record'.Ended t (outcome.Commit f) ∷ r) ≡ true → prepared_of t r ≡ Some x → x.proposal ≤ f
 final-here c n t f x r fit e =
     let q = commit-fits c n r t f (newest-fits c n (record'.Ended t (outcome.Commit f)) r fit) in
     let s = pending-says c n t q.0 r (rest-fits c n (record'.Ended t (outcome.Commit f)) r fit) q.1 in
@@ -80,7 +85,8 @@ final-here c n t f x r fit e =
     go y p e' is le = (let one : y ≡ x = (cc) in let P : Prepared → Type 0 = λ z. z.proposal ≤ f in subst P one (omega arith))
 
 -- its final identifier is at least the proposal
-pub final-least : (c : ClusterData) (n : NodeId) (t : TxId) (f : Ident) (x : Prepared) (r : List Record) → all_fit c n r ≡ true → ended t r ≡ Some (outcome.Commit f) → prepared_of t r ≡ Some x → x.proposal ≤ f
+pub final-least : (c : ClusterData) (n : NodeId) (t : TxId) (f : Ident) (x : Prepared) (r : List Record)
+    → all_fit c n r ≡ true → ended t r ≡ Some (outcome.Commit f) → prepared_of t r ≡ Some x → x.proposal ≤ f
 final-least c n t f x [] fit h e = absurd (grind (arith, h))
 final-least c n t f x (record'.Ended u (outcome.Commit g) ∷ r) fit h e = elim (cases_eq u t) [
   | inl same ↦
@@ -105,12 +111,14 @@ final-least c n t f x (record'.Prepared u home parts sid p reads writes ∷ r) f
     final-least c n t f x r rest h (y.1 ∙ ap (λ (z : Prepared). Some z) one)
 final-least c n t f x (y ∷ r) fit h e = final-least c n t f x r (rest-fits c n y r fit) h e
 
-pub final-positive : (c : ClusterData) (n : NodeId) (t : TxId) (f : Ident) (r : List Record) → all_fit c n r ≡ true → ended t r ≡ Some (outcome.Commit f) → 1 ≤ f
+pub final-positive : (c : ClusterData) (n : NodeId) (t : TxId) (f : Ident) (r : List Record) → all_fit c n r ≡ true
+    → ended t r ≡ Some (outcome.Commit f) → 1 ≤ f
 final-positive c n t f r fit h =
     let x = ended-prepared c n t (outcome.Commit f) r fit h in
     omega (arith, final-least c n t f x.0 r fit h x.1, (prepared-sound c n t x.0 r fit x.1).fresh)
 
-pub has_commit-is : (c : ClusterData) (n : NodeId) (t : TxId) (r : List Record) → all_fit c n r ≡ true → has_commit t r ≡ is_commit (ended t r)
+pub has_commit-is : (c : ClusterData) (n : NodeId) (t : TxId) (r : List Record) → all_fit c n r ≡ true
+    → has_commit t r ≡ is_commit (ended t r)
 has_commit-is c n t [] fit = refl
 has_commit-is c n t (record'.Ended u (outcome.Commit f) ∷ r) fit = elim (cases_eq u t) [
   | inl same ↦ (let self : u == t ≡ true = grind (arith, nat_tests) in rw self refl)
@@ -125,7 +133,8 @@ has_commit-is c n t (record'.Ended u outcome.Abort ∷ r) fit = has_commit-is c 
 has_commit-is c n t (y ∷ r) fit = has_commit-is c n t r (rest-fits c n y r fit)
 
 -- an Ended with commit stands
-pub has_commit-says : (c : ClusterData) (n : NodeId) (t : TxId) (r : List Record) → all_fit c n r ≡ true → has_commit t r ≡ true → (f : Ident) × (ended t r ≡ Some (outcome.Commit f))
+pub has_commit-says : (c : ClusterData) (n : NodeId) (t : TxId) (r : List Record) → all_fit c n r ≡ true
+    → has_commit t r ≡ true → (f : Ident) × (ended t r ≡ Some (outcome.Commit f))
 has_commit-says c n t r fit h = go (ended t r) (sym (has_commit-is c n t r fit) ∙ h)
   where
     go : (o : Option Outcome) → is_commit o ≡ true → (f : Ident) × (o ≡ Some (outcome.Commit f))

@@ -35,7 +35,10 @@ older None this = Some this
 -- the first Prepared of t
 abbrev pub prepared_of : TxId → List Record → Option Prepared
 prepared_of t [] = None
-prepared_of t (record'.Prepared u home parts sid p reads writes ∷ r) = if u == t then older (prepared_of t r) (record { home = home; sid = sid; proposal = p; reads = reads; writes = writes }) else prepared_of t r
+prepared_of t (record'.Prepared u home parts sid p reads writes ∷ r) =
+    if u == t
+    then older (prepared_of t r) (record { home = home; sid = sid; proposal = p; reads = reads; writes = writes })
+    else prepared_of t r
 prepared_of t (x ∷ r) = prepared_of t r
 
 -- the home that an option of a Prepared names
@@ -65,7 +68,8 @@ pending t (x ∷ r) = pending t r
 -- the newest Prepared of t has m among its parts
 abbrev pub names_part : TxId → NodeId → List Record → Bool
 names_part t m [] = false
-names_part t m (record'.Prepared u home parts sid p reads writes ∷ r) = if u == t then is_among m parts else names_part t m r
+names_part t m (record'.Prepared u home parts sid p reads writes ∷ r) =
+    if u == t then is_among m parts else names_part t m r
 names_part t m (x ∷ r) = names_part t m r
 
 -- the pairs but for those of t
@@ -199,7 +203,9 @@ shares (x ∷ xs) ks = is_key_among x ks || shares xs ks
 
 -- the two transactions have a key in common that at least one of them writes
 abbrev pub conflict : List Key → List (Key × Value) → List Key → List (Key × Value) → Bool
-conflict reads writes reads' writes' = shares (keys_of_writes writes) reads' || (shares (keys_of_writes writes) (keys_of_writes writes') || shares reads (keys_of_writes writes'))
+conflict reads writes reads' writes' =
+    shares (keys_of_writes writes) reads'
+    || (shares (keys_of_writes writes) (keys_of_writes writes') || shares reads (keys_of_writes writes'))
 
 -- a Prepared, where there is one, conflicts with these reads and writes
 abbrev pub conflicts_with : Option Prepared → List Key → List (Key × Value) → Bool
@@ -233,7 +239,9 @@ holds_out u r t reads writes = not (u == t) && (is_locking u r && conflicts_with
 -- the least of these transactions that holds a key against t
 abbrev pub holder_among : List TxId → List Record → TxId → List Key → List (Key × Value) → Option TxId
 holder_among [] r t reads writes = None
-holder_among (u ∷ us) r t reads writes = if holds_out u r t reads writes then lesser u (holder_among us r t reads writes) else holder_among us r t reads writes
+holder_among (u ∷ us) r t reads writes =
+    if holds_out u r t reads writes then lesser u (holder_among us r t reads writes)
+    else holder_among us r t reads writes
 
 -- the least transaction other than t that locks a key with which these reads and writes conflict
 abbrev pub holder : List Record → TxId → List Key → List (Key × Value) → Option TxId
@@ -302,10 +310,12 @@ are_own_keys c n ks = are_distinct_keys ks && list_all (holds c.places n) ks
 
 -- at least one key, and each list has distinct keys that n holds
 abbrev pub are_lists : ClusterData → NodeId → List Key → List (Key × Value) → Bool
-are_lists c n reads writes = nat_le 1 (length reads + length writes) && (are_own_keys c n reads && are_own_keys c n (keys_of_writes writes))
+are_lists c n reads writes =
+    nat_le 1 (length reads + length writes) && (are_own_keys c n reads && are_own_keys c n (keys_of_writes writes))
 
 -- t has no Prepared yet, its proposal is new, it has keys of n, and nothing holds them or is newer
-abbrev pub fits_prepared : ClusterData → NodeId → List Record → TxId → List NodeId → Ident → Ident → List Key → List (Key × Value) → Bool
+abbrev pub fits_prepared : ClusterData → NodeId → List Record → TxId → List NodeId → Ident → Ident → List Key
+    → List (Key × Value) → Bool
 fits_prepared c n r t parts sid p reads writes =
     is_none (prepared_of t r)
     && (nat_lt sid p && (is_above p r && (is_among n parts

@@ -30,7 +30,8 @@ unfolding log_from
 log_fault place rest e = ap (λ o. opened place o (λ n. log_from (place + 1) n rest)) e
 
 -- an open gate with a block behind it
-log_open : (place : ℕ) (block rest : List ℕ) (r : Record) → block_at (block ++ rest) ≡ Some (r, length block) → log_from place 0 (1 ∷ (block ++ rest)) ≡ with_front (r ∷ []) (log_from (place + 1 + length block) 0 rest)
+log_open : (place : ℕ) (block rest : List ℕ) (r : Record) → block_at (block ++ rest) ≡ Some (r, length block)
+    → log_from place 0 (1 ∷ (block ++ rest)) ≡ with_front (r ∷ []) (log_from (place + 1 + length block) 0 rest)
 unfolding log_from
 log_open place block rest r e = ap (λ o. opened place o (λ n. log_from (place + 1) n (block ++ rest))) e ∙ ap (with_front (r ∷ [])) (log_skip (place + 1) block rest)
 
@@ -38,7 +39,8 @@ behind-nil : (x : Result (List Record) ℕ) → x ≡ with_front [] x
 behind-nil (Ok rs) = refl
 behind-nil (Err p) = refl
 
-pub behind-behind : (a b : List Record) (x : Result (List Record) ℕ) → with_front a (with_front b x) ≡ with_front (a ++ b) x
+pub behind-behind : (a b : List Record) (x : Result (List Record) ℕ)
+    → with_front a (with_front b x) ≡ with_front (a ++ b) x
 behind-behind a b (Ok rs) = ap Ok (sym (append_assoc a b rs))
 behind-behind a b (Err p) = refl
 
@@ -49,7 +51,8 @@ spells_nil = record { read = λ place rest h. behind-nil (log_from place 0 rest)
 pub record IsBlock (block : List ℕ) (r : Record) : Type 0 where
   pub found : (rest : List ℕ) → 0 < length rest → block_at (block ++ rest) ≡ Some (r, length block)
 
-pub spells_more : (front block : List ℕ) (rs : List Record) (r : Record) → Spells front rs → IsBlock block r → Spells (front ++ (1 ∷ block)) (rs ++ r ∷ [])
+pub spells_more : (front block : List ℕ) (rs : List Record) (r : Record) → Spells front rs → IsBlock block r
+    → Spells (front ++ (1 ∷ block)) (rs ++ r ∷ [])
 spells_more front block rs r s b = record {
   read = λ place rest h.
       let whole : (front ++ (1 ∷ block)) ++ rest ≡ front ++ (1 ∷ (block ++ rest)) = append_assoc front (1 ∷ block) rest in
@@ -61,7 +64,8 @@ spells_more front block rs r s b = record {
       ∙ ap (λ p. with_front (rs ++ r ∷ []) (log_from p 0 rest)) (omega (arith, long));
 }
 
-chosen : (b : Bool) (n m : ℕ) (o : Option Record) (r : Record) → (if b then sized n o else None) ≡ Some (r, m) → (b ≡ true) × (o ≡ Some r) × (n ≡ m)
+chosen : (b : Bool) (n m : ℕ) (o : Option Record) (r : Record) → (if b then sized n o else None) ≡ Some (r, m)
+    → (b ≡ true) × (o ≡ Some r) × (n ≡ m)
 chosen true n m None r e = cc
 chosen true n m (Some x) r e = let pair : (x, n) ≡ (r, m) = cc in (refl, ap (λ (p : Record × ℕ). Some p.0) pair, ap (λ (p : Record × ℕ). p.1) pair)
 chosen false n m o r e = cc
@@ -109,7 +113,8 @@ first_same : (k n : ℕ) (xs ys : List ℕ) → k ≤ n → take n xs ≡ take n
 first_same k n xs ys h e = sym (take_less k n xs h) ∙ ap (take k) e ∙ take_less k n ys h
 
 -- the same block, whatever stands behind its next gate
-found_again : (xs ys : List ℕ) (r : Record) (n : ℕ) → Found xs r n → take n xs ≡ take n ys → n < length ys → Found ys r n
+found_again : (xs ys : List ℕ) (r : Record) (n : ℕ) → Found xs r n → take n xs ≡ take n ys → n < length ys
+    → Found ys r n
 found_again xs ys r n f same next =
     let size : 2 + body_length xs ≡ n = omega (arith, f.size) in
     let first : take 2 xs ≡ take 2 ys = first_same 2 n xs ys (omega arith) same in
@@ -122,7 +127,8 @@ found_again xs ys r n f same next =
     }
 
 -- what was found behind a gate is a block
-pub taken_block : (xs : List ℕ) (r : Record) (n : ℕ) → block_at xs ≡ Some (r, n) → (n < length xs) × IsBlock (take n xs) r
+pub taken_block : (xs : List ℕ) (r : Record) (n : ℕ) → block_at xs ≡ Some (r, n)
+    → (n < length xs) × IsBlock (take n xs) r
 taken_block xs r n e =
     let f = found_of xs r n e in
     let next : n < length xs = omega (arith, f.fits.next, f.size) in
@@ -140,7 +146,8 @@ two_bytes : (n : ℕ) → length (to_be_bytes w16 n) ≡ 2
 two_bytes n = refl
 
 -- a frame is the block of its record
-pub frame_block : (body : List ℕ) (r : Record) → decode_of body ≡ Some r → 1 ≤ length body → length body ≤ 4096 → IsBlock (framed body) r
+pub frame_block : (body : List ℕ) (r : Record) → decode_of body ≡ Some r → 1 ≤ length body → length body ≤ 4096
+    → IsBlock (framed body) r
 unfolding framed body_length
 frame_block body r e low high = record {
   found = λ rest h.

@@ -12,7 +12,9 @@ use Rattle.node_journal.specs.Torn.{KeepsClosed, opened_at}
 use Rattle.node_journal.proofs.Versions.{gate_least, SameVersion, same_version}
 use Rattle.node_journal.proofs.Blocks.{log_closed, log_fault, IsBlock, taken_block, spells_more}
 
-read_to : (bytes : List ℕ) (rs : List Record) (first at : ℕ) → first ≤ at → at < length bytes → Spells (drop first (take at bytes)) rs → log_from first 0 (drop first bytes) ≡ with_front rs (log_from at 0 (drop at bytes))
+read_to : (bytes : List ℕ) (rs : List Record) (first at : ℕ) → first ≤ at → at < length bytes
+    → Spells (drop first (take at bytes)) rs
+    → log_from first 0 (drop first bytes) ≡ with_front rs (log_from at 0 (drop at bytes))
 read_to bytes rs first at low high s =
     let here : length (take at bytes) ≡ at = length-take-le at bytes (omega arith) in
     let split : drop first bytes ≡ drop first (take at bytes) ++ drop at bytes = sym (ap (drop first) (take-append-drop at bytes)) ∙ drop-append-le first (take at bytes) (drop at bytes) (omega (arith, here)) in
@@ -35,7 +37,8 @@ log_unversioned bytes h v =
     let long : nat_le (length bytes) 2 ≡ false = grind (arith, common_steps) in
     rw (long, v) refl
 
-log_versioned : (bytes : List ℕ) → 2 < length bytes → has_version bytes ≡ true → log bytes ≡ log_from (first_gate bytes) 0 (drop (first_gate bytes) bytes)
+log_versioned : (bytes : List ℕ) → 2 < length bytes → has_version bytes ≡ true
+    → log bytes ≡ log_from (first_gate bytes) 0 (drop (first_gate bytes) bytes)
 unfolding log
 log_versioned bytes h v =
     let long : nat_le (length bytes) 2 ≡ false = grind (arith, common_steps) in
@@ -62,14 +65,18 @@ log_is bytes rs gate l =
     ]
 
 -- an open gate that no block follows
-pub log_bad : (bytes : List ℕ) (rs : List Record) (at : ℕ) → 2 < length bytes → has_version bytes ≡ true → first_gate bytes ≤ at → at < length bytes → Spells (drop (first_gate bytes) (take at bytes)) rs → get_or bytes at 0 ≡ 1 → block_at (drop (at + 1) bytes) ≡ None → log bytes ≡ Err at
+pub log_bad : (bytes : List ℕ) (rs : List Record) (at : ℕ) → 2 < length bytes → has_version bytes ≡ true
+    → first_gate bytes ≤ at → at < length bytes → Spells (drop (first_gate bytes) (take at bytes)) rs
+    → get_or bytes at 0 ≡ 1 → block_at (drop (at + 1) bytes) ≡ None → log bytes ≡ Err at
 log_bad bytes rs at long v low high s one none =
     let here : drop at bytes ≡ 1 ∷ drop (at + 1) bytes = at_gate bytes at high ∙ ap (λ g. g ∷ drop (at + 1) bytes) one in
     let fault : log_from at 0 (drop at bytes) ≡ Err at = ap (log_from at 0) here ∙ log_fault at (drop (at + 1) bytes) none in
     log_versioned bytes long v ∙ read_to bytes rs (first_gate bytes) at low high s ∙ ap (with_front rs) fault
 
 -- one block more
-pub spells_next : (bytes : List ℕ) (rs : List Record) (r : Record) (first at n : ℕ) → first ≤ at → at < length bytes → Spells (drop first (take at bytes)) rs → get_or bytes at 0 ≡ 1 → block_at (drop (at + 1) bytes) ≡ Some (r, n) → Spells (drop first (take (at + (1 + n)) bytes)) (rs ++ r ∷ [])
+pub spells_next : (bytes : List ℕ) (rs : List Record) (r : Record) (first at n : ℕ) → first ≤ at → at < length bytes
+    → Spells (drop first (take at bytes)) rs → get_or bytes at 0 ≡ 1 → block_at (drop (at + 1) bytes) ≡ Some (r, n)
+    → Spells (drop first (take (at + (1 + n)) bytes)) (rs ++ r ∷ [])
 spells_next bytes rs r first at n low high s one found =
     let here : drop at bytes ≡ 1 ∷ drop (at + 1) bytes = at_gate bytes at high ∙ ap (λ g. g ∷ drop (at + 1) bytes) one in
     let block = taken_block (drop (at + 1) bytes) r n found in
@@ -80,11 +87,13 @@ spells_next bytes rs r first at n low high s one found =
     subst (λ l. Spells l (rs ++ r ∷ [])) (sym front) (spells_more (drop first (take at bytes)) (take n (drop (at + 1) bytes)) rs r s block.1)
 
 -- bytes that are a log's up to its gate have its version
-pub version_kept : (old c : List ℕ) (rs : List Record) (gate : ℕ) → IsLog old rs gate → gate < length c → take gate c ≡ take gate old → SameVersion old c
+pub version_kept : (old c : List ℕ) (rs : List Record) (gate : ℕ) → IsLog old rs gate → gate < length c
+    → take gate c ≡ take gate old → SameVersion old c
 version_kept old c rs gate l high front = same_version old c gate l.version l.place high front
 
 -- an image that keeps the gate closed
-pub log_kept : (old c : List ℕ) (rs : List Record) (gate : ℕ) → IsLog old rs gate → KeepsClosed old gate c → IsLog c rs gate
+pub log_kept : (old c : List ℕ) (rs : List Record) (gate : ℕ) → IsLog old rs gate → KeepsClosed old gate c
+    → IsLog c rs gate
 log_kept old c rs gate l k =
     let same : SameVersion old c = version_kept old c rs gate l k.place k.front in
     record {
@@ -95,16 +104,19 @@ log_kept old c rs gate l k =
       spelled = subst (λ n. Spells (drop n (take gate c)) rs) (sym same.gate) (subst (λ xs. Spells (drop (first_gate old) xs) rs) (sym k.front) l.spelled);
     }
 
-behind_put : (xs : List ℕ) (at : ℕ) (bytes : List ℕ) → at ≤ length xs → drop at (put_at xs at bytes) ≡ bytes ++ drop (at + length bytes) xs
+behind_put : (xs : List ℕ) (at : ℕ) (bytes : List ℕ) → at ≤ length xs
+    → drop at (put_at xs at bytes) ≡ bytes ++ drop (at + length bytes) xs
 behind_put xs at bytes h = ap (drop at) (append_assoc (take at xs) bytes (drop (at + length bytes) xs)) ∙ drop_at (take at xs) (bytes ++ drop (at + length bytes) xs) at (length-take-le at xs h)
 
-pub opened_is : (old frame : List ℕ) (gate : ℕ) → gate < length old → opened_at old gate frame ≡ take gate old ++ (1 ∷ (frame ++ drop (gate + 1 + length frame) old))
+pub opened_is : (old frame : List ℕ) (gate : ℕ) → gate < length old
+    → opened_at old gate frame ≡ take gate old ++ (1 ∷ (frame ++ drop (gate + 1 + length frame) old))
 opened_is old frame gate h =
     let inner : take gate (put_at old (gate + 1) frame) ≡ take gate old = take-put_at old (gate + 1) gate frame (omega arith) (omega arith) in
     let outer : drop (gate + 1) (put_at old (gate + 1) frame) ≡ frame ++ drop (gate + 1 + length frame) old = behind_put old (gate + 1) frame (omega arith) in
     append_assoc (take gate (put_at old (gate + 1) frame)) (1 ∷ []) (drop (gate + 1) (put_at old (gate + 1) frame)) ∙ ap (λ l. l ++ (1 ∷ drop (gate + 1) (put_at old (gate + 1) frame))) inner ∙ ap (λ l. take gate old ++ (1 ∷ l)) outer
 
-pub opened_version : (old frame : List ℕ) (rs : List Record) (gate : ℕ) → IsLog old rs gate → generation (opened_at old gate frame) ≡ generation old
+pub opened_version : (old frame : List ℕ) (rs : List Record) (gate : ℕ) → IsLog old rs gate
+    → generation (opened_at old gate frame) ≡ generation old
 opened_version old frame rs gate l =
     let c = opened_at old gate frame in
     let rest = 1 ∷ (frame ++ drop (gate + 1 + length frame) old) in
@@ -114,7 +126,8 @@ opened_version old frame rs gate l =
     (version_kept old c rs gate l high (ap (take gate) whole ∙ take_at (take gate old) rest gate here)).number
 
 -- the gate is open, and a block with a closed gate stands behind it
-pub log_opened : (old block : List ℕ) (rs : List Record) (r : Record) (gate : ℕ) → IsLog old rs gate → IsBlock block r → IsLog (opened_at old gate (block ++ 0 ∷ [])) (rs ++ r ∷ []) (gate + (1 + length block))
+pub log_opened : (old block : List ℕ) (rs : List Record) (r : Record) (gate : ℕ) → IsLog old rs gate → IsBlock block r
+    → IsLog (opened_at old gate (block ++ 0 ∷ [])) (rs ++ r ∷ []) (gate + (1 + length block))
 log_opened old block rs r gate l b =
     let rest = drop (gate + 1 + length (block ++ 0 ∷ [])) old in
     let c = opened_at old gate (block ++ 0 ∷ []) in

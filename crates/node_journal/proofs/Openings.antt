@@ -10,17 +10,21 @@ use Rattle.std.proofs.lemmas.List.{drop_all}
 use Rattle.node_journal.proofs.Versions.{version_first, version_second, version_none, generation_short}
 use Rattle.node_journal.proofs.Logs.{log_unversioned}
 
-first_read : (seen piece : List ℕ) → piece ≡ slice_range seen 0 (0 + 1) → 0 < length seen → get_or piece 0 0 ≡ get_or seen 0 0
+first_read : (seen piece : List ℕ) → piece ≡ slice_range seen 0 (0 + 1) → 0 < length seen
+    → get_or piece 0 0 ≡ get_or seen 0 0
 first_read [] piece e h = absurd (omega (arith, h))
 first_read (b ∷ seen) piece e h = ap (λ l. get_or l 0 0) e
 
-pub versioned_first : (seen piece : List ℕ) → piece ≡ slice_range seen 0 (0 + 1) → 2 < length seen → get_or piece 0 0 ≡ 1 → HasGateAt seen 1
+pub versioned_first : (seen piece : List ℕ) → piece ≡ slice_range seen 0 (0 + 1) → 2 < length seen
+    → get_or piece 0 0 ≡ 1 → HasGateAt seen 1
 versioned_first seen piece e h one = version_first seen (sym (first_read seen piece e (omega (arith, h))) ∙ one)
 
-pub versioned_second : (seen piece : List ℕ) → piece ≡ slice_range seen 0 (0 + 1) → 10 ≤ length seen → get_or piece 0 0 ≡ 2 → HasGateAt seen 9
+pub versioned_second : (seen piece : List ℕ) → piece ≡ slice_range seen 0 (0 + 1) → 10 ≤ length seen
+    → get_or piece 0 0 ≡ 2 → HasGateAt seen 9
 versioned_second seen piece e h two = version_second seen h (sym (first_read seen piece e (omega (arith, h))) ∙ two)
 
-pub unversioned : (seen piece : List ℕ) → piece ≡ slice_range seen 0 (0 + 1) → 2 < length seen → get_or piece 0 0 ≢ 1 → (get_or piece 0 0 ≢ 2) ⊎ (length seen ≤ 9) → log seen ≡ Err 0
+pub unversioned : (seen piece : List ℕ) → piece ≡ slice_range seen 0 (0 + 1) → 2 < length seen → get_or piece 0 0 ≢ 1
+    → (get_or piece 0 0 ≢ 2) ⊎ (length seen ≤ 9) → log seen ≡ Err 0
 unversioned seen piece e h one two =
     let same : get_or piece 0 0 ≡ get_or seen 0 0 = first_read seen piece e (omega (arith, h)) in
     log_unversioned seen h (version_none seen (λ i. one (same ∙ i)) (elim two [ inl k ↦ inl (λ i. k (same ∙ i)) | inr k ↦ inr k ]))
@@ -44,7 +48,8 @@ anew_log old bytes short e =
     })
 
 -- an opening leaves the generation, or makes a file without one anew
-pub opened_generation : (f now : File) → (2 < length f.seen → now ≡ f) → (length f.seen ≤ 2 → now ≡ synced (written 0 (1 ∷ 0 ∷ []) f)) → generation now.seen ≡ generation f.seen
+pub opened_generation : (f now : File) → (2 < length f.seen → now ≡ f)
+    → (length f.seen ≤ 2 → now ≡ synced (written 0 (1 ∷ 0 ∷ []) f)) → generation now.seen ≡ generation f.seen
 opened_generation f now kept anew = elim (cases_lt 2 (length f.seen)) [
   | inl long ↦ ap (λ (x : File). generation x.seen) (kept long)
   | inr short ↦

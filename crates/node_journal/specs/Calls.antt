@@ -12,7 +12,8 @@ pub record LoweredAtMost (most : ℕ) (old now : Option ℕ) : Type 0 where
   pub within : calls ≤ most
   pub falls : now ≡ lowered calls old
 
--- Room for one record: on the disk for its length, a body of at most 4,096 bytes and two gates, and in memory for its frame.
+-- Room for one record: on the disk for its length, a body of at most 4,096 bytes and two gates, and in memory for its
+-- frame.
 pub record HasRoom (spare scratch body frame gate : ℕ) : Type 0 where
   pub on_disk : 4100 ≤ spare
   pub in_scratch : 4096 ≤ scratch

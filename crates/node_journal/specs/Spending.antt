@@ -12,7 +12,8 @@ pub record Spent {D : Type 0} (d : Ghosts D) (calls : ℕ) (old now : D) : Type 
   pub own : d.own now ≡ d.own old
   pub faults : d.faults now ≡ d.faults old
 
--- A call failed: the count rose, by a fault of the disk's own or where the fuse stopped a call, and at most so many calls
+-- A call failed: the count rose, by a fault of the disk's own or where the fuse stopped a call, and at most so many
+-- calls
 -- were counted.
 pub record Halted {D : Type 0} (d : Ghosts D) (most : ℕ) (old now : D) : Type 0 where
   pub tells : d.tells now ≡ d.tells old

@@ -55,13 +55,16 @@ impl<D: Disk> Journal<D> {
         ensures count { IfOk result (λ x. x.0.count ≡ length x.1.items) }
         ensures fit { IfOk result (λ x. All IsRecord x.1.items) }
         ensures kept { IfOk result (λ x. IsTrue (D.tells disk) → 2 < length (D.file disk).seen → D.file x.0.disk ≡ D.file disk) }
-        ensures anew { IfOk result (λ x. IsTrue (D.tells disk) → length (D.file disk).seen ≤ 2 → D.file x.0.disk ≡ synced (written 0 (1 ∷ 0 ∷ []) (D.file disk))) }
+        ensures anew { IfOk result (λ x. IsTrue (D.tells disk) → length (D.file disk).seen ≤ 2
+            → D.file x.0.disk ≡ synced (written 0 (1 ∷ 0 ∷ []) (D.file disk))) }
         ensures opened { IfOk result (λ x.
             Untouched D.Disk disk x.0.disk ⊎ ((x.1.items ≡ []) × Spent D.Disk 2 disk x.0.disk)) }
         ensures tells { IfOk result (λ x. D.tells x.0.disk ≡ D.tells disk) }
         ensures left_kept { IfOk result (λ x. IsTrue (D.tells disk) → 2 < length (D.file disk).seen → D.left x.0.disk ≡ D.left disk) }
-        ensures left_anew { IfOk result (λ x. IsTrue (D.tells disk) → length (D.file disk).seen ≤ 2 → D.left x.0.disk ≡ lowered 2 (D.left disk)) }
-        ensures left { IfOk result (λ x. (D.left x.0.disk ≡ D.left disk) ⊎ ((D.left x.0.disk ≡ lowered 2 (D.left disk)) × (D.left x.0.disk ≢ Some 0))) }
+        ensures left_anew { IfOk result
+            (λ x. IsTrue (D.tells disk) → length (D.file disk).seen ≤ 2 → D.left x.0.disk ≡ lowered 2 (D.left disk)) }
+        ensures left { IfOk result (λ x. (D.left x.0.disk ≡ D.left disk)
+            ⊎ ((D.left x.0.disk ≡ lowered 2 (D.left disk)) × (D.left x.0.disk ≢ Some 0))) }
         ensures faults { IfOk result (λ x. D.faults x.0.disk ≡ D.faults disk) }
         ensures own { IfOk result (λ x. D.own x.0.disk ≡ D.own disk) }
         ensures end { IfErr result (λ e. MatchEnd e
@@ -159,7 +162,8 @@ impl<D: Disk> Journal<D> {
     /// longest block below 2^63 bytes has no room; no memory holds more. All else is as before,
     /// also after [`Memory`].
     pub fn room(&mut self) -> Result<(), Memory>
-        ensures room { OnOk result (HasRoom (D.spare self.new.disk) (vec_capacity self.new.scratch) (vec_capacity self.new.body) (vec_capacity self.new.frame) self.new.gate) }
+        ensures room { OnOk result (HasRoom (D.spare self.new.disk) (vec_capacity self.new.scratch)
+            (vec_capacity self.new.body) (vec_capacity self.new.frame) self.new.gate) }
         ensures untouched { Untouched D.Disk self.old.disk self.new.disk }
         ensures count { self.new.count ≡ self.old.count }
     {
@@ -180,20 +184,26 @@ impl<D: Disk> Journal<D> {
     /// count of faults rose; then every image of the disk is a log of the old records, or of these
     /// and the new one.
     pub fn append(self, rec: Record) -> Result<(Journal<D>, Kept), Stopped<D>>
-        requires room { HasRoom (D.spare self.disk) (vec_capacity self.scratch) (vec_capacity self.body) (vec_capacity self.frame) self.gate }
+        requires room { HasRoom (D.spare self.disk) (vec_capacity self.scratch) (vec_capacity self.body)
+            (vec_capacity self.frame) self.gate }
         requires fit { CanEncode rec }
         ensures kept { IfOk result (λ x. x.1.rec ≡ rec) }
-        ensures appended { IfOk result (λ x. IsTrue (D.tells self.disk) → (records : List Record) → log (D.file self.disk).seen ≡ Ok records → IsAtRest (D.file x.0.disk) (records ++ rec ∷ [])) }
+        ensures appended { IfOk result (λ x. IsTrue (D.tells self.disk) → (records : List Record)
+            → log (D.file self.disk).seen ≡ Ok records → IsAtRest (D.file x.0.disk) (records ++ rec ∷ [])) }
         ensures counts { IfOk result (λ x. x.0.count ≡ self.count + 1) }
         ensures frame { IfOk result (λ x. x.0.frame.items ≡ framed (record_bytes rec) ++ 0 ∷ []) }
         ensures is { IfOk result (λ x. IsRecord rec) }
         ensures short { IfOk result (λ x. length (record_bytes rec) ≤ 4096) }
-        ensures version { IfOk result (λ x. IsTrue (D.tells self.disk) → generation (D.file x.0.disk).seen ≡ generation (D.file self.disk).seen) }
+        ensures version { IfOk result
+            (λ x. IsTrue (D.tells self.disk) → generation (D.file x.0.disk).seen ≡ generation (D.file self.disk).seen) }
         ensures spent { IfOk result (λ x. Spent D.Disk 4 self.disk x.0.disk) }
-        ensures stopped { IfErr result (λ s. IsTrue (D.tells self.disk) → (records : List Record) → log (D.file self.disk).seen ≡ Ok records → LeavesOldOrNew records rec (D.file s.disk)) }
-        ensures early { IfErr result (λ s. IsTrue (D.tells self.disk) → (k : ℕ) → D.left self.disk ≡ Some k → k ≤ 2 → (records : List Record) → log (D.file self.disk).seen ≡ Ok records → LeavesOld records (D.file s.disk)) }
+        ensures stopped { IfErr result (λ s. IsTrue (D.tells self.disk) → (records : List Record)
+            → log (D.file self.disk).seen ≡ Ok records → LeavesOldOrNew records rec (D.file s.disk)) }
+        ensures early { IfErr result (λ s. IsTrue (D.tells self.disk) → (k : ℕ) → D.left self.disk ≡ Some k → k ≤ 2
+            → (records : List Record) → log (D.file self.disk).seen ≡ Ok records → LeavesOld records (D.file s.disk)) }
         ensures rec { IfErr result (λ s. s.rec ≡ rec) }
-        ensures version_stopped { IfErr result (λ s. IsTrue (D.tells self.disk) → LeavesVersion (generation (D.file self.disk).seen) (D.file s.disk)) }
+        ensures version_stopped { IfErr result
+            (λ s. IsTrue (D.tells self.disk) → LeavesVersion (generation (D.file self.disk).seen) (D.file s.disk)) }
         ensures halted { IfErr result (λ s. Halted D.Disk 4 self.disk s.disk) }
     {
         let Journal {

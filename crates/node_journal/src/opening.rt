@@ -22,13 +22,15 @@ fn make_anew<D: Disk>(disk: &mut D) -> Result<(), ReadEnd>
     requires short { IsTrue (D.tells disk.old) → length (D.file disk.old).seen ≤ 2 }
     ensures ok { OnOk result (IsTrue (D.tells disk.old) → D.file disk.new ≡ synced (written 0 (1 ∷ 0 ∷ []) (D.file disk.old))) }
     ensures short { OnErr result (IsTrue (D.tells disk.old) → LeavesShort 2 (D.file disk.new)) }
-    ensures as_before { IfErr result (λ end. MatchReadEnd end (Unit {0}) (λ _. ⊥) ((D.file disk.new ≡ D.file disk.old) × (D.left disk.new ≡ D.left disk.old))) }
+    ensures as_before { IfErr result (λ end. MatchReadEnd end (Unit {0}) (λ _. ⊥)
+        ((D.file disk.new ≡ D.file disk.old) × (D.left disk.new ≡ D.left disk.old))) }
     ensures tells { D.tells disk.new ≡ D.tells disk.old }
     ensures lowered { OnOk result (D.left disk.new ≡ lowered 2 (D.left disk.old)) }
     ensures unstopped { OnOk result (D.left disk.new ≢ Some 0) }
     ensures spent { OnOk result (Spent D.Disk 2 disk.old disk.new) }
     ensures at_most { LoweredAtMost 2 (D.left disk.old) (D.left disk.new) }
-    ensures counted { Counted (D.faults disk.old) (D.faults disk.new) (D.own disk.old) (D.own disk.new) (D.left disk.new) (calls_of result) }
+    ensures counted { Counted (D.faults disk.old) (D.faults disk.new) (D.own disk.old) (D.own disk.new)
+        (D.left disk.new) (calls_of result) }
 {
     match disk.room(2) {
         Ok(()) => {}
@@ -53,15 +55,21 @@ pub(crate) fn load<D: Disk>(alloc: Global, disk: &mut D) -> Result<(Vec<Record>,
     ensures opened { IfOk result (λ x.
         Untouched D.Disk disk.old disk.new ⊎ ((x.0.items ≡ []) × Spent D.Disk 2 disk.old disk.new)) }
     ensures kept { IsTrue (D.tells disk.old) → 2 < length (D.file disk.old).seen → D.file disk.new ≡ D.file disk.old }
-    ensures anew { OnOk result (IsTrue (D.tells disk.old) → length (D.file disk.old).seen ≤ 2 → D.file disk.new ≡ synced (written 0 (1 ∷ 0 ∷ []) (D.file disk.old))) }
+    ensures anew { OnOk result (IsTrue (D.tells disk.old) → length (D.file disk.old).seen ≤ 2
+        → D.file disk.new ≡ synced (written 0 (1 ∷ 0 ∷ []) (D.file disk.old))) }
     ensures short { OnErr result (IsTrue (D.tells disk.old) → length (D.file disk.old).seen ≤ 2 → LeavesShort 2 (D.file disk.new)) }
-    ensures as_before { IfErr result (λ end. MatchReadEnd end (Unit {0}) (λ _. (D.file disk.new ≡ D.file disk.old) × (D.left disk.new ≡ D.left disk.old)) ((D.file disk.new ≡ D.file disk.old) × (D.left disk.new ≡ D.left disk.old))) }
+    ensures as_before { IfErr result (λ end. MatchReadEnd end (Unit {0})
+        (λ _. (D.file disk.new ≡ D.file disk.old) × (D.left disk.new ≡ D.left disk.old))
+        ((D.file disk.new ≡ D.file disk.old) × (D.left disk.new ≡ D.left disk.old))) }
     ensures tells { D.tells disk.new ≡ D.tells disk.old }
     ensures left_kept { IsTrue (D.tells disk.old) → 2 < length (D.file disk.old).seen → D.left disk.new ≡ D.left disk.old }
-    ensures left_anew { OnOk result (IsTrue (D.tells disk.old) → length (D.file disk.old).seen ≤ 2 → D.left disk.new ≡ lowered 2 (D.left disk.old)) }
-    ensures left { OnOk result ((D.left disk.new ≡ D.left disk.old) ⊎ ((D.left disk.new ≡ lowered 2 (D.left disk.old)) × (D.left disk.new ≢ Some 0))) }
+    ensures left_anew { OnOk result (IsTrue (D.tells disk.old) → length (D.file disk.old).seen ≤ 2
+        → D.left disk.new ≡ lowered 2 (D.left disk.old)) }
+    ensures left { OnOk result ((D.left disk.new ≡ D.left disk.old)
+        ⊎ ((D.left disk.new ≡ lowered 2 (D.left disk.old)) × (D.left disk.new ≢ Some 0))) }
     ensures at_most { LoweredAtMost 2 (D.left disk.old) (D.left disk.new) }
-    ensures counted { Counted (D.faults disk.old) (D.faults disk.new) (D.own disk.old) (D.own disk.new) (D.left disk.new) (calls_of result) }
+    ensures counted { Counted (D.faults disk.old) (D.faults disk.new) (D.own disk.old) (D.own disk.new)
+        (D.left disk.new) (calls_of result) }
 {
     let len = match disk.len() {
         Ok(len) => len,

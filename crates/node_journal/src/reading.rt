@@ -95,11 +95,13 @@ fn read_gate<D: Disk>(alloc: Global, disk: &mut D, at: u64, len: u64) -> Result<
     ensures ok { IfOk result (λ gate. IsTrue (D.tells disk.old) → IsGate (drop at (D.file disk.old).seen) gate) }
     ensures next { IfOk result (λ gate. IsNextWithin gate (len - at)) }
     ensures fit { IfOk result HoldsRecord }
-    ensures bad { IfErr result (λ end. IfBad end (λ place. (place ≡ at) × (IsTrue (D.tells disk.old) → IsFault (drop at (D.file disk.old).seen)))) }
+    ensures bad { IfErr result (λ end. IfBad end
+        (λ place. (place ≡ at) × (IsTrue (D.tells disk.old) → IsFault (drop at (D.file disk.old).seen)))) }
     ensures file { D.file disk.new ≡ D.file disk.old }
     ensures tells { D.tells disk.new ≡ D.tells disk.old }
     ensures left { D.left disk.new ≡ D.left disk.old }
-    ensures counted { Counted (D.faults disk.old) (D.faults disk.new) (D.own disk.old) (D.own disk.new) (D.left disk.new) (calls_of result) }
+    ensures counted { Counted (D.faults disk.old) (D.faults disk.new) (D.own disk.old) (D.own disk.new)
+        (D.left disk.new) (calls_of result) }
 {
     let n = (len - at).min(LONGEST) as usize;
     let mut buffer = [0u8; 4100];
@@ -130,7 +132,8 @@ pub(crate) fn read_records<D: Disk>(
     ensures file { D.file disk.new ≡ D.file disk.old }
     ensures tells { D.tells disk.new ≡ D.tells disk.old }
     ensures left { D.left disk.new ≡ D.left disk.old }
-    ensures counted { Counted (D.faults disk.old) (D.faults disk.new) (D.own disk.old) (D.own disk.new) (D.left disk.new) (calls_of result) }
+    ensures counted { Counted (D.faults disk.old) (D.faults disk.new) (D.own disk.old) (D.own disk.new)
+        (D.left disk.new) (calls_of result) }
 {
     let mut records = Vec::new(alloc);
     let mut at = first;
@@ -162,7 +165,8 @@ pub(crate) fn read_log<D: Disk>(
     ensures file { D.file disk.new ≡ D.file disk.old }
     ensures tells { D.tells disk.new ≡ D.tells disk.old }
     ensures left { D.left disk.new ≡ D.left disk.old }
-    ensures counted { Counted (D.faults disk.old) (D.faults disk.new) (D.own disk.old) (D.own disk.new) (D.left disk.new) (calls_of result) }
+    ensures counted { Counted (D.faults disk.old) (D.faults disk.new) (D.own disk.old) (D.own disk.new)
+        (D.left disk.new) (calls_of result) }
 {
     let mut version = [0u8; 1];
     match disk.read(0, &mut version) {

@@ -40,7 +40,8 @@ pub(crate) fn append_at<D: Disk>(disk: &mut D, gate: u64, frame: &[u8]) -> Resul
     ensures ok { OnOk result (IsTrue (D.tells disk.old) →
         D.file disk.new ≡ synced (written gate (1 ∷ []) (synced (written (gate + 1) frame.now (D.file disk.old))))) }
     ensures stopped { OnErr result (IsTrue (D.tells disk.old) → LeavesOneOf (D.file disk.old).seen gate frame.now (D.file disk.new)) }
-    ensures early { OnErr result (IsTrue (D.tells disk.old) → (k : ℕ) → D.left disk.old ≡ Some k → k ≤ 2 → LeavesClosed (D.file disk.old).seen gate (D.file disk.new)) }
+    ensures early { OnErr result (IsTrue (D.tells disk.old) → (k : ℕ) → D.left disk.old ≡ Some k → k ≤ 2
+        → LeavesClosed (D.file disk.old).seen gate (D.file disk.new)) }
     ensures spends { Spends D.Disk 4 disk.old disk.new result }
 {
     match put_durably(disk, gate + 1, frame) {

@@ -35,13 +35,15 @@ none_or : (b : Bool) (x : Option (Unit {0})) → is_some (cond b None x) ≡ (no
 none_or true x = refl
 none_or false x = refl
 
-has_insert : (ps : List ((ℕ × ℕ) × Unit {0})) (i : ℕ) (m n : ℕ × ℕ) → IsGap by_proposal ps m i → has (insert ps i (m, tt)) n ≡ ((nat_eq n.0 m.0 && nat_eq n.1 m.1) || has ps n)
+has_insert : (ps : List ((ℕ × ℕ) × Unit {0})) (i : ℕ) (m n : ℕ × ℕ) → IsGap by_proposal ps m i
+    → has (insert ps i (m, tt)) n ≡ ((nat_eq n.0 m.0 && nat_eq n.1 m.1) || has ps n)
 has_insert ps i m n gap =
     ap is_some (find_insert by_proposal_total ps i m tt n gap.within (gap_absent by_proposal_total ps m i gap))
     ∙ some_or (eq_by_cmp by_proposal n m) (map.find by_proposal n ps) ∙ ap (λ b. b || has ps n) (same_proposal n m)
 
 pub has_remove : (ps : List ((ℕ × ℕ) × Unit {0})) (i : ℕ) (m n : ℕ × ℕ) → IsRising by_proposal ps → i < length ps
-    → ((d : (ℕ × ℕ) × Unit {0}) → by_proposal (slice_index_or ps i d).0 m ≡ Equal) → has (remove ps i) n ≡ (not (nat_eq n.0 m.0 && nat_eq n.1 m.1) && has ps n)
+    → ((d : (ℕ × ℕ) × Unit {0}) → by_proposal (slice_index_or ps i d).0 m ≡ Equal)
+    → has (remove ps i) n ≡ (not (nat_eq n.0 m.0 && nat_eq n.1 m.1) && has ps n)
 has_remove ps i m n rising within ties =
     let here : (slice_index_or ps i (m, tt)).0 ≡ m = by_proposal-IsAntisymmetric _ m (ties (m, tt)) in
     ap is_some (find_remove by_proposal_total ps i (m, tt) n rising within)
@@ -53,20 +55,23 @@ dropped_none true x e = e refl
 dropped_none false x e = refl
 
 -- where it is not there, nothing is taken out
-pub has_none : (ps : List ((ℕ × ℕ) × Unit {0})) (i : ℕ) (m n : ℕ × ℕ) → IsGap by_proposal ps m i → has ps n ≡ (not (nat_eq n.0 m.0 && nat_eq n.1 m.1) && has ps n)
+pub has_none : (ps : List ((ℕ × ℕ) × Unit {0})) (i : ℕ) (m n : ℕ × ℕ) → IsGap by_proposal ps m i
+    → has ps n ≡ (not (nat_eq n.0 m.0 && nat_eq n.1 m.1) && has ps n)
 has_none ps i m n gap =
     dropped_none (nat_eq n.0 m.0 && nat_eq n.1 m.1) (has ps n)
     (λ same. let is : n ≡ m = by_proposal-IsAntisymmetric n m (same_test (by_proposal n m) (same_proposal n m ∙ same)) in
     ap (has ps) is ∙ ap is_some (find_absent by_proposal_total ps m (gap_absent by_proposal_total ps m i gap)))
 
 -- one proposal more in both
-added : (b c h : Bool) (p r : ℕ) (f : Option ℕ) → nat_eq r p ≡ c → (b ≡ true → f ≡ None) → h ≡ is_proposal f r → ((c && b) || h) ≡ is_proposal (cond b (Some p) f) r
+added : (b c h : Bool) (p r : ℕ) (f : Option ℕ) → nat_eq r p ≡ c → (b ≡ true → f ≡ None) → h ≡ is_proposal f r
+    → ((c && b) || h) ≡ is_proposal (cond b (Some p) f) r
 added true true h p r f e none is = sym e
 added true false h p r f e none is = is ∙ ap (λ x. is_proposal x r) (none refl) ∙ sym e
 added false true h p r f e none is = is
 added false false h p r f e none is = is
 
-pub AreAlike-add : (es : List (ℕ × ℕ)) (ps : List ((ℕ × ℕ) × Unit {0})) (i j t p : ℕ) → AreAlike es ps → IsGap nat_cmp es t i → IsGap by_proposal ps (p, t) j
+pub AreAlike-add : (es : List (ℕ × ℕ)) (ps : List ((ℕ × ℕ) × Unit {0})) (i j t p : ℕ) → AreAlike es ps
+    → IsGap nat_cmp es t i → IsGap by_proposal ps (p, t) j
     → AreAlike (insert es i (t, p)) (insert ps j ((p, t), tt))
 AreAlike-add es ps i j t p alike gap there = λ q r.
     let first = find_insert nat_cmp_total es i t p q gap.within (gap_absent nat_cmp_total es t i gap) ∙ ap (λ b. cond b (Some p) (map.find nat_cmp q es)) (unsigned_tied q t) in
@@ -74,14 +79,17 @@ AreAlike-add es ps i j t p alike gap there = λ q r.
     has_insert ps j (p, t) (r, q) there ∙ added (nat_eq q t) (nat_eq r p) (has ps (r, q)) p r (map.find nat_cmp q es) refl none (alike q r) ∙ ap (λ f. is_proposal f r) (sym first)
 
 -- one proposal less in both
-ended : (b c h : Bool) (p r : ℕ) (f : Option ℕ) → nat_eq r p ≡ c → (b ≡ true → f ≡ Some p) → h ≡ is_proposal f r → (not (c && b) && h) ≡ is_proposal (cond b None f) r
+ended : (b c h : Bool) (p r : ℕ) (f : Option ℕ) → nat_eq r p ≡ c → (b ≡ true → f ≡ Some p) → h ≡ is_proposal f r
+    → (not (c && b) && h) ≡ is_proposal (cond b None f) r
 ended true true h p r f e some is = refl
 ended true false h p r f e some is = is ∙ ap (λ x. is_proposal x r) (some refl) ∙ e
 ended false true h p r f e some is = is
 ended false false h p r f e some is = is
 
-pub AreAlike-end : (es : List (ℕ × ℕ)) (ps qs : List ((ℕ × ℕ) × Unit {0})) (i t : ℕ) (d : ℕ × ℕ) → AreAlike es ps → IsRising nat_cmp es → i < length es → nat_cmp (slice_index_or es i d).0 t ≡ Equal
-    → ((q : ℕ × ℕ) → has qs q ≡ (not (nat_eq q.0 (slice_index_or es i d).1 && nat_eq q.1 t) && has ps q)) → AreAlike (remove es i) qs
+pub AreAlike-end : (es : List (ℕ × ℕ)) (ps qs : List ((ℕ × ℕ) × Unit {0})) (i t : ℕ) (d : ℕ × ℕ) → AreAlike es ps
+    → IsRising nat_cmp es → i < length es → nat_cmp (slice_index_or es i d).0 t ≡ Equal
+    → ((q : ℕ × ℕ) → has qs q ≡ (not (nat_eq q.0 (slice_index_or es i d).1 && nat_eq q.1 t) && has ps q))
+    → AreAlike (remove es i) qs
 AreAlike-end es ps qs i t d alike rising within ties rest = λ q r.
     let p = (slice_index_or es i d).1 in
     let here : (slice_index_or es i d).0 ≡ t = exact_unsigned _ t ties in
@@ -105,16 +113,20 @@ at_most m n less = elim (nat_cmp m.0 n.0) as (λ r. nat_cmp m.0 n.0 ≡ r → or
   | Greater ↦ λ is e. cc
 ] refl less
 
-found_or : (p : ℕ) (n : ℕ × ℕ) (q : (ℕ × ℕ) × Unit {0}) (qs : List ((ℕ × ℕ) × Unit {0})) (b : Bool) → eq_by_cmp by_proposal n q.0 ≡ b → p ≤ q.0.0 → (has qs n ≡ true → p ≤ n.0) → is_some (cond b (Some q.1) (map.find by_proposal n qs)) ≡ true → p ≤ n.0
+found_or : (p : ℕ) (n : ℕ × ℕ) (q : (ℕ × ℕ) × Unit {0}) (qs : List ((ℕ × ℕ) × Unit {0})) (b : Bool)
+    → eq_by_cmp by_proposal n q.0 ≡ b → p ≤ q.0.0 → (has qs n ≡ true → p ≤ n.0)
+    → is_some (cond b (Some q.1) (map.find by_proposal n qs)) ≡ true → p ≤ n.0
 found_or p n q qs true is here later among = subst (λ (m : ℕ × ℕ). p ≤ m.0) (sym (by_proposal-IsAntisymmetric n q.0 (same_test (by_proposal n q.0) is))) here
 found_or p n q qs false is here later among = later among
 
-at_most_found : (p : ℕ) (ps : List ((ℕ × ℕ) × Unit {0})) (n : ℕ × ℕ) → All (λ q. p ≤ q.0.0) ps → has ps n ≡ true → p ≤ n.0
+at_most_found : (p : ℕ) (ps : List ((ℕ × ℕ) × Unit {0})) (n : ℕ × ℕ) → All (λ q. p ≤ q.0.0) ps → has ps n ≡ true
+    → p ≤ n.0
 at_most_found p [] n low among = cc
 at_most_found p (q ∷ qs) n low among =
     found_or p n q qs (eq_by_cmp by_proposal n q.0) refl (low 0 q (omega arith)) (λ later. at_most_found p qs n (λ j d within. low (suc j) d (omega (arith, within))) later) among
 
-first_at_most : (p : (ℕ × ℕ) × Unit {0}) (ps : List ((ℕ × ℕ) × Unit {0})) (n : ℕ × ℕ) → IsRising by_proposal (p ∷ ps) → has (p ∷ ps) n ≡ true → p.0.0 ≤ n.0
+first_at_most : (p : (ℕ × ℕ) × Unit {0}) (ps : List ((ℕ × ℕ) × Unit {0})) (n : ℕ × ℕ) → IsRising by_proposal (p ∷ ps)
+    → has (p ∷ ps) n ≡ true → p.0.0 ≤ n.0
 first_at_most p ps n rising among =
     found_or p.0.0 n p ps (eq_by_cmp by_proposal n p.0) refl (omega arith)
     (λ later. at_most_found p.0.0 ps n (λ j d within. at_most p.0 _ (rising 0 (suc j) d (omega arith) (omega (arith, within)))) later) among
@@ -122,7 +134,8 @@ first_at_most p ps n rising among =
 has_first : (p : (ℕ × ℕ) × Unit {0}) (ps : List ((ℕ × ℕ) × Unit {0})) → has (p ∷ ps) p.0 ≡ true
 has_first p ps = ap (λ r. is_some (cond (is_eq r) (Some p.1) (map.find by_proposal p.0 ps))) (tied_itself by_proposal_total p.0)
 
-pub first_is_least : (es : List (ℕ × ℕ)) (ps : List ((ℕ × ℕ) × Unit {0})) (d : (ℕ × ℕ) × Unit {0}) → AreAlike es ps → IsRising by_proposal ps → 0 < length ps → IsLeast (map.from_entries es) (slice_index_or ps 0 d).0.0
+pub first_is_least : (es : List (ℕ × ℕ)) (ps : List ((ℕ × ℕ) × Unit {0})) (d : (ℕ × ℕ) × Unit {0}) → AreAlike es ps
+    → IsRising by_proposal ps → 0 < length ps → IsLeast (map.from_entries es) (slice_index_or ps 0 d).0.0
 first_is_least es [] d alike rising some = absurd (omega (arith, some))
 first_is_least es (p ∷ ps) d alike rising some = record {
   pending = (p.0.1, map.get-from_entries nat_cmp_total es p.0.1 ∙ is_it _ p.0.0 (sym (alike p.0.1 p.0.0) ∙ has_first p ps));
@@ -133,7 +146,8 @@ none_is : (f : Option ℕ) → ((p : ℕ) → is_proposal f p ≡ false) → f �
 none_is None none = refl
 none_is (Some p) none = let bad : is_proposal (Some p) p ≡ true = it_is (Some p) p refl in let no = none p in cc
 
-pub nothing_pending : (es : List (ℕ × ℕ)) (ps : List ((ℕ × ℕ) × Unit {0})) → AreAlike es ps → length ps ≡ 0 → map.from_entries {R = nat_cmp} es ≡ map.empty
+pub nothing_pending : (es : List (ℕ × ℕ)) (ps : List ((ℕ × ℕ) × Unit {0})) → AreAlike es ps → length ps ≡ 0
+    → map.from_entries {R = nat_cmp} es ≡ map.empty
 nothing_pending es [] alike none = map.same_map nat_cmp_total map.nat_cmp-IsAntisymmetric _ _ (λ t. map.get-from_entries nat_cmp_total es t ∙ none_is _ (λ p. sym (alike t p)) ∙ sym (map.get-empty nat_cmp t))
 nothing_pending es (p ∷ ps) alike none = absurd (omega (arith, none))
 
@@ -156,14 +170,16 @@ nothing None e = refl
 nothing (Some u) e = cc
 
 -- where it is not pending, the second table does not have it
-pub absent_too : (es : List (ℕ × ℕ)) (ps : List ((ℕ × ℕ) × Unit {0})) (t p : ℕ) → AreAlike es ps → map.find nat_cmp t es ≡ None → map.find by_proposal (p, t) ps ≡ None
+pub absent_too : (es : List (ℕ × ℕ)) (ps : List ((ℕ × ℕ) × Unit {0})) (t p : ℕ) → AreAlike es ps
+    → map.find nat_cmp t es ≡ None → map.find by_proposal (p, t) ps ≡ None
 absent_too es ps t p alike none = nothing _ (alike t p ∙ ap (λ f. is_proposal f p) none)
 
 some_none : {A : Type 0} (x : A) → Some x ≡ None → ⊥
 some_none x e = cc
 
 -- a key that is found is there
-pub there_is_no_key : {K V : Type 0} {cmp : K → K → Ordering} (o : IsTotalOrder cmp) (pairs : List (K × V)) (i : ℕ) (key : K) → IsRising cmp pairs → i < length pairs
+pub there_is_no_key : {K V : Type 0} {cmp : K → K → Ordering} (o : IsTotalOrder cmp) (pairs : List (K × V)) (i : ℕ)
+    (key : K) → IsRising cmp pairs → i < length pairs
     → ((d : K × V) → cmp (slice_index_or pairs i d).0 key ≡ Equal) → map.find cmp key pairs ≡ None → ⊥
 there_is_no_key o [] i key rising within ties none = absurd (omega (arith, within))
 there_is_no_key o (p ∷ ps) i key rising within ties none = some_none _ (sym (find_at o (p ∷ ps) i p key rising within (ties p)) ∙ none)

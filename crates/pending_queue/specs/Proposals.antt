@@ -17,7 +17,8 @@ pub record Queue : Type 0 where
 -- a queue is stored as the pair of its fields
 abbrev pub queue_code : Coded Queue
 queue_code =
-    code_by (Proposals × ℕ) (coded× (map.code coded_ℕ coded_ℕ) coded_ℕ) (λ q. (q.proposals, q.spare)) (λ p. record { proposals = p.0; spare = p.1 }) (λ _. refl)
+    code_by (Proposals × ℕ) (coded× (map.code coded_ℕ coded_ℕ) coded_ℕ)
+    (λ q. (q.proposals, q.spare)) (λ p. record { proposals = p.0; spare = p.1 }) (λ _. refl)
 
 -- p is the least proposal
 pub record IsLeast (proposals : Proposals) (p : ℕ) : Type 0 where

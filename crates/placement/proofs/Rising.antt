@@ -15,12 +15,14 @@ one_more p n ns = by (p n)
     by true = refl
     by false = refl
 
-pub rising_from_more : (p : NodeId → Bool) (n : ℕ) → n < 17 → rising_from p n ≡ filter p (n ∷ []) ++ rising_from p (n + 1)
+pub rising_from_more : (p : NodeId → Bool) (n : ℕ) → n < 17
+    → rising_from p n ≡ filter p (n ∷ []) ++ rising_from p (n + 1)
 unfolding rising_from
 rising_from_more p n low = let e : 17 - n ≡ suc (17 - (n + 1)) = omega (arith, low) in rw e (one_more p n (range_with_len (n + 1) (17 - (n + 1))))
 
 -- the parts so far with those from n on, when node n was tried
-pub told_more : (p : NodeId → Bool) (n : ℕ) (parts new whole : List NodeId) → n < 17 → parts ++ rising_from p n ≡ whole → new ≡ parts ++ filter p (n ∷ []) → new ++ rising_from p (n + 1) ≡ whole
+pub told_more : (p : NodeId → Bool) (n : ℕ) (parts new whole : List NodeId) → n < 17 → parts ++ rising_from p n ≡ whole
+    → new ≡ parts ++ filter p (n ∷ []) → new ++ rising_from p (n + 1) ≡ whole
 told_more p n parts new whole low told more =
     ap (λ l. l ++ rising_from p (n + 1)) more
     ∙ append_assoc parts (filter p (n ∷ [])) (rising_from p (n + 1))

@@ -52,7 +52,8 @@ others n ns = filter (λ m. not (m == n)) ns
 -- the holders of a key in the order that a home prefers: the home first where it holds the key, then
 -- the others in the order of the partition
 abbrev pub preferred : List (List NodeId) → NodeId → Key → List NodeId
-preferred places home key = if holds places home key then home ∷ others home (holders places key) else holders places key
+preferred places home key =
+    if holds places home key then home ∷ others home (holders places key) else holders places key
 
 -- the value that a list gives a key, or 0
 abbrev pub init_of : List (Key × Value) → Key → Value

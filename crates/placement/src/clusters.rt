@@ -103,7 +103,8 @@ impl Places {
     }
 
     fn push_part(&self, parts: &mut NodeList, node: NodeId, keys: &[Key]) -> Result<(), Memory>
-        ensures { OnOk result (parts.new ≡ parts.old ++ filter (λ n. list_any (holds self.now n) keys.now) (node ∷ [])) }
+        ensures { OnOk result
+            (parts.new ≡ parts.old ++ filter (λ n. list_any (holds self.now n) keys.now) (node ∷ [])) }
     {
         if self.holds_any(node, keys) {
             parts.push(node)?;

@@ -19,7 +19,8 @@ not-there : (b : Bool) (x : Change) → b ≡ false → where_at b x ≡ Nothing
 not-there true x e = cc
 not-there false x e = refl
 
-pub elsewhere : (d : DocumentData) (e : Option Envelope) (a : Act) (n : ℕ) → is_number (place_of d a) n ≡ false → change d e a n ≡ Nothing
+pub elsewhere : (d : DocumentData) (e : Option Envelope) (a : Act) (n : ℕ) → is_number (place_of d a) n ≡ false
+    → change d e a n ≡ Nothing
 elsewhere d e (act.Decided t f) n h = not-there _ _ (not-home (script_of t d.scripts) n h)
 elsewhere d e (act.Closed t) n h = not-there _ _ (not-home (script_of t d.scripts) n h)
 elsewhere d e (act.Prepared m t p) n h = not-there (m == n) _ h
@@ -37,7 +38,9 @@ places-apart : (m n : ℕ) → 1 ≤ m → 1 ≤ n → n ≢ m → m - 1 ≢ n -
 places-apart m n p q other = omega (arith, other)
 
 -- an act of node n, by what it makes of it
-pub nodes-one : (d : DocumentData) (e : Option Envelope) (a : Act) (xs : List Node) (n : ℕ) (v : Node) → 1 ≤ n → n ≤ 16 → length xs ≡ 16 → place_of d a ≡ Some n → v ≡ changed (change d e a n) (node_in xs n) → (m : ℕ) → 1 ≤ m → m ≤ 16 → node_in (slice_set xs (n - 1) v) m ≡ changed (change d e a m) (node_in xs m)
+pub nodes-one : (d : DocumentData) (e : Option Envelope) (a : Act) (xs : List Node) (n : ℕ) (v : Node) → 1 ≤ n → n ≤ 16
+    → length xs ≡ 16 → place_of d a ≡ Some n → v ≡ changed (change d e a n) (node_in xs n) → (m : ℕ) → 1 ≤ m → m ≤ 16
+    → node_in (slice_set xs (n - 1) v) m ≡ changed (change d e a m) (node_in xs m)
 nodes-one d e a xs n v least most count at made m p q = elim (cases_eq n m) [
   | inl same ↦ subst (λ k. node_in (slice_set xs (n - 1) v) k ≡ changed (change d e a k) (node_in xs k)) same (get_or-set_same xs (n - 1) v blank (omega (arith, count)) ∙ made)
   | inr other ↦

@@ -15,7 +15,8 @@ sent-more : (a : Act) (ms : List Envelope) (past : List Act) → ms ≡ sent pas
 sent-more (act.Sent m x y said) ms past e = rw e refl
 sent-more a ms past e = e
 
-got-more : (a : Act) (ms : List Envelope) (last : Option Envelope) (past : List Act) → ms ≡ sent past → last ≡ got past → got_by a ms last ≡ got (a ∷ past)
+got-more : (a : Act) (ms : List Envelope) (last : Option Envelope) (past : List Act) → ms ≡ sent past → last ≡ got past
+    → got_by a ms last ≡ got (a ∷ past)
 got-more (act.Got m) ms last past e g = ap (sent_at m) e
 got-more a ms last past e g = g
 
@@ -25,7 +26,8 @@ gone-more (act.Missed m) past k = refl
 gone-more (act.Dropped m) past k = refl
 gone-more a past k = refl
 
-pub keeps-more : (d : DocumentData) (past : List Act) (a : Act) (ms : List Envelope) (marks marks' : List Bool) (last : Option Envelope) (nodes nodes' : List Node) (stories : List (ℕ × Story))
+pub keeps-more : (d : DocumentData) (past : List Act) (a : Act) (ms : List Envelope) (marks marks' : List Bool)
+    (last : Option Envelope) (nodes nodes' : List Node) (stories : List (ℕ × Story))
     → Keeps d past ms marks last nodes stories
     → ((k : ℕ) → is_marked marks' k ≡ (is_number (going a) k || is_marked marks k))
     → length nodes' ≡ 16
@@ -43,7 +45,9 @@ keeps-more d past a ms marks marks' last nodes nodes' stories k marked count eac
 }
 
 -- the same of lists that are what they should be
-pub keeps-act : (d : DocumentData) (acts acts' : List Act) (a : Act) (ms ms' : List Envelope) (marks marks' : List Bool) (last last' : Option Envelope) (nodes nodes' : List Node) (stories stories' : List (ℕ × Story)) (o : Option (ℕ × Story))
+pub keeps-act : (d : DocumentData) (acts acts' : List Act) (a : Act) (ms ms' : List Envelope) (marks marks' : List Bool)
+    (last last' : Option Envelope) (nodes nodes' : List Node) (stories stories' : List (ℕ × Story))
+    (o : Option (ℕ × Story))
     → Keeps d (after [] acts) ms marks last nodes stories
     → acts' ≡ acts ++ a ∷ []
     → ms' ≡ posted a ms

@@ -17,7 +17,8 @@ pub marked_more : (xs : List Bool) (k : ℕ) → is_marked (xs ++ false ∷ []) 
 marked_more xs k = or_more xs false k
 
 -- a place that is marked
-pub marked_set : (xs : List Bool) (m k : ℕ) → m < length xs → is_marked (slice_set xs m true) k ≡ ((m == k) || is_marked xs k)
+pub marked_set : (xs : List Bool) (m k : ℕ) → m < length xs
+    → is_marked (slice_set xs m true) k ≡ ((m == k) || is_marked xs k)
 marked_set xs m k h = elim (cases_eq m k) [
   | inl same ↦ subst (λ j. is_marked (slice_set xs m true) j ≡ ((m == j) || is_marked xs j)) same (get_or-set_same xs m true false h ∙ grind (arith, nat_tests))
   | inr other ↦ get_or-set_other xs m k true false (λ e. other (sym e)) ∙ grind (arith, nat_tests)

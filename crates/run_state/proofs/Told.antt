@@ -25,13 +25,15 @@ abbrev behind : Option (ℕ × Story) → ℕ → Option Story → Option Story
 behind None t o = o
 behind (Some x) t o = if x.0 == t then Some x.1 else o
 
-at-put_cases : (u t : ℕ) (a : Story) (xs : List (ℕ × Story)) → at_key t (put_key u a xs) ≡ (if u == t then Some a else at_key t xs)
+at-put_cases : (u t : ℕ) (a : Story) (xs : List (ℕ × Story))
+    → at_key t (put_key u a xs) ≡ (if u == t then Some a else at_key t xs)
 at-put_cases u t a xs = elim (cases_eq u t) [
   | inl same ↦ subst (λ v. at_key v (put_key u a xs) ≡ (if u == v then Some a else at_key v xs)) same (at-put u a xs ∙ grind (arith, nat_tests))
   | inr other ↦ let flipped : t ≢ u = λ e. other (sym e) in put-other t u a xs flipped ∙ grind (arith, nat_tests)
 ]
 
-at-telling : (o : Option (ℕ × Story)) (xs : List (ℕ × Story)) (t : ℕ) → at_key t (put_telling o xs) ≡ behind o t (at_key t xs)
+at-telling : (o : Option (ℕ × Story)) (xs : List (ℕ × Story)) (t : ℕ)
+    → at_key t (put_telling o xs) ≡ behind o t (at_key t xs)
 at-telling None xs t = refl
 at-telling (Some x) xs t = at-put_cases x.0 t x.1 xs
 
@@ -40,7 +42,8 @@ if-not f None = refl
 if-not f (Some x) = refl
 
 -- a change of the story of u, said of t
-told-if : (P : ℕ → Option Story) (f : Story → Story) (u t : ℕ) (o : Option Story) → o ≡ P u → behind (retold u f o) t (P t) ≡ if_told (u == t) f (P t)
+told-if : (P : ℕ → Option Story) (f : Story → Story) (u t : ℕ) (o : Option Story) → o ≡ P u
+    → behind (retold u f o) t (P t) ≡ if_told (u == t) f (P t)
 told-if P f u t None e = elim (cases_eq u t) [
   | inl same ↦ let at : P t ≡ None = ap P (sym same) ∙ sym e in rw at refl
   | inr other ↦ let apart : (u == t) ≡ false = grind (arith, nat_tests) in rw apart (if-not f (P t))
@@ -53,13 +56,15 @@ told-if P f u t (Some x) e = elim (cases_eq u t) [
 -- ---- what is got
 
 -- a message of no vote and no acknowledgement changes nothing
-unheard : (ns : List ℕ) (p : Phase) (h : Node) (t x : ℕ) (said : Message) (o : Option Story) → voter said ≡ None → heard ns p h t x said o ≡ o
+unheard : (ns : List ℕ) (p : Phase) (h : Node) (t x : ℕ) (said : Message) (o : Option Story) → voter said ≡ None
+    → heard ns p h t x said o ≡ o
 unheard ns p h t x (message.Vote u b) o e = cc
 unheard ns p h t x (message.Ack u) o e = cc
 unheard ns p h t x said o e = refl
 
 -- one of another transaction changes nothing
-heard-other : (ns : List ℕ) (p : Phase) (h : Node) (t x u : ℕ) (said : Message) (o : Option Story) → voter said ≡ Some u → (u == t) ≡ false → heard ns p h t x said o ≡ o
+heard-other : (ns : List ℕ) (p : Phase) (h : Node) (t x u : ℕ) (said : Message) (o : Option Story) → voter said ≡ Some u
+    → (u == t) ≡ false → heard ns p h t x said o ≡ o
 heard-other ns p h t x u (message.Vote v (ballot.Yes y)) o e apart = let same : v ≡ u = cc in rw (same, apart) (sym (if-not (progressed (with_vote x y)) o))
 heard-other ns p h t x u (message.Vote v (ballot.No y)) o e apart = refl
 heard-other ns p h t x u (message.Ack v) o e apart = let same : v ≡ u = cc in rw (same, apart) (sym (if-not (with_ack x) o))
@@ -71,7 +76,8 @@ if-kept true f (Some x) = refl
 if-kept false f (Some x) = refl
 
 -- what is heard takes no story away and makes none
-heard-kept : (ns : List ℕ) (p : Phase) (h : Node) (t x : ℕ) (said : Message) (o : Option Story) → is_some (heard ns p h t x said o) ≡ is_some o
+heard-kept : (ns : List ℕ) (p : Phase) (h : Node) (t x : ℕ) (said : Message) (o : Option Story)
+    → is_some (heard ns p h t x said o) ≡ is_some o
 heard-kept ns p h t x (message.Vote v (ballot.Yes y)) o = if-kept ((v == t) && is_counted_vote ns p h.journal h.next x y) (progressed (with_vote x y)) o
 heard-kept ns p h t x (message.Ack v) o = if-kept ((v == t) && is_counted_ack ns p h.journal h.next x) (with_ack x) o
 heard-kept ns p h t x said o = refl
@@ -86,11 +92,13 @@ behind-other : (u t : ℕ) (x o : Option Story) → (u == t) ≡ false → behin
 behind-other u t None o e = refl
 behind-other u t (Some y) o e = rw e refl
 
-behind-if : (b : Bool) (u t : ℕ) (x o : Option Story) → (u == t) ≡ false → behind (if b then paired u x else None) t o ≡ o
+behind-if : (b : Bool) (u t : ℕ) (x o : Option Story) → (u == t) ≡ false
+    → behind (if b then paired u x else None) t o ≡ o
 behind-if true u t x o e = behind-other u t x o e
 behind-if false u t x o e = refl
 
-hearing-other : (d : DocumentData) (past : List Act) (e : Envelope) (u : ℕ) (s : Option ScriptData) (t : ℕ) (o : Option Story) → (u == t) ≡ false → behind (hearing_at d past e u s) t o ≡ o
+hearing-other : (d : DocumentData) (past : List Act) (e : Envelope) (u : ℕ) (s : Option ScriptData) (t : ℕ)
+    (o : Option Story) → (u == t) ≡ false → behind (hearing_at d past e u s) t o ≡ o
 hearing-other d past e u None t o h = refl
 hearing-other d past e u (Some s) t o h = behind-if (e.to == s.home) u t (heard (parts_of d s) (phase_at s (story d past u) (node d past s.home)) (node d past s.home) s.number e.from e.message (story d past u)) o h
 
@@ -98,27 +106,33 @@ if-to : (b : Bool) (x o : Option Story) → x ≡ o → (if b then x else o) ≡
 if-to true x o e = e
 if-to false x o e = refl
 
-heard-apart : (d : DocumentData) (past : List Act) (s : Option ScriptData) (e : Envelope) (u t : ℕ) (o : Option Story) → voter e.message ≡ Some u → (u == t) ≡ false → script_of t d.scripts ≡ s → heard_at d past s (Some e) o ≡ o
+heard-apart : (d : DocumentData) (past : List Act) (s : Option ScriptData) (e : Envelope) (u t : ℕ) (o : Option Story)
+    → voter e.message ≡ Some u → (u == t) ≡ false → script_of t d.scripts ≡ s → heard_at d past s (Some e) o ≡ o
 heard-apart d past None e u t o v h at = refl
 heard-apart d past (Some s) e u t o v h at =
     let number : s.number ≡ t = script-number t d.scripts s at in
     if-to (e.to == s.home) _ o (heard-other (parts_of d s) (phase_at s o (node d past s.home)) (node d past s.home) s.number e.from u e.message o v (rw number h))
 
-heard-silent : (d : DocumentData) (past : List Act) (s : Option ScriptData) (e : Envelope) (o : Option Story) → voter e.message ≡ None → heard_at d past s (Some e) o ≡ o
+heard-silent : (d : DocumentData) (past : List Act) (s : Option ScriptData) (e : Envelope) (o : Option Story)
+    → voter e.message ≡ None → heard_at d past s (Some e) o ≡ o
 heard-silent d past None e o v = refl
 heard-silent d past (Some s) e o v = if-to (e.to == s.home) _ o (unheard (parts_of d s) (phase_at s o (node d past s.home)) (node d past s.home) s.number e.from e.message o v)
 
-pair-if : (b : Bool) (t : ℕ) (o o' : Option Story) → is_some o' ≡ is_some o → behind (if b then paired t o' else None) t o ≡ (if b then o' else o)
+pair-if : (b : Bool) (t : ℕ) (o o' : Option Story) → is_some o' ≡ is_some o
+    → behind (if b then paired t o' else None) t o ≡ (if b then o' else o)
 pair-if true t o o' e = pair-here t o o' e
 pair-if false t o o' e = refl
 
-hearing-same : (d : DocumentData) (past : List Act) (e : Envelope) (t : ℕ) (s : Option ScriptData) → behind (hearing_at d past e t s) t (story d past t) ≡ heard_at d past s (Some e) (story d past t)
+hearing-same : (d : DocumentData) (past : List Act) (e : Envelope) (t : ℕ) (s : Option ScriptData)
+    → behind (hearing_at d past e t s) t (story d past t) ≡ heard_at d past s (Some e) (story d past t)
 hearing-same d past e t None = refl
 hearing-same d past e t (Some s) =
     let h : Node = node d past s.home in
     pair-if (e.to == s.home) t (story d past t) (heard (parts_of d s) (phase_at s (story d past t) h) h s.number e.from e.message (story d past t)) (heard-kept (parts_of d s) (phase_at s (story d past t) h) h s.number e.from e.message (story d past t))
 
-hearing-by : (d : DocumentData) (past : List Act) (e : Envelope) (o : Option ℕ) (t : ℕ) → voter e.message ≡ o → behind (hearing_of d past e o) t (story d past t) ≡ heard_at d past (script_of t d.scripts) (Some e) (story d past t)
+hearing-by : (d : DocumentData) (past : List Act) (e : Envelope) (o : Option ℕ) (t : ℕ) → voter e.message ≡ o
+    → behind (hearing_of d past e o) t (story d past t)
+    ≡ heard_at d past (script_of t d.scripts) (Some e) (story d past t)
 hearing-by d past e None t v = sym (heard-silent d past (script_of t d.scripts) e (story d past t) v)
 hearing-by d past e (Some u) t v = elim (cases_eq u t) [
   | inl same ↦ subst (λ k. behind (hearing_at d past e u (script_of u d.scripts)) k (story d past k) ≡ heard_at d past (script_of k d.scripts) (Some e) (story d past k)) same (hearing-same d past e u (script_of u d.scripts))
@@ -131,13 +145,15 @@ unsent : (d : DocumentData) (past : List Act) (s : Option ScriptData) (o : Optio
 unsent d past None o = refl
 unsent d past (Some s) o = refl
 
-hearing-told : (d : DocumentData) (past : List Act) (e : Option Envelope) (t : ℕ) → behind (hearing d past e) t (story d past t) ≡ heard_at d past (script_of t d.scripts) e (story d past t)
+hearing-told : (d : DocumentData) (past : List Act) (e : Option Envelope) (t : ℕ)
+    → behind (hearing d past e) t (story d past t) ≡ heard_at d past (script_of t d.scripts) e (story d past t)
 hearing-told d past None t = unsent d past (script_of t d.scripts) (story d past t)
 hearing-told d past (Some e) t = hearing-by d past e (voter e.message) t refl
 
 -- ---- the other acts
 
-asking-told : (d : DocumentData) (past : List Act) (said : Message) (t : ℕ) → behind (asking d past said) t (story d past t) ≡ asked d t said (story d past t)
+asking-told : (d : DocumentData) (past : List Act) (said : Message) (t : ℕ)
+    → behind (asking d past said) t (story d past t) ≡ asked d t said (story d past t)
 asking-told d past (message.ReadReq q) t = told-if (story d past) (progressed (with_request _)) q.t t (story d past q.t) refl
 asking-told d past said t = refl
 
@@ -145,7 +161,8 @@ some-if : (b : Bool) (f : Story → Story) (x : Story) → Some (if b then f x e
 some-if true f x = refl
 some-if false f x = refl
 
-at-forgotten : (d : DocumentData) (n : ℕ) (xs : List (ℕ × Story)) (t : ℕ) → at_key t (forgotten d n xs) ≡ if_told (is_home d t n) without_answers (at_key t xs)
+at-forgotten : (d : DocumentData) (n : ℕ) (xs : List (ℕ × Story)) (t : ℕ)
+    → at_key t (forgotten d n xs) ≡ if_told (is_home d t n) without_answers (at_key t xs)
 at-forgotten d n [] t = refl
 at-forgotten d n (x ∷ xs) t = elim (cases_eq x.0 t) [
   | inl same ↦
@@ -154,18 +171,23 @@ at-forgotten d n (x ∷ xs) t = elim (cases_eq x.0 t) [
   | inr other ↦ let apart : (x.0 == t) ≡ false = grind (arith, nat_tests) in rw apart (at-forgotten d n xs t)
 ]
 
-told-one : (d : DocumentData) (past : List Act) (f : Story → Story) (u : ℕ) (xs : List (ℕ × Story)) → ((t : ℕ) → at_key t xs ≡ story d past t) → (t : ℕ) → at_key t (put_telling (retold u f (story d past u)) xs) ≡ if_told (u == t) f (story d past t)
+told-one : (d : DocumentData) (past : List Act) (f : Story → Story) (u : ℕ) (xs : List (ℕ × Story))
+    → ((t : ℕ) → at_key t xs ≡ story d past t) → (t : ℕ)
+    → at_key t (put_telling (retold u f (story d past u)) xs) ≡ if_told (u == t) f (story d past t)
 told-one d past f u xs same t = at-telling (retold u f (story d past u)) xs t ∙ ap (behind (retold u f (story d past u)) t) (same t) ∙ told-if (story d past) f u t (story d past u) refl
 
 -- one act more
-pub stories-more : (d : DocumentData) (past : List Act) (a : Act) (xs : List (ℕ × Story)) → ((t : ℕ) → at_key t xs ≡ story d past t) → (t : ℕ) → at_key t (retold_by d a (telling d past a) xs) ≡ story d (a ∷ past) t
+pub stories-more : (d : DocumentData) (past : List Act) (a : Act) (xs : List (ℕ × Story))
+    → ((t : ℕ) → at_key t xs ≡ story d past t) → (t : ℕ)
+    → at_key t (retold_by d a (telling d past a) xs) ≡ story d (a ∷ past) t
 stories-more d past (act.Down n h) xs same t = at-forgotten d n xs t ∙ ap (if_told (is_home d t n) without_answers) (same t)
 stories-more d past (act.Began u n s) xs same t =
     at-put_cases u t (begun_in d (node d past) u s) xs
     ∙ ap (λ o. if u == t then Some (begun_in d (node d past) u s) else o) (same t)
     ∙ begun-same (u == t) refl
   where
-    begun-same : (b : Bool) → (u == t) ≡ b → (if b then Some (begun_in d (node d past) u s) else story d past t) ≡ (if b then Some (begun_in d (node d past) t s) else story d past t)
+    begun-same : (b : Bool) → (u == t) ≡ b → (if b then Some (begun_in d (node d past) u s) else story d past t)
+        ≡ (if b then Some (begun_in d (node d past) t s) else story d past t)
     begun-same true at = let same : u ≡ t = grind (arith, nat_tests) in subst (λ w. Some (begun_in d (node d past) u s) ≡ Some (begun_in d (node d past) w s)) same refl
     begun-same false at = refl
 stories-more d past (act.Sent m x y said) xs same t = at-telling (asking d past said) xs t ∙ ap (behind (asking d past said) t) (same t) ∙ asking-told d past said t
@@ -177,13 +199,19 @@ stories-more d past (act.Lost u) xs same t = told-one d past (λ x. record x { l
 stories-more d past a xs same t = same t
 
 -- what is heard of a story that is there
-pub hearing-here : (d d' : DocumentData) (past : List Act) (e : Envelope) (t : ℕ) (s : ScriptData) (x y : Story) (h : Node) → d' ≡ d → h ≡ node d past s.home → script_of t d.scripts ≡ Some s → (e.to == s.home) ≡ true → story d past t ≡ Some x → Some y ≡ heard (parts_of d' s) (phase_at s (Some x) h) h s.number e.from e.message (Some x) → Some (t, y) ≡ hearing_at d past e t (script_of t d.scripts)
+pub hearing-here : (d d' : DocumentData) (past : List Act) (e : Envelope) (t : ℕ) (s : ScriptData) (x y : Story)
+    (h : Node) → d' ≡ d → h ≡ node d past s.home → script_of t d.scripts ≡ Some s → (e.to == s.home) ≡ true
+    → story d past t ≡ Some x
+    → Some y ≡ heard (parts_of d' s) (phase_at s (Some x) h) h s.number e.from e.message (Some x)
+    → Some (t, y) ≡ hearing_at d past e t (script_of t d.scripts)
 hearing-here d d' past e t s x y h same home script here told is =
     let at : Some y ≡ heard (parts_of d s) (phase_at s (Some x) (node d past s.home)) (node d past s.home) s.number e.from e.message (Some x) = subst (λ n. Some y ≡ heard (parts_of d s) (phase_at s (Some x) n) n s.number e.from e.message (Some x)) home (subst (λ k. Some y ≡ heard (parts_of k s) (phase_at s (Some x) h) h s.number e.from e.message (Some x)) same is) in
     rw (script, here, told) (ap (paired t) at)
 
 -- a request of a story that is there
-pub asking-here : (d d' : DocumentData) (past : List Act) (said : Message) (q : ReadReq) (x y : Story) (r : ℕ) → d' ≡ d → said ≡ message.ReadReq q → story d past q.t ≡ Some x → r ≡ length (holders d'.cluster.places q.key) → y ≡ progressed (with_request r) x → Some (q.t, y) ≡ asking d past said
+pub asking-here : (d d' : DocumentData) (past : List Act) (said : Message) (q : ReadReq) (x y : Story) (r : ℕ) → d' ≡ d
+    → said ≡ message.ReadReq q → story d past q.t ≡ Some x → r ≡ length (holders d'.cluster.places q.key)
+    → y ≡ progressed (with_request r) x → Some (q.t, y) ≡ asking d past said
 asking-here d d' past said q x y r same is told count made =
     let holds : r ≡ length (holders d.cluster.places q.key) = count ∙ ap (λ (z : DocumentData). length (holders z.cluster.places q.key)) same in
     rw (is, told, ← holds, made) refl

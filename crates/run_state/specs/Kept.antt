@@ -106,7 +106,9 @@ voter said = None
 -- the story that a message changes, where its transaction has a script and this is its home
 abbrev pub hearing_at : DocumentData → List Act → Envelope → TxId → Option ScriptData → Option (TxId × Story)
 hearing_at d past e t None = None
-hearing_at d past e t (Some s) = if e.to == s.home then paired t (heard (parts_of d s) (phase_at s (story d past t) (node d past s.home)) (node d past s.home) s.number e.from e.message (story d past t)) else None
+hearing_at d past e t (Some s) =
+    if e.to == s.home then paired t (heard (parts_of d s) (phase_at s (story d past t) (node d past s.home))
+    (node d past s.home) s.number e.from e.message (story d past t)) else None
 
 -- the story that a message of a voter changes
 abbrev pub hearing_of : DocumentData → List Act → Envelope → Option TxId → Option (TxId × Story)
@@ -120,7 +122,8 @@ hearing d past (Some e) = hearing_of d past e (voter e.message)
 
 -- the story that a message changes where it is sent
 abbrev pub asking : DocumentData → List Act → Message → Option (TxId × Story)
-asking d past (message.ReadReq q) = retold q.t (progressed (with_request (length (holders d.cluster.places q.key)))) (story d past q.t)
+asking d past (message.ReadReq q) =
+    retold q.t (progressed (with_request (length (holders d.cluster.places q.key)))) (story d past q.t)
 asking d past said = None
 
 -- the story that an act changes, as it is behind the act; a Down may change many
@@ -160,7 +163,8 @@ pub record KeepsNodes (d : DocumentData) (past : List Act) (nodes : List Node) :
   pub each : (n : ℕ) → 1 ≤ n → n ≤ 16 → node_in nodes n ≡ node d past n
 
 -- what is kept tells what the acts tell
-pub record Keeps (d : DocumentData) (past : List Act) (ms : List Envelope) (marks : List Bool) (last : Option Envelope) (nodes : List Node) (stories : List (ℕ × Story)) : Type 0 where
+pub record Keeps (d : DocumentData) (past : List Act) (ms : List Envelope) (marks : List Bool) (last : Option Envelope)
+    (nodes : List Node) (stories : List (ℕ × Story)) : Type 0 where
   pub sent_is : ms ≡ sent past
   pub gone_is : (m : ℕ) → is_marked marks m ≡ is_gone past m
   pub got_is : last ≡ got past

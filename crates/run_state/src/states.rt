@@ -88,7 +88,8 @@ fn post(act: &Act, sent: &mut Vec<Envelope>) -> Result<(), Memory>
 
 /// Marks the message that an act takes away.
 fn mark_gone(act: &Act, gone: &mut Vec<bool>) -> Result<(), Memory>
-    ensures { OnOk result ((k : ℕ) → is_marked gone.new.items k ≡ (is_number (going act.now) k || is_marked gone.old.items k)) }
+    ensures { OnOk result
+        ((k : ℕ) → is_marked gone.new.items k ≡ (is_number (going act.now) k || is_marked gone.old.items k)) }
 {
     match act {
         Act::Got(m) => mark(gone, *m),
@@ -149,7 +150,8 @@ fn keep_node(
 ) -> Result<(), Memory>
     requires { length nodes.old.items ≡ 16 }
     ensures count { OnOk result (length nodes.new.items ≡ 16) }
-    ensures each { OnOk result ((n : ℕ) → 1 ≤ n → n ≤ 16 → node_in nodes.new.items n ≡ changed (change doc.now (option_copied last.entry) act.now n) (node_in nodes.old.items n)) }
+    ensures each { OnOk result ((n : ℕ) → 1 ≤ n → n ≤ 16 → node_in nodes.new.items n
+        ≡ changed (change doc.now (option_copied last.entry) act.now n) (node_in nodes.old.items n)) }
 {
     let Some(n) = place_of(doc, act) else {
         return Ok(());
@@ -362,7 +364,8 @@ impl<'a> RunState<'a> {
         envelope: &Envelope,
         t: TxId,
     ) -> Result<Option<(TxId, Story)>, Memory>
-        ensures { IfOk result (λ o. o ≡ hearing_at self.now.doc (past self.now) envelope.now t (script_of t self.now.doc.scripts)) }
+        ensures { IfOk result
+            (λ o. o ≡ hearing_at self.now.doc (past self.now) envelope.now t (script_of t self.now.doc.scripts)) }
     {
         let doc = self.doc();
         let Some(script) = script_of(doc.scripts(), t) else {
@@ -399,7 +402,8 @@ impl<'a> RunState<'a> {
         sid: Ident,
         value: Value,
     ) -> Result<Option<(TxId, Story)>, Memory>
-        ensures { IfOk result (λ o. o ≡ retold t (progressed (with_value j sid value)) (story self.now.doc (past self.now) t)) }
+        ensures { IfOk result
+            (λ o. o ≡ retold t (progressed (with_value j sid value)) (story self.now.doc (past self.now) t)) }
     {
         match self.story(t) {
             None => Ok(None),
@@ -414,7 +418,8 @@ impl<'a> RunState<'a> {
         change: F,
     ) -> Result<Option<(TxId, Story)>, Memory>
         requires { F.IsAlwaysCallable change }
-        ensures { (f : Story → Story) → ((x y : Story) → FnOnceReturnsAtMut F.FnOnce change x tt y → y ≡ f x) → IfOk result (λ o. o ≡ retold t f (story self.now.doc (past self.now) t)) }
+        ensures { (f : Story → Story) → ((x y : Story) → FnOnceReturnsAtMut F.FnOnce change x tt y → y ≡ f x)
+            → IfOk result (λ o. o ≡ retold t f (story self.now.doc (past self.now) t)) }
     {
         let Some(story) = self.story(t) else {
             return Ok(None);

@@ -177,7 +177,8 @@ fn is_counted_vote(
     from: NodeId,
     p: Ident,
 ) -> bool
-    ensures { result ≡ is_counted_vote parts.now (phase_at script.now (Some story.now) home.now) home.now.journal home.now.next from p }
+    ensures { result ≡ is_counted_vote parts.now (phase_at script.now (Some story.now) home.now) home.now.journal
+        home.now.next from p }
 {
     is_collecting(script, story, home)
         && is_small_node(home)
@@ -188,7 +189,8 @@ fn is_counted_vote(
 
 /// Whether an acknowledgement of the node counts, where these are the parts of an open transaction.
 fn is_counted_ack(script: &Script, story: &Story, home: &PlainNode, from: NodeId) -> bool
-    ensures { (ns : List ℕ) → result ≡ is_counted_ack ns (phase_at script.now (Some story.now) home.now) home.now.journal home.now.next from }
+    ensures { (ns : List ℕ) → result
+        ≡ is_counted_ack ns (phase_at script.now (Some story.now) home.now) home.now.journal home.now.next from }
 {
     let records = home.records.as_slice();
     if story.lost || is_closed(records, script.number) {
@@ -210,7 +212,8 @@ pub fn heard(
     message: &Message,
     story: &Story,
 ) -> Result<Story, Memory>
-    ensures { IfOk result (λ x. Some x ≡ heard (parts_of doc.now script.now) (phase_at script.now (Some story.now) home.now) home.now script.now.number from message.now (Some story.now)) }
+    ensures { IfOk result (λ x. Some x ≡ heard (parts_of doc.now script.now)
+        (phase_at script.now (Some story.now) home.now) home.now script.now.number from message.now (Some story.now)) }
 {
     match message {
         Message::Vote {

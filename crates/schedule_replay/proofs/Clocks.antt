@@ -16,6 +16,7 @@ small-max a c f h p q = grind (arith, nat_tests)
 small-floor : (r : List Record) (next : ℕ) → is_small_node r next ≡ true → is_small (floor r) ≡ true
 small-floor r next h = grind arith
 
-pub small-dated : (d : Date) (r : List Record) (next : ℕ) → IsTrue (is_small_node r next) → IsTrue (is_small (date_ident d)) → dated d (commit_id r) < 2 ^ 22
+pub small-dated : (d : Date) (r : List Record) (next : ℕ) → IsTrue (is_small_node r next)
+    → IsTrue (is_small (date_ident d)) → dated d (commit_id r) < 2 ^ 22
 small-dated (date.First sid0) r next h s = small-max sid0 (commit_id r) (floor r) (commit_id-floor r) s (small-floor r next h)
 small-dated (date.At sid) r next h s = grind (arith, nat_tests)

@@ -88,7 +88,8 @@ own-append [] ys p q = q
 own-append (out.Act a ∷ xs) ys p q = grind (arith, own-append xs ys)
 own-append (out.Send to said ∷ xs) ys p q = own-append xs ys p q
 
-counts-append : (k j k' j' : ℕ) (xs ys : List Out) → Counts k j xs → Counts k' j' ys → Counts (k + k') (j + j') (xs ++ ys)
+counts-append : (k j k' j' : ℕ) (xs ys : List Out) → Counts k j xs → Counts k' j' ys
+    → Counts (k + k') (j + j') (xs ++ ys)
 counts-append k j k' j' xs ys p q = record {
   sent = omega (arith, sends-append xs ys, p.sent, q.sent);
   held = omega (arith, helds-append xs ys, p.held, q.held);
@@ -141,7 +142,8 @@ counts-advance c x i = counts-append 0 0 16 0 (owns x.script.number i (own_reads
 counts-served : (n t op : ℕ) (k : Key) (sid x : ℕ) (w : Version) → Counts 1 0 (served n t op k sid x w)
 counts-served n t op k sid x w = record { sent = omega arith; held = omega arith; own = refl }
 
-counts-release : (c : ClusterData) (r : List Record) (n : ℕ) (hs : List HeldRead) → Counts (length hs) 0 (release c r n hs)
+counts-release : (c : ClusterData) (r : List Record) (n : ℕ) (hs : List HeldRead)
+    → Counts (length hs) 0 (release c r n hs)
 counts-release c r n [] = counts-none 0 0
 counts-release c r n (h ∷ hs) = counts-more (1 + length hs) 0 (length (h ∷ hs)) 0 (release c r n (h ∷ hs)) (omega arith) (omega arith) (counts-append 1 0 (length hs) 0 (if is_clear h.sid r then served n h.t h.op h.key h.sid h.from (version_for c r h.key h.sid) else []) (release c r n hs) (counts-if (is_clear h.sid r) 1 0 _ [] (counts-served n h.t h.op h.key h.sid h.from (version_for c r h.key h.sid)) (counts-none 1 0)) (counts-release c r n hs))
 
@@ -158,7 +160,8 @@ counts-answered false n x q sid w = record { sent = omega arith; held = omega ar
 counts-read : (n : ℕ) (p : Participant) (x : ℕ) (q : ReadReq) (sid : ℕ) → Counts 1 1 (read_outs n p x q sid)
 counts-read n p x q sid = counts-append 0 0 1 1 (ceilings n (floor p.journal) sid) _ (counts-ceilings n (floor p.journal) sid) (counts-append 0 0 1 1 (raises n p.next sid) _ (counts-raises n p.next sid) (counts-answered (is_clear sid p.journal) n x q sid (version_for p.cluster p.journal q.key sid)))
 
-counts-taken : (t op sid value : ℕ) (os : List Out) → Counts 16 0 os → Counts 16 0 (out.Act (act.Taken t op sid value) ∷ os)
+counts-taken : (t op sid value : ℕ) (os : List Out) → Counts 16 0 os
+    → Counts 16 0 (out.Act (act.Taken t op sid value) ∷ os)
 counts-taken t op sid value os p = record { sent = p.sent; held = p.held; own = p.own }
 
 counts-reply : (c : ClusterData) (q : ReadRep) (s : Stage) → Counts 16 0 (reply_outs c q s)
@@ -176,7 +179,8 @@ counts-judged n x t (Some u) y p = record { sent = omega arith; held = omega ari
 counts-judged n x t None (Some y) p = record { sent = omega arith; held = omega arith; own = refl }
 counts-judged n x t None None p = record { sent = omega arith; held = omega arith; own = refl }
 
-counts-prepare : (n x t : ℕ) (o : Option Outcome) (mine u : Option ℕ) (y : Option (Key × ℕ)) (p : ℕ) → Counts 1 0 (prepared_outs n x t o mine u y p)
+counts-prepare : (n x t : ℕ) (o : Option Outcome) (mine u : Option ℕ) (y : Option (Key × ℕ)) (p : ℕ)
+    → Counts 1 0 (prepared_outs n x t o mine u y p)
 counts-prepare n x t (Some o) mine u y p = counts-none 1 0
 counts-prepare n x t None (Some q) u y p = record { sent = omega arith; held = omega arith; own = refl }
 counts-prepare n x t None None u y p = counts-judged n x t u y p
@@ -187,7 +191,8 @@ counts-tells t o ns h = counts-more (length ns) 0 16 0 (tells t o ns) h (omega a
 counts-decides : (t f : ℕ) (ns : List ℕ) → length ns ≤ 16 → Counts 16 0 (decides t f ns)
 counts-decides t f ns h = let p : Counts 16 0 (tells t (outcome.Commit f) ns) = counts-tells t (outcome.Commit f) ns h in record { sent = p.sent; held = p.held; own = p.own }
 
-counts-ballot : (t : ℕ) (ns : List ℕ) (votes : List Voted) (x : ℕ) (b : Ballot) → length ns ≤ 16 → Counts 16 0 (ballot_outs t ns votes x b)
+counts-ballot : (t : ℕ) (ns : List ℕ) (votes : List Voted) (x : ℕ) (b : Ballot) → length ns ≤ 16
+    → Counts 16 0 (ballot_outs t ns votes x b)
 counts-ballot t ns votes x (ballot.Yes p) h = counts-if _ 16 0 _ [] (counts-decides t _ ns h) (counts-none 16 0)
 counts-ballot t ns votes x (ballot.No why) h =
     let short : length (others x ns) ≤ 16 = omega (arith, filter-short (λ m. not (m == x)) ns, h) in
@@ -221,22 +226,26 @@ counts-peer t x (Some o) = record { sent = omega arith; held = omega arith; own 
 
 -- ---- ends
 
-counts-commit : (n t f h : ℕ) (o : Option ℕ) (done : Bool) (ack freed : List Out) → Counts 1 0 ack → Counts h 0 freed → Counts (1 + h) 0 (commit_outs n t f o done ack ++ if_pending o freed)
+counts-commit : (n t f h : ℕ) (o : Option ℕ) (done : Bool) (ack freed : List Out) → Counts 1 0 ack → Counts h 0 freed
+    → Counts (1 + h) 0 (commit_outs n t f o done ack ++ if_pending o freed)
 counts-commit n t f h (Some p) done ack freed a r = let all : Counts (1 + h) 0 (ack ++ freed) = counts-append 1 0 h 0 ack freed a r in record { sent = all.sent; held = all.held; own = all.own }
 counts-commit n t f h None true ack freed a r = counts-append 1 0 h 0 ack [] a (counts-none h 0)
 counts-commit n t f h None false ack freed a r = counts-none (1 + h) 0
 
-counts-abort : (n t h : ℕ) (o : Option ℕ) (freed : List Out) → Counts h 0 freed → Counts (1 + h) 0 (abort_outs n t o ++ if_pending o freed)
+counts-abort : (n t h : ℕ) (o : Option ℕ) (freed : List Out) → Counts h 0 freed
+    → Counts (1 + h) 0 (abort_outs n t o ++ if_pending o freed)
 counts-abort n t h (Some p) freed r = let all : Counts (1 + h) 0 freed = counts-more h 0 (1 + h) 0 freed (omega arith) (omega arith) r in record { sent = all.sent; held = all.held; own = all.own }
 counts-abort n t h None freed r = counts-none (1 + h) 0
 
-counts-tell : (n : ℕ) (p : Participant) (held : List HeldRead) (t : ℕ) (o : Outcome) → Counts (1 + length held) 0 (tell_outs n p held t o)
+counts-tell : (n : ℕ) (p : Participant) (held : List HeldRead) (t : ℕ) (o : Outcome)
+    → Counts (1 + length held) 0 (tell_outs n p held t o)
 counts-tell n p held t (outcome.Commit f) = counts-commit n t f (length held) (pending t p.journal) (is_commit (ended t p.journal)) (to_node (home_of t p.journal) (message.Ack t)) (freed_by n p held t (outcome.Commit f)) (counts-to_node (home_of t p.journal) (message.Ack t)) (counts-release p.cluster (record'.Ended t (outcome.Commit f) ∷ p.journal) n held)
 counts-tell n p held t outcome.Abort = counts-abort n t (length held) (pending t p.journal) (freed_by n p held t outcome.Abort) (counts-release p.cluster (record'.Ended t outcome.Abort ∷ p.journal) n held)
 
 -- ---- the table
 
-pub counts-row : (n : ℕ) (p : Participant) (held : List HeldRead) (s : Stage) (x : ℕ) (said : Message) → Counts (16 + length held) 1 (message_outs n p held s x said)
+pub counts-row : (n : ℕ) (p : Participant) (held : List HeldRead) (s : Stage) (x : ℕ) (said : Message)
+    → Counts (16 + length held) 1 (message_outs n p held s x said)
 counts-row n p held s x (message.ReadReq q) = counts-more 1 1 _ 1 _ (omega arith) (omega arith) (counts-read n p x q _)
 counts-row n p held s x (message.ReadRep q) = counts-more 16 0 _ 1 _ (omega arith) (omega arith) (counts-reply p.cluster q s)
 counts-row n p held s x (message.Prepare q) = counts-more 1 0 _ 1 _ (omega arith) (omega arith) (counts-prepare n x q.t _ _ _ _ _)
@@ -246,7 +255,8 @@ counts-row n p held s x (message.Ack t) = counts-more 0 0 _ 1 _ (omega arith) (o
 counts-row n p held s x (message.Ask t) = counts-more 1 0 _ 1 _ (omega arith) (omega arith) (counts-ask_row t x s)
 counts-row n p held s x (message.AskPeer t) = counts-more 1 0 _ 1 _ (omega arith) (omega arith) (counts-peer t x (ended t p.journal))
 
-pub counts-answer : (n : ℕ) (p : Participant) (held : List HeldRead) (s : Stage) (x : ℕ) (said : Message) → Counts (16 + length held) 1 (answer_at n p held s x said)
+pub counts-answer : (n : ℕ) (p : Participant) (held : List HeldRead) (s : Stage) (x : ℕ) (said : Message)
+    → Counts (16 + length held) 1 (answer_at n p held s x said)
 counts-answer n p held s x said = counts-if (is_fit_at n p s x said) (16 + length held) 1 (message_outs n p held s x said) [] (counts-row n p held s x said) (counts-none (16 + length held) 1)
 
 pub counts-begin : (n : ℕ) (p : Participant) (s : ScriptData) (floor : ℕ) → Counts 16 0 (begin_outs n p s floor)

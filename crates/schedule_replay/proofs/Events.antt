@@ -28,19 +28,24 @@ use Rattle.schedule_replay.proofs.Reopened.{are_lost, losses-lost, lost-posts, l
 
 -- ---- what nodes give
 
-pub few-begin : (d : DocumentData) (past : List Act) (k : ℕ) (s : ScriptData) → IsFew d past k → Counts (16 + k) 1 (begin_outs s.home (participant (view d past s.home)) s (floor_at d past s))
+pub few-begin : (d : DocumentData) (past : List Act) (k : ℕ) (s : ScriptData) → IsFew d past k
+    → Counts (16 + k) 1 (begin_outs s.home (participant (view d past s.home)) s (floor_at d past s))
 few-begin d past k s f = counts-more 16 0 (16 + k) 1 (begin_outs s.home (participant (view d past s.home)) s (floor_at d past s)) (omega arith) (omega arith) (counts-begin s.home (participant (view d past s.home)) s (floor_at d past s))
 
-pub few-answer : (d : DocumentData) (past : List Act) (k : ℕ) (e : Envelope) → IsFew d past k → Counts (16 + k) 1 (answer e.to (view d past e.to) e.from e.message)
+pub few-answer : (d : DocumentData) (past : List Act) (k : ℕ) (e : Envelope) → IsFew d past k
+    → Counts (16 + k) 1 (answer e.to (view d past e.to) e.from e.message)
 few-answer d past k e f = counts-more (16 + length (node d past e.to).held) 1 (16 + k) 1 (answer e.to (view d past e.to) e.from e.message) (omega (arith, f.held_few e.to)) (omega arith) (counts-answer e.to (participant (view d past e.to)) (view d past e.to).held (stage (view d past e.to) (tx_in e.message)) e.from e.message)
 
-pub few-retry : (d : DocumentData) (past : List Act) (k n t : ℕ) → IsFew d past k → Counts (16 + k) 1 (retry_outs d.cluster t (stage (view d past n) t))
+pub few-retry : (d : DocumentData) (past : List Act) (k n t : ℕ) → IsFew d past k
+    → Counts (16 + k) 1 (retry_outs d.cluster t (stage (view d past n) t))
 few-retry d past k n t f = counts-more 16 0 (16 + k) 1 (retry_outs d.cluster t (stage (view d past n) t)) (omega arith) (omega arith) (counts-retry d.cluster t (stage (view d past n) t) (short-at d past n t _ _))
 
-pub few-ask : (d : DocumentData) (past : List Act) (k n t : ℕ) → IsFew d past k → Counts (16 + k) 1 (ask_outs (participant (view d past n)) t)
+pub few-ask : (d : DocumentData) (past : List Act) (k n t : ℕ) → IsFew d past k
+    → Counts (16 + k) 1 (ask_outs (participant (view d past n)) t)
 few-ask d past k n t f = counts-more 1 0 (16 + k) 1 (ask_outs (participant (view d past n)) t) (omega arith) (omega arith) (counts-ask (participant (view d past n)) t)
 
-pub few-ask_peer : (d : DocumentData) (past : List Act) (k n t m : ℕ) → IsFew d past k → Counts (16 + k) 1 (ask_peer_outs (participant (view d past n)) t m)
+pub few-ask_peer : (d : DocumentData) (past : List Act) (k n t m : ℕ) → IsFew d past k
+    → Counts (16 + k) 1 (ask_peer_outs (participant (view d past n)) t m)
 few-ask_peer d past k n t m f = counts-more 1 0 (16 + k) 1 (ask_peer_outs (participant (view d past n)) t m) (omega arith) (omega arith) (counts-ask_peer (participant (view d past n)) t m)
 
 few-compact : (k n : ℕ) → Counts (16 + k) 1 (compact_outs n)
@@ -69,7 +74,8 @@ adds-opened d past k n f =
       held = omega (arith, lost-holdings (losses d (act.Up n f ∷ past) n) lost);
     }
 
-few-again : (d : DocumentData) (past : List Act) (k n : ℕ) (os : List Out) → IsFew d past k → IsAgain d past n os → Counts (16 + k) 1 os
+few-again : (d : DocumentData) (past : List Act) (k n : ℕ) (os : List Out) → IsFew d past k → IsAgain d past n os
+    → Counts (16 + k) 1 os
 few-again d past k n os f (retries t is) = rw is (few-retry d past k n t f)
 few-again d past k n os f (asks t is) = rw is (few-ask d past k n t f)
 few-again d past k n os f (asks_peer t m is) = rw is (few-ask_peer d past k n t m f)
@@ -89,7 +95,8 @@ adds-shape d past k i f (again n os up is) = adds-acts past (16 + k) n os (few-a
 adds-played : (d : DocumentData) (past : List Act) (k : ℕ) (i : Item) → IsFew d past k → Adds (16 + k) (played d past i)
 adds-played d past k i f = by-shape d past i calm (Adds (16 + k)) (adds-shape d past k i f)
 
-few-played : (d : DocumentData) (past : List Act) (k : ℕ) (i : Item) → k ≤ 50000 → IsFew d past k → IsFew d (after past (played d past i)) (k + 1)
+few-played : (d : DocumentData) (past : List Act) (k : ℕ) (i : Item) → k ≤ 50000 → IsFew d past k
+    → IsFew d (after past (played d past i)) (k + 1)
 few-played d past k i h f =
     let a : Adds (16 + k) (played d past i) = adds-played d past k i f in
     record {
@@ -102,10 +109,12 @@ few-played d past k i h f =
 pub room-less : (d : DocumentData) (past : List Act) (e e' : ℕ) → e' ≤ e → HasRoom d past e → HasRoom d past e'
 room-less d past e e' h r = record { before = r.before; few = r.few; room = omega (arith, r.room, h) }
 
-pub room-event : (d : DocumentData) (past : List Act) (i : Item) (e : ℕ) → HasRoom d past (1 + e) → HasRoom d (after past (played d past i)) e
+pub room-event : (d : DocumentData) (past : List Act) (i : Item) (e : ℕ) → HasRoom d past (1 + e)
+    → HasRoom d (after past (played d past i)) e
 room-event d past i e r = record { before = r.before + 1; few = few-played d past r.before i (omega (arith, r.room)) r.few; room = omega (arith, r.room) }
 
-pub room-events : (d : DocumentData) (past : List Act) (es : List Item) (e : ℕ) → HasRoom d past (length es + e) → HasRoom d (after past (plays d past es)) e
+pub room-events : (d : DocumentData) (past : List Act) (es : List Item) (e : ℕ) → HasRoom d past (length es + e)
+    → HasRoom d (after past (plays d past es)) e
 room-events d past [] e r = room-less d past (0 + e) e (omega arith) r
 room-events d past (x ∷ es) e r =
     let one : HasRoom d past (1 + (length es + e)) = room-less d past (length (x ∷ es) + e) (1 + (length es + e)) (omega arith) r in
@@ -113,7 +122,8 @@ room-events d past (x ∷ es) e r =
 
 -- ---- events behind events
 
-pub plays-append : (d : DocumentData) (past : List Act) (xs ys : List Item) → plays d past (xs ++ ys) ≡ plays d past xs ++ plays d (after past (plays d past xs)) ys
+pub plays-append : (d : DocumentData) (past : List Act) (xs ys : List Item)
+    → plays d past (xs ++ ys) ≡ plays d past xs ++ plays d (after past (plays d past xs)) ys
 plays-append d past [] ys = refl
 plays-append d past (x ∷ xs) ys =
     let p : List Act = after past (played d past x) in
@@ -122,7 +132,9 @@ plays-append d past (x ∷ xs) ys =
     ∙ ap (λ z. (played d past x ++ plays d p xs) ++ plays d z ys) (sym (after-append past (played d past x) (plays d p xs)))
 
 -- these acts, and behind them the events that are left
-pub plays-more : (d : DocumentData) (acts : List Act) (xs ys : List Item) → (acts ++ plays d (after [] acts) xs) ++ plays d (after [] (acts ++ plays d (after [] acts) xs)) ys ≡ acts ++ plays d (after [] acts) (xs ++ ys)
+pub plays-more : (d : DocumentData) (acts : List Act) (xs ys : List Item)
+    → (acts ++ plays d (after [] acts) xs) ++ plays d (after [] (acts ++ plays d (after [] acts) xs)) ys
+    ≡ acts ++ plays d (after [] acts) (xs ++ ys)
 plays-more d acts xs ys =
     append_assoc acts (plays d (after [] acts) xs) _
     ∙ ap (λ z. acts ++ (plays d (after [] acts) xs ++ plays d z ys)) (after-append [] acts (plays d (after [] acts) xs))

@@ -14,15 +14,19 @@ open_left None x = refl
 open_left (Some j) x = refl
 
 -- what was not decided
-pub undecided_left : (ops : List Op) (x : Story) → left_by (undecided_phase ops x) (Some x) ≡ (if not x.aborted && (x.finished && not (is_update ops)) then snapshot_in (Some x) else 0)
+pub undecided_left : (ops : List Op) (x : Story) → left_by (undecided_phase ops x) (Some x)
+    ≡ (if not x.aborted && (x.finished && not (is_update ops)) then snapshot_in (Some x) else 0)
 undecided_left ops x = go x.aborted (x.finished && not (is_update ops))
   where
-    go : (a f : Bool) → left_by (if a then Aborted else (if f then Answered else open_phase (waiting ops x.progress.values))) (Some x) ≡ (if not a && f then snapshot_in (Some x) else 0)
+    go : (a f : Bool)
+        → left_by (if a then Aborted else (if f then Answered else open_phase (waiting ops x.progress.values))) (Some x)
+        ≡ (if not a && f then snapshot_in (Some x) else 0)
     go true f = refl
     go false true = refl
     go false false = open_left (waiting ops x.progress.values) (Some x)
 
 -- what was decided
-pub decided_left : (ops : List Op) (x : Story) (closed : Bool) (y : Decision) → left_by (decided_phase ops x closed (Some y)) (Some x) ≡ y.final
+pub decided_left : (ops : List Op) (x : Story) (closed : Bool) (y : Decision)
+    → left_by (decided_phase ops x closed (Some y)) (Some x) ≡ y.final
 decided_left ops x true y = refl
 decided_left ops x false y = refl

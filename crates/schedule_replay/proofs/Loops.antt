@@ -15,22 +15,30 @@ use Rattle.schedule_replay.proofs.Posts.{posts, holdings, sent-after, held-after
 use Rattle.schedule_replay.proofs.Events.{plays-more, room-event, room-events, room-less}
 use Rattle.schedule_replay.proofs.ForCode.{after-append, length-events_in}
 
-pub told-event : (d : DocumentData) (acts acts' : List Act) (x : Item) (es : List Item) (all : List Act) → acts' ≡ acts ++ played d (after [] acts) x → acts ++ plays d (after [] acts) (x ∷ es) ≡ all → acts' ++ plays d (after [] acts') es ≡ all
+pub told-event : (d : DocumentData) (acts acts' : List Act) (x : Item) (es : List Item) (all : List Act)
+    → acts' ≡ acts ++ played d (after [] acts) x → acts ++ plays d (after [] acts) (x ∷ es) ≡ all
+    → acts' ++ plays d (after [] acts') es ≡ all
 told-event d acts acts' x es all e told = rw e (append_assoc acts (played d (after [] acts) x) _ ∙ ap (λ z. acts ++ (played d (after [] acts) x ++ plays d z es)) (after-append [] acts (played d (after [] acts) x)) ∙ told)
 
-pub left-event : (d : DocumentData) (acts acts' : List Act) (x : Item) (e : ℕ) → acts' ≡ acts ++ played d (after [] acts) x → HasRoom d (after [] acts) (1 + e) → HasRoom d (after [] acts') e
+pub left-event : (d : DocumentData) (acts acts' : List Act) (x : Item) (e : ℕ)
+    → acts' ≡ acts ++ played d (after [] acts) x → HasRoom d (after [] acts) (1 + e) → HasRoom d (after [] acts') e
 left-event d acts acts' x e at room = rw (at, after-append [] acts (played d (after [] acts) x)) (room-event d (after [] acts) x e room)
 
-pub told-item : (d : DocumentData) (acts acts' : List Act) (xs ys : List Item) (all : List Act) → acts' ≡ acts ++ plays d (after [] acts) xs → acts ++ plays d (after [] acts) (xs ++ ys) ≡ all → acts' ++ plays d (after [] acts') ys ≡ all
+pub told-item : (d : DocumentData) (acts acts' : List Act) (xs ys : List Item) (all : List Act)
+    → acts' ≡ acts ++ plays d (after [] acts) xs → acts ++ plays d (after [] acts) (xs ++ ys) ≡ all
+    → acts' ++ plays d (after [] acts') ys ≡ all
 told-item d acts acts' xs ys all e told = rw e (plays-more d acts xs ys ∙ told)
 
-pub left-item : (d : DocumentData) (acts acts' : List Act) (i : Item) (e : ℕ) → acts' ≡ acts ++ plays d (after [] acts) (events_in i) → HasRoom d (after [] acts) (events_of i + e) → HasRoom d (after [] acts') e
+pub left-item : (d : DocumentData) (acts acts' : List Act) (i : Item) (e : ℕ)
+    → acts' ≡ acts ++ plays d (after [] acts) (events_in i) → HasRoom d (after [] acts) (events_of i + e)
+    → HasRoom d (after [] acts') e
 left-item d acts acts' i e at room =
     let here : HasRoom d (after [] acts) (length (events_in i) + e) = room-less d (after [] acts) (events_of i + e) (length (events_in i) + e) (omega (arith, length-events_in i)) room in
     rw (at, after-append [] acts (plays d (after [] acts) (events_in i))) (room-events d (after [] acts) (events_in i) e here)
 
 -- the first of the items that are left
-pub drop-item : (is : List Item) (i : ℕ) (x : Item) → i < length is → x ≡ get_or is i x → drop i is ≡ x ∷ drop (i + 1) is
+pub drop-item : (is : List Item) (i : ℕ) (x : Item) → i < length is → x ≡ get_or is i x
+    → drop i is ≡ x ∷ drop (i + 1) is
 drop-item is i x h e = drop_more is i x h ∙ ap (λ y. y ∷ drop (i + 1) is) (sym e)
 
 pub sum-item : (x : Item) (is : List Item) → sum_by events_of (x ∷ is) ≡ events_of x + sum_by events_of is

@@ -1,6 +1,6 @@
 -- Where nothing in doubt is found, a node that is opened loses the transactions that were open before.
-use Rattle.std.proofs.Common.{◌≡◌, ℕ, Bool, true, false, List, [], ◌∷◌, refl, ap, ◌∙◌, Option, Some, None, if◌then◌else◌}
-use Rattle.std.specs.Prelude.{◌==◌, ◌&&◌}
+use Rattle.std.proofs.Common.{◌≡◌, ℕ, Bool, true, false, List, [], ◌∷◌, refl, ap, Option, Some, None}
+use Rattle.std.specs.Prelude.{◌==◌}
 use Rattle.std.specs.List.{flat_map}
 use Rattle.score_base.specs.declared.records.Record.{Record}
 use Rattle.script_lang.specs.Scripts.{ScriptData}
@@ -10,8 +10,7 @@ use Rattle.grid_model.specs.declared.acts.Flag.{Flag}
 use Rattle.grid_model.specs.Documents.{DocumentData, number_order, script_numbers}
 use Rattle.grid_model.specs.Nodes.{Node, Starts, node, changed, where_at, is_kept, script_of}
 use Rattle.grid_model.specs.Disks.{is_compacting}
-use Rattle.grid_model.specs.Stories.{phase}
-use Rattle.grid_model.specs.Schedules.{flag_at, lost_at, losses, opened_row, restart_row}
+use Rattle.grid_model.specs.Schedules.{flag_at, lost_at, restart_row}
 use Rattle.grid_laws.specs.CalmRuns.{calm}
 
 unfound : (b : Bool) (o : Option Record) → is_kept (flag_at b o false) ≡ false

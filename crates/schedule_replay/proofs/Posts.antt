@@ -42,7 +42,8 @@ holdings-numbered m n (out.Send to said ∷ os) = holdings-numbered (m + 1) n os
 
 -- ---- messages
 
-sent-one : (a : Act) (acts : List Act) (past : List Act) → length (sent (a ∷ past)) + posts acts ≡ length (sent past) + posts (a ∷ acts)
+sent-one : (a : Act) (acts : List Act) (past : List Act)
+    → length (sent (a ∷ past)) + posts acts ≡ length (sent past) + posts (a ∷ acts)
 sent-one (act.Sent m x y said) acts past = omega (arith, length-append (sent past) (record { from = x; to = y; message = said } ∷ []))
 sent-one a acts past = refl
 
@@ -56,7 +57,8 @@ without-short : (t op : ℕ) (k : Key) (sid : ℕ) (hs : List HeldRead) → leng
 without-short t op k sid [] = omega arith
 without-short t op k sid (h ∷ hs) = go (is_read t op k sid h) (without-short t op k sid hs)
   where
-    go : (b : Bool) → length (without_read t op k sid hs) ≤ length hs → length (if b then hs else h ∷ without_read t op k sid hs) ≤ length (h ∷ hs)
+    go : (b : Bool) → length (without_read t op k sid hs) ≤ length hs
+        → length (if b then hs else h ∷ without_read t op k sid hs) ≤ length (h ∷ hs)
     go true p = omega arith
     go false p = omega (arith, p)
 
@@ -65,19 +67,23 @@ held-longer None hs = omega arith
 held-longer (Some h) hs = omega (arith, length-append hs (h ∷ []))
 
 -- a change that holds no read
-held-at : (b : Bool) (c : Change) (x : Node) → length (changed c x).held ≤ length x.held → length (changed (where_at b c) x).held ≤ length x.held
+held-at : (b : Bool) (c : Change) (x : Node) → length (changed c x).held ≤ length x.held
+    → length (changed (where_at b c) x).held ≤ length x.held
 held-at true c x p = p
 held-at false c x p = omega arith
 
-held-one-at : (b : Bool) (o : Option HeldRead) (x : Node) → length (changed (where_at b (Holds o)) x).held ≤ length x.held + 1
+held-one-at : (b : Bool) (o : Option HeldRead) (x : Node)
+    → length (changed (where_at b (Holds o)) x).held ≤ length x.held + 1
 held-one-at true o x = held-longer o x.held
 held-one-at false o x = omega arith
 
-held-freed : (b : Bool) (t op : ℕ) (k : Key) (sid : ℕ) (x : Node) → length (changed (freed b t op k sid) x).held ≤ length x.held
+held-freed : (b : Bool) (t op : ℕ) (k : Key) (sid : ℕ) (x : Node)
+    → length (changed (freed b t op k sid) x).held ≤ length x.held
 held-freed true t op k sid x = omega arith
 held-freed false t op k sid x = without-short t op k sid x.held
 
-held-one : (d : DocumentData) (e : Option Envelope) (a : Act) (acts : List Act) (n : ℕ) (x : Node) → length (changed (change d e a n) x).held + holdings acts ≤ length x.held + holdings (a ∷ acts)
+held-one : (d : DocumentData) (e : Option Envelope) (a : Act) (acts : List Act) (n : ℕ) (x : Node)
+    → length (changed (change d e a n) x).held + holdings acts ≤ length x.held + holdings (a ∷ acts)
 held-one d e (act.Held m t op sid) acts n x = omega (arith, held-one-at (m == n) (held_by e t op sid) x)
 held-one d e (act.Served m t op k sid vn v) acts n x = omega (arith, held-at (m == n) (freed (is_request (said_by e)) t op k sid) x (held-freed (is_request (said_by e)) t op k sid x))
 held-one d e (act.Prepared m t p) acts n x = omega (arith, held-at (m == n) (Writes (prepared_by e t p)) x (omega arith))
@@ -91,7 +97,8 @@ held-one d e (act.Up m f) acts n x = omega (arith, held-at (m == n) (Starts (is_
 held-one d e (act.StillDown m) acts n x = omega (arith, held-at (m == n) Stays x (omega arith))
 held-one d e a acts n x = omega arith
 
-pub held-after : (d : DocumentData) (past acts : List Act) (n : ℕ) → length (node d (after past acts) n).held ≤ length (node d past n).held + holdings acts
+pub held-after : (d : DocumentData) (past acts : List Act) (n : ℕ)
+    → length (node d (after past acts) n).held ≤ length (node d past n).held + holdings acts
 held-after d past [] n = omega arith
 held-after d past (a ∷ acts) n = omega (arith, held-after d (a ∷ past) acts n, held-one d (got past) a acts n (node d past n))
 

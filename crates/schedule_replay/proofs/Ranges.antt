@@ -1,17 +1,13 @@
--- Counting up, and counting what is left.
+-- Counting what is left.
 use Rattle.std.proofs.Common.{◌≡◌, ℕ, suc, ◌+◌, ◌-◌, ◌<◌, ◌∷◌, List, true, refl, arith, replicate}
-use Rattle.std.specs.List.{range_with_len}
 use Rattle.grid_model.specs.declared.acts.Act.{Act}
 use Rattle.grid_model.specs.Schedules.{first_left}
 use Rattle.grid_model.specs.Histories.{is_gone}
-
--- the first of the numbers that are left
-pub range_more : (a n i : ℕ) → i < n → range_with_len a (n - i) ≡ a ∷ range_with_len (a + 1) (n - (i + 1))
-range_more a n i h = let e : n - i ≡ suc (n - (i + 1)) = omega arith in rw e refl
 
 pub replicate_more : {A : Type 0} (n i : ℕ) (x : A) → i < n → replicate (n - i) x ≡ x ∷ replicate (n - (i + 1)) x
 replicate_more n i x h = let e : n - i ≡ suc (n - (i + 1)) = omega arith in rw e refl
 
 -- a message that is gone
-pub left_more : (past : List Act) (n m : ℕ) → m < n → is_gone past m ≡ true → first_left past (m + 1) (n - (m + 1)) ≡ first_left past m (n - m)
+pub left_more : (past : List Act) (n m : ℕ) → m < n → is_gone past m ≡ true
+    → first_left past (m + 1) (n - (m + 1)) ≡ first_left past m (n - m)
 left_more past n m h gone = let e : n - m ≡ suc (n - (m + 1)) = omega arith in rw (e, gone) refl

@@ -28,7 +28,8 @@ lost-one : (d : DocumentData) (past : List Act) (n : ℕ) (s : Option ScriptData
 lost-one d past n None = refl
 lost-one d past n (Some s) = lost-if ((s.home == n) && is_open (phase d past s)) s.number
 
-lost-all : (d : DocumentData) (past : List Act) (n : ℕ) (ts : List ℕ) → are_lost (flat_map (λ t. lost_at d past n (script_of t d.scripts)) ts) ≡ true
+lost-all : (d : DocumentData) (past : List Act) (n : ℕ) (ts : List ℕ)
+    → are_lost (flat_map (λ t. lost_at d past n (script_of t d.scripts)) ts) ≡ true
 lost-all d past n [] = refl
 lost-all d past n (t ∷ ts) = lost-append (lost_at d past n (script_of t d.scripts)) (flat_map (λ u. lost_at d past n (script_of u d.scripts)) ts) (lost-one d past n (script_of t d.scripts)) (lost-all d past n ts)
 

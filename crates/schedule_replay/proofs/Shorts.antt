@@ -68,11 +68,13 @@ short-found : (b : Bool) (o : Option Record) (r : List Record) → IsShortOption
 short-found true o r p q = short-written o r p q
 short-found false o r p q = q
 
-short-writes : (b : Bool) (o : Option Record) (x : Node) → IsShortOption o → IsShortNode x → IsShortNode (changed (where_at b (Writes o)) x)
+short-writes : (b : Bool) (o : Option Record) (x : Node) → IsShortOption o → IsShortNode x
+    → IsShortNode (changed (where_at b (Writes o)) x)
 short-writes true o x p s = record { journal = short-written o x.journal p s.journal; doubt = s.doubt }
 short-writes false o x p s = s
 
-short-stops : (b : Bool) (o : Option Record) (x : Node) → IsShortOption o → IsShortNode x → IsShortNode (changed (where_at b (Stops o)) x)
+short-stops : (b : Bool) (o : Option Record) (x : Node) → IsShortOption o → IsShortNode x
+    → IsShortNode (changed (where_at b (Stops o)) x)
 short-stops true o x p s = record { journal = s.journal; doubt = p }
 short-stops false o x p s = s
 
@@ -81,19 +83,23 @@ short-starts true kept x s = record { journal = short-found kept x.doubt x.journ
 short-starts false kept x s = s
 
 -- a change of neither the journal nor the record in doubt
-short-same : (b : Bool) (c : Change) (x : Node) → (changed c x).journal ≡ x.journal → (changed c x).doubt ≡ x.doubt → IsShortNode x → IsShortNode (changed (where_at b c) x)
+short-same : (b : Bool) (c : Change) (x : Node) → (changed c x).journal ≡ x.journal → (changed c x).doubt ≡ x.doubt
+    → IsShortNode x → IsShortNode (changed (where_at b c) x)
 short-same true c x e f s = record { journal = rw e s.journal; doubt = rw f s.doubt }
 short-same false c x e f s = s
 
-freed-journal : (b : Bool) (t op : ℕ) (k : List ℕ) (sid : ℕ) (x : Node) → (changed (freed b t op k sid) x).journal ≡ x.journal
+freed-journal : (b : Bool) (t op : ℕ) (k : List ℕ) (sid : ℕ) (x : Node)
+    → (changed (freed b t op k sid) x).journal ≡ x.journal
 freed-journal true t op k sid x = refl
 freed-journal false t op k sid x = refl
 
-pub freed-doubt : (b : Bool) (t op : ℕ) (k : List ℕ) (sid : ℕ) (x : Node) → (changed (freed b t op k sid) x).doubt ≡ x.doubt
+pub freed-doubt : (b : Bool) (t op : ℕ) (k : List ℕ) (sid : ℕ) (x : Node)
+    → (changed (freed b t op k sid) x).doubt ≡ x.doubt
 freed-doubt true t op k sid x = refl
 freed-doubt false t op k sid x = refl
 
-short-change : (d : DocumentData) (e : Option Envelope) (a : Act) (n : ℕ) (x : Node) → IsShortNode x → IsShortNode (changed (change d e a n) x)
+short-change : (d : DocumentData) (e : Option Envelope) (a : Act) (n : ℕ) (x : Node) → IsShortNode x
+    → IsShortNode (changed (change d e a n) x)
 short-change d e (act.Prepared m t p) n x s = short-writes (m == n) (prepared_by e t p) x (short-prepared_by e t p) s
 short-change d e (act.Ended m t o) n x s = short-writes (m == n) (Some (record'.Ended t o)) x (omega arith) s
 short-change d e (act.Ceiling m c) n x s = short-writes (m == n) (Some (record'.Ceiling c)) x (omega arith) s
@@ -118,7 +124,8 @@ abbrev IsShortDecision : Option Decision → Type 0
 IsShortDecision None = 0 ≤ 16
 IsShortDecision (Some y) = length y.parts ≤ 16
 
-short-if : (b : Bool) (o o' : Option Decision) → IsShortDecision o → IsShortDecision o' → IsShortDecision (if b then o else o')
+short-if : (b : Bool) (o o' : Option Decision) → IsShortDecision o → IsShortDecision o'
+    → IsShortDecision (if b then o else o')
 short-if true o o' p q = p
 short-if false o o' p q = q
 
@@ -141,7 +148,8 @@ short-stage None (Some x) acks p = go (waiting x.script.ops x.progress.values)
     go (Some j) = omega arith
 
 -- where a transaction stands behind a past, its parts are at most 16
-pub short-at : (d : DocumentData) (past : List Act) (n t : ℕ) (x : Option Open) (acks : List ℕ) → IsShort (stage_by (undone t (node d past n).journal) x acks)
+pub short-at : (d : DocumentData) (past : List Act) (n t : ℕ) (x : Option Open) (acks : List ℕ)
+    → IsShort (stage_by (undone t (node d past n).journal) x acks)
 short-at d past n t x acks =
     let r : List Record = (node d past n).journal in
     short-stage (undone t r) x acks (short-if (is_closed t r) None (decision t r) (omega arith) (short-decision t r (short-node d past n).journal))

@@ -73,7 +73,8 @@ fn push_request_of(
     place: usize,
     op: Option<&Op>,
 ) -> Result<(), Memory>
-    ensures { OnOk result (outs.new.items ≡ outs.old.items ++ request_of cluster.now tx.now j place (option_copied op.entry)) }
+    ensures { OnOk result
+        (outs.new.items ≡ outs.old.items ++ request_of cluster.now tx.now j place (option_copied op.entry)) }
 {
     let Some(op) = op else {
         return Ok(());
@@ -163,7 +164,8 @@ fn writes_for(
     mine: &Reads,
     n: NodeId,
 ) -> Result<WriteList, Memory>
-    ensures { (m : Map) → value_in mine.now ≡ m → IfOk result (λ ws. ws ≡ map (λ k. (k, m k)) (filter (holds cluster.now.places n) (written_keys [] script.now.ops))) }
+    ensures { (m : Map) → value_in mine.now ≡ m → IfOk result
+        (λ ws. ws ≡ map (λ k. (k, m k)) (filter (holds cluster.now.places n) (written_keys [] script.now.ops))) }
 {
     let keys = write_keys(alloc, script)?;
     let keys = held_keys(alloc, cluster, n, keys.as_slice())?;

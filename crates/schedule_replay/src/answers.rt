@@ -51,7 +51,8 @@ fn row_of(
     message: &Message,
 ) -> Result<Vec<Out>, Memory>
     requires { IsTrue (is_fit_at n (participant_of cluster.now node.now) (shown stage.now) from message.now) }
-    ensures { IfOk result (λ outs. outs.items ≡ message_outs n (participant_of cluster.now node.now) node.now.held (shown stage.now) from message.now) }
+    ensures { IfOk result (λ outs. outs.items
+        ≡ message_outs n (participant_of cluster.now node.now) node.now.held (shown stage.now) from message.now) }
 {
     match message {
         Message::ReadReq(q) => read_outs(alloc, cluster, n, node, from, q),
@@ -77,7 +78,9 @@ pub fn answer(
     from: NodeId,
     message: &Message,
 ) -> Result<Vec<Out>, Memory>
-    ensures row { IfOk result (λ outs. outs.items ≡ answer_at n (participant_of cluster.now node.now) node.now.held (stage_at n node.now (tx_in message.now) (option_copied script.entry) (option_copied story.entry)) from message.now) }
+    ensures row { IfOk result (λ outs. outs.items ≡ answer_at n (participant_of cluster.now node.now) node.now.held
+        (stage_at n node.now (tx_in message.now) (option_copied script.entry) (option_copied story.entry)) from
+        message.now) }
     ensures few { IfOk result (λ outs. sends outs.items ≤ 16 + length node.now.held) }
 {
     let stage = stage_of(n, node, tx_in(message), script, story);
@@ -96,7 +99,8 @@ pub fn begin_outs(
     script: &Script,
     floor: Ident,
 ) -> Result<Vec<Out>, Memory>
-    ensures row { IfOk result (λ outs. outs.items ≡ begin_outs n (participant_of cluster.now node.now) script.now floor) }
+    ensures row { IfOk result
+        (λ outs. outs.items ≡ begin_outs n (participant_of cluster.now node.now) script.now floor) }
     ensures few { IfOk result (λ outs. sends outs.items ≤ 16) }
 {
     let sid0 = commit_id(alloc, node.records.as_slice())?.max(floor);
@@ -155,8 +159,10 @@ pub fn retry_outs(
     script: Option<&Script>,
     story: Option<&Story>,
 ) -> Result<Vec<Out>, Memory>
-    ensures row { IfOk result (λ outs. outs.items ≡ retry_outs cluster.now t (stage_at n node.now t (option_copied script.entry) (option_copied story.entry))) }
-    ensures few { IfOk result (λ outs. sends outs.items ≤ 16 + length (parts_left (stage_at n node.now t (option_copied script.entry) (option_copied story.entry)))) }
+    ensures row { IfOk result (λ outs. outs.items
+        ≡ retry_outs cluster.now t (stage_at n node.now t (option_copied script.entry) (option_copied story.entry))) }
+    ensures few { IfOk result (λ outs. sends outs.items
+        ≤ 16 + length (parts_left (stage_at n node.now t (option_copied script.entry) (option_copied story.entry)))) }
 {
     let stage = stage_of(n, node, t, script, story);
     retry_row(alloc, cluster, t, &stage)

@@ -111,7 +111,8 @@ fn yes_row(
     t: TxId,
     vote: Voted,
 ) -> Result<Vec<Out>, Memory>
-    ensures { IfOk result (λ outs. outs.items ≡ full_outs t (parts_now cluster.now tx.now) (tx.now.progress.votes ++ vote ∷ [])) }
+    ensures { IfOk result
+        (λ outs. outs.items ≡ full_outs t (parts_now cluster.now tx.now) (tx.now.progress.votes ++ vote ∷ [])) }
 {
     let mut votes = tx.story.progress.votes.copy()?;
     votes.push(vote)?;
@@ -131,7 +132,8 @@ fn no_row(
     from: NodeId,
     why: &Cause,
 ) -> Result<Vec<Out>, Memory>
-    ensures { IfOk result (λ outs. outs.items ≡ ballot_outs t (parts_now cluster.now tx.now) tx.now.progress.votes from (Ballot.No why.now)) }
+    ensures { IfOk result (λ outs. outs.items
+        ≡ ballot_outs t (parts_now cluster.now tx.now) tx.now.progress.votes from (Ballot.No why.now)) }
 {
     let parts = parts_now(alloc, cluster, tx)?;
     let told = others(alloc, from, parts.as_slice())?;

@@ -51,7 +51,8 @@ fn push_freed_by(
     t: TxId,
     outcome: &Outcome,
 ) -> Result<(), Memory>
-    ensures { OnOk result (outs.new.items ≡ outs.old.items ++ freed_by n (participant_of cluster.now node.now) node.now.held t outcome.now) }
+    ensures { OnOk result (outs.new.items
+        ≡ outs.old.items ++ freed_by n (participant_of cluster.now node.now) node.now.held t outcome.now) }
 {
     let records = with_ended(&node.records, t, outcome)?;
     push_released(
@@ -72,7 +73,8 @@ fn commit_outs(
     t: TxId,
     f: Ident,
 ) -> Result<Vec<Out>, Memory>
-    ensures { IfOk result (λ outs. outs.items ≡ commit_outs n t f (pending t (reverse records.now)) (is_commit (ended t (reverse records.now))) (to_node (home_of t (reverse records.now)) (Message.Ack t))) }
+    ensures { IfOk result (λ outs. outs.items ≡ commit_outs n t f (pending t (reverse records.now))
+        (is_commit (ended t (reverse records.now))) (to_node (home_of t (reverse records.now)) (Message.Ack t))) }
 {
     let mut outs = Vec::new(alloc);
     if pending(records, t).is_some() {
@@ -122,7 +124,8 @@ pub fn tell_outs(
     t: TxId,
     outcome: &Outcome,
 ) -> Result<Vec<Out>, Memory>
-    ensures { IfOk result (λ outs. outs.items ≡ tell_outs n (participant_of cluster.now node.now) node.now.held t outcome.now) }
+    ensures { IfOk result
+        (λ outs. outs.items ≡ tell_outs n (participant_of cluster.now node.now) node.now.held t outcome.now) }
 {
     let mut outs = end_outs(alloc, n, node, t, outcome)?;
     if pending(node.records.as_slice(), t).is_some() {

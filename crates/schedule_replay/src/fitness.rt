@@ -146,7 +146,8 @@ fn is_fit_content(
     from: NodeId,
     message: &Message,
 ) -> Result<bool, Memory>
-    ensures { IfOk result (λ fit. fit ≡ is_fit_content n (participant_of cluster.now node.now) (shown stage.now) from message.now) }
+    ensures { IfOk result
+        (λ fit. fit ≡ is_fit_content n (participant_of cluster.now node.now) (shown stage.now) from message.now) }
 {
     match message {
         Message::ReadReq(q) => Ok(is_fit_request(cluster, n, q)),
@@ -175,7 +176,8 @@ pub fn is_fit_at(
     from: NodeId,
     message: &Message,
 ) -> Result<bool, Memory>
-    ensures { IfOk result (λ fit. fit ≡ is_fit_at n (participant_of cluster.now node.now) (shown stage.now) from message.now) }
+    ensures { IfOk result
+        (λ fit. fit ≡ is_fit_at n (participant_of cluster.now node.now) (shown stage.now) from message.now) }
 {
     let content = is_fit_content(alloc, cluster, n, node, stage, from, message)?;
     Ok(is_small_node(node) && content)

@@ -18,7 +18,9 @@ use std::alloc::Global;
 
 /// What the home gives where its transaction begins.
 pub fn outs_at_begin(alloc: Global, run: &RunState, script: &Script) -> Result<Vec<Out>, Memory>
-    ensures outs { IfOk result (λ outs. outs.items ≡ begin_outs script.now.home (participant (view run.now.doc (past run.now) script.now.home)) script.now (floor_at run.now.doc (past run.now) script.now)) }
+    ensures outs { IfOk result (λ outs. outs.items ≡ begin_outs script.now.home
+        (participant (view run.now.doc (past run.now) script.now.home)) script.now
+        (floor_at run.now.doc (past run.now) script.now)) }
 {
     let home = script.home;
     let floor = floor_of(run, script.session);
@@ -38,7 +40,8 @@ pub fn outs_at_delivery(
     run: &RunState,
     envelope: &Envelope,
 ) -> Result<Vec<Out>, Memory>
-    ensures outs { IfOk result (λ outs. outs.items ≡ answer envelope.now.to (view run.now.doc (past run.now) envelope.now.to) envelope.now.from envelope.now.message) }
+    ensures outs { IfOk result (λ outs. outs.items ≡ answer envelope.now.to
+        (view run.now.doc (past run.now) envelope.now.to) envelope.now.from envelope.now.message) }
 {
     let (doc, n) = (run.doc(), envelope.to);
     let t = tx_in(&envelope.message);
@@ -63,7 +66,8 @@ pub fn outs_at_retry(
     t: TxId,
     home: NodeId,
 ) -> Result<Vec<Out>, Memory>
-    ensures outs { IfOk result (λ outs. outs.items ≡ retry_outs run.now.doc.cluster t (stage (view run.now.doc (past run.now) home) t)) }
+    ensures outs { IfOk result
+        (λ outs. outs.items ≡ retry_outs run.now.doc.cluster t (stage (view run.now.doc (past run.now) home) t)) }
 {
     let doc = run.doc();
     let (script, story) = (script_of(doc.scripts(), t), run.story(t));

@@ -39,7 +39,8 @@ fn push_served(
     read: &HeldRead,
     version: Version,
 ) -> Result<(), Memory>
-    ensures { OnOk result (outs.new.items ≡ outs.old.items ++ served n read.now.t read.now.op read.now.key read.now.sid read.now.from version) }
+    ensures { OnOk result (outs.new.items
+        ≡ outs.old.items ++ served n read.now.t read.now.op read.now.key read.now.sid read.now.from version) }
 {
     let (t, op, sid, value) = (read.t, read.op, read.sid, version.value);
     push(
@@ -136,7 +137,9 @@ fn push_answered(
     n: NodeId,
     read: &HeldRead,
 ) -> Result<(), Memory>
-    ensures { (q : ReadReq) → q.t ≡ read.now.t → q.op ≡ read.now.op → q.key ≡ read.now.key → OnOk result (outs.new.items ≡ outs.old.items ++ answered (is_clear read.now.sid (reverse records.now)) n read.now.from q read.now.sid (version_for cluster.now (reverse records.now) read.now.key read.now.sid)) }
+    ensures { (q : ReadReq) → q.t ≡ read.now.t → q.op ≡ read.now.op → q.key ≡ read.now.key → OnOk result (outs.new.items
+        ≡ outs.old.items ++ answered (is_clear read.now.sid (reverse records.now)) n read.now.from q read.now.sid
+        (version_for cluster.now (reverse records.now) read.now.key read.now.sid)) }
 {
     if is_clear(alloc, records, read.sid)? {
         let version = version_for(alloc, cluster, records, &read.key, read.sid)?;
@@ -156,7 +159,8 @@ pub fn read_outs(
 ) -> Result<Vec<Out>, Memory>
     requires node { IsTrue (is_small_node node.now.journal node.now.next) }
     requires date { IsTrue (is_small (date_ident q.now.date)) }
-    ensures { IfOk result (λ outs. outs.items ≡ read_outs n (participant_of cluster.now node.now) from q.now (dated q.now.date (commit_id node.now.journal))) }
+    ensures { IfOk result (λ outs. outs.items ≡ read_outs n (participant_of cluster.now node.now) from q.now
+        (dated q.now.date (commit_id node.now.journal))) }
 {
     let records = node.records.as_slice();
     let sid = dated(q.date, commit_id(alloc, records)?);

@@ -33,7 +33,8 @@ fn start_row(alloc: Global, cluster: &Cluster) -> Result<Vec<Act>, Memory>
 /// Plays one event more.
 fn play<'a>(alloc: Global, run: RunState<'a>, item: Item) -> Result<RunState<'a>, Memory>
     requires { HasRoom run.doc (past run) 1 }
-    ensures { IfOk result (λ r. r ≡ record run.entry { acts = run.entry.acts ++ played run.entry.doc (past run.entry) item }) }
+    ensures { IfOk result
+        (λ r. r ≡ record run.entry { acts = run.entry.acts ++ played run.entry.doc (past run.entry) item }) }
 {
     let acts = row(alloc, &run, item)?;
     run.keep_all(alloc, acts)
@@ -42,7 +43,8 @@ fn play<'a>(alloc: Global, run: RunState<'a>, item: Item) -> Result<RunState<'a>
 /// Plays so many events of `next`.
 fn play_next<'a>(alloc: Global, run: RunState<'a>, count: u32) -> Result<RunState<'a>, Memory>
     requires { HasRoom run.doc (past run) count }
-    ensures { IfOk result (λ r. r ≡ record run.entry { acts = run.entry.acts ++ plays run.entry.doc (past run.entry) (replicate count (Item.Next 1)) }) }
+    ensures { IfOk result (λ r. r ≡ record run.entry
+        { acts = run.entry.acts ++ plays run.entry.doc (past run.entry) (replicate count (Item.Next 1)) }) }
 {
     let mut run = run;
     for i in 0..count {
@@ -54,7 +56,8 @@ fn play_next<'a>(alloc: Global, run: RunState<'a>, count: u32) -> Result<RunStat
 /// Plays the events of an item.
 fn play_item<'a>(alloc: Global, run: RunState<'a>, item: Item) -> Result<RunState<'a>, Memory>
     requires { HasRoom run.doc (past run) (events_of item) }
-    ensures { IfOk result (λ r. r ≡ record run.entry { acts = run.entry.acts ++ plays run.entry.doc (past run.entry) (events_in item) }) }
+    ensures { IfOk result
+        (λ r. r ≡ record run.entry { acts = run.entry.acts ++ plays run.entry.doc (past run.entry) (events_in item) }) }
 {
     match item {
         Item::Next(count) => play_next(alloc, run, count),

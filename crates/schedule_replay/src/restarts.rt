@@ -49,7 +49,8 @@ fn flag_at(is_compacting: bool, node: &PlainNode) -> Flag
 
 /// Adds the loss of a transaction, where it is open at this home.
 fn push_loss(acts: &mut Vec<Act>, run: &RunState, n: NodeId, t: TxId) -> Result<(), Memory>
-    ensures { OnOk result (acts.new.items ≡ acts.old.items ++ lost_at run.now.doc (past run.now) n (script_of t run.now.doc.scripts)) }
+    ensures { OnOk result
+        (acts.new.items ≡ acts.old.items ++ lost_at run.now.doc (past run.now) n (script_of t run.now.doc.scripts)) }
 {
     let Some(script) = script_of(run.doc().scripts(), t) else {
         return Ok(());
@@ -70,7 +71,8 @@ fn push_losses(
     n: NodeId,
     numbers: &BTreeSet<TxId>,
 ) -> Result<(), Memory>
-    ensures { OnOk result (acts.new.items ≡ acts.old.items ++ flat_map (λ t. lost_at run.now.doc (past run.now) n (script_of t run.now.doc.scripts)) numbers.now.keys) }
+    ensures { OnOk result (acts.new.items ≡ acts.old.items
+        ++ flat_map (λ t. lost_at run.now.doc (past run.now) n (script_of t run.now.doc.scripts)) numbers.now.keys) }
 {
     for number in numbers {
         push_loss(acts, run, n, *number)?;

@@ -40,7 +40,8 @@ fn acts_or_void(
     outs: Vec<Out>,
 ) -> Result<Vec<Act>, Memory>
     requires { length (sent (past run.now)) + 1 + sends outs.items < 2 ^ 32 }
-    ensures { IfOk result (λ acts. acts.items ≡ or_void (void_code why) outs.items (acts_of (past run.now) calm n outs.items)) }
+    ensures { IfOk result
+        (λ acts. acts.items ≡ or_void (void_code why) outs.items (acts_of (past run.now) calm n outs.items)) }
 {
     if outs.is_empty() {
         return voided(alloc, why);
@@ -51,7 +52,8 @@ fn acts_or_void(
 /// The row of `begin`.
 fn begin_row(alloc: Global, run: &RunState, t: TxId) -> Result<Vec<Act>, Memory>
     requires { HasRoom run.now.doc (past run.now) 1 }
-    ensures { IfOk result (λ acts. acts.items ≡ begin_row run.now.doc (past run.now) calm (story run.now.doc (past run.now) t) (script_of t run.now.doc.scripts)) }
+    ensures { IfOk result (λ acts. acts.items ≡ begin_row run.now.doc (past run.now) calm
+        (story run.now.doc (past run.now) t) (script_of t run.now.doc.scripts)) }
 {
     if run.story(t).is_some() {
         return voided(alloc, Void::Begun);
@@ -72,7 +74,8 @@ fn begin_row(alloc: Global, run: &RunState, t: TxId) -> Result<Vec<Act>, Memory>
 /// The row of `deliver`.
 fn deliver_row(alloc: Global, run: &RunState, m: u32) -> Result<Vec<Act>, Memory>
     requires { HasRoom run.now.doc (past run.now) 1 }
-    ensures { IfOk result (λ acts. acts.items ≡ deliver_row run.now.doc (past run.now) calm m (sent_at m (sent (past run.now)))) }
+    ensures { IfOk result
+        (λ acts. acts.items ≡ deliver_row run.now.doc (past run.now) calm m (sent_at m (sent (past run.now)))) }
 {
     let Some(envelope) = run.message(m) else {
         return voided(alloc, Void::NotSent);
@@ -122,7 +125,8 @@ fn next_row(alloc: Global, run: &RunState) -> Result<Vec<Act>, Memory>
 /// The row of `retry`.
 fn retry_row(alloc: Global, run: &RunState, t: TxId) -> Result<Vec<Act>, Memory>
     requires { HasRoom run.now.doc (past run.now) 1 }
-    ensures { IfOk result (λ acts. acts.items ≡ retry_row run.now.doc (past run.now) calm t (script_of t run.now.doc.scripts)) }
+    ensures { IfOk result
+        (λ acts. acts.items ≡ retry_row run.now.doc (past run.now) calm t (script_of t run.now.doc.scripts)) }
 {
     let Some(script) = script_of(run.doc().scripts(), t) else {
         return Ok(Vec::new(alloc));

@@ -90,7 +90,8 @@ fn acks_at<'a>(
     script: Option<&'a Script>,
     story: Option<&'a Story>,
 ) -> &'a [NodeId]
-    ensures { is_some (undone t node.now.journal) ≡ true → result.now ≡ acks_at n node.now t (option_copied script.entry) (option_copied story.entry) }
+    ensures { is_some (undone t node.now.journal) ≡ true
+        → result.now ≡ acks_at n node.now t (option_copied script.entry) (option_copied story.entry) }
 {
     let Some(script) = script else {
         return &[];

@@ -21,7 +21,8 @@ done-code lo ln ho hn bytes told d =
     let spelled : doc bytes ≡ Ok d.run.document = subst (λ bs. doc bs ≡ Ok d.run.document) same d.run.spelled in
     rw (within bytes short, spelled) refl
 
-refused-code : (lo ln ho hn : Option (List ℕ)) (fo fn : ℕ) (bytes : List ℕ) → lo ≡ Some bytes → NoDocument lo ln ho hn fo fn → code_asked bytes ≡ 3
+refused-code : (lo ln ho hn : Option (List ℕ)) (fo fn : ℕ) (bytes : List ℕ) → lo ≡ Some bytes
+    → NoDocument lo ln ho hn fo fn → code_asked bytes ≡ 3
 refused-code lo ln ho hn fo fn bytes told d =
     let read : ReadWhole (Some bytes) ln d.bytes = subst (λ o. ReadWhole o ln d.bytes) told d.read in
     let same : d.bytes ≡ bytes = (whole_told bytes d.bytes ln read).0 in
@@ -29,12 +30,17 @@ refused-code lo ln ho hn fo fn bytes told d =
     let refused : doc bytes ≡ Err d.refusal = subst (λ bs. doc bs ≡ Err d.refusal) same d.refused in
     rw (within bytes short, refused) refl
 
-long-code : (lo ln ho hn : Option (List ℕ)) (fo fn : ℕ) (bytes : List ℕ) → lo ≡ Some bytes → TooLong lo ln ho hn fo fn → code_asked bytes ≡ 3
+long-code : (lo ln ho hn : Option (List ℕ)) (fo fn : ℕ) (bytes : List ℕ) → lo ≡ Some bytes → TooLong lo ln ho hn fo fn
+    → code_asked bytes ≡ 3
 long-code lo ln ho hn fo fn bytes told d =
     let came : Lost (Some bytes) ln 4194305 = subst (λ o. Lost o ln 4194305) told d.came in
     rw (beyond bytes (lost_told bytes 4194305 ln came)) refl
 
-pub complete : (lo ln ho hn : Option (List ℕ)) (fo fn go gn n : ℕ) (command : Bool) → IsCode n → (n ≡ 2 → command ≡ false) → (n ≡ 0 → Done lo ln ho hn) → (n ≡ 3 → NoDocument lo ln ho hn go gn ⊎ TooLong lo ln ho hn go gn) → (n ≡ 4 → Rose fo fn) → (n ≡ 5 → Broken lo ln ho hn go gn) → (bytes : List ℕ) → lo ≡ Some bytes → command ≡ true → (Rose fo fn → ⊥) → (Rose go gn → ⊥) → (n ≡ code_asked bytes) ⊎ (n ≡ 6)
+pub complete : (lo ln ho hn : Option (List ℕ)) (fo fn go gn n : ℕ) (command : Bool) → IsCode n
+    → (n ≡ 2 → command ≡ false) → (n ≡ 0 → Done lo ln ho hn)
+    → (n ≡ 3 → NoDocument lo ln ho hn go gn ⊎ TooLong lo ln ho hn go gn) → (n ≡ 4 → Rose fo fn)
+    → (n ≡ 5 → Broken lo ln ho hn go gn) → (bytes : List ℕ) → lo ≡ Some bytes → command ≡ true → (Rose fo fn → ⊥)
+    → (Rose go gn → ⊥) → (n ≡ code_asked bytes) ⊎ (n ≡ 6)
 complete lo ln ho hn fo fn go gn n command code usage done refused fault broken bytes told is source sink =
     elim code [
       | inl e ↦ inl (e ∙ sym (done-code lo ln ho hn bytes told (done e)))

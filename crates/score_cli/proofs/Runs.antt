@@ -40,13 +40,15 @@ built_are_unfused (i ∷ is) e =
 
 -- the text of the run of a document that was read, where each lawful run without a fault has the headline
 pub text_of_run : ((d : DocumentData) (h : List Act) → IsOne d → Lawful d h (λ n. 0) → Headline d h)
-    → (bytes written : List ℕ) (d : DocumentData) → doc bytes ≡ Ok d → (AreUnfused d.items → IsRunText d written) → IsTextOf bytes written
+    → (bytes written : List ℕ) (d : DocumentData) → doc bytes ≡ Ok d → (AreUnfused d.items → IsRunText d written)
+    → IsTextOf bytes written
 text_of_run headline bytes written d read run =
     let s : IsSpelled bytes d = spelled bytes d read in
     let r : IsRunText d written = run (built_are_unfused d.items s.built.items) in
     record { document = d; spelled = read; acts = r.acts; headline = headline d r.acts s.one r.lawful; printed = r.printed }
 
-ran : (lo ln : Option (List ℕ)) (bytes seen written : List ℕ) → ReadWhole lo ln bytes → length bytes ≤ 4194304 → seen ≡ bytes → IsTextOf seen written → Ran lo ln
+ran : (lo ln : Option (List ℕ)) (bytes seen written : List ℕ) → ReadWhole lo ln bytes → length bytes ≤ 4194304
+    → seen ≡ bytes → IsTextOf seen written → Ran lo ln
 ran lo ln bytes seen written read short same t = record {
   bytes = bytes;
   read = read;
@@ -57,14 +59,18 @@ ran lo ln bytes seen written read short same t = record {
   headline = t.headline;
 }
 
-pub done-from : (lo ln ho hn : Option (List ℕ)) (bytes seen written sent : List ℕ) → ReadWhole lo ln bytes → length bytes ≤ 4194304 → seen ≡ bytes → IsTextOf seen written → sent ≡ written → Appends ho hn sent → Done lo ln ho hn
+pub done-from : (lo ln ho hn : Option (List ℕ)) (bytes seen written sent : List ℕ) → ReadWhole lo ln bytes
+    → length bytes ≤ 4194304 → seen ≡ bytes → IsTextOf seen written → sent ≡ written → Appends ho hn sent
+    → Done lo ln ho hn
 unfolding ran
 done-from lo ln ho hn bytes seen written sent read short same t e a = record {
   run = ran lo ln bytes seen written read short same t;
   wrote = subst (λ bs. Appends ho hn bs) (e ∙ t.printed) a;
 }
 
-pub broken-from : (lo ln ho hn : Option (List ℕ)) (fo fn : ℕ) (bytes seen written sent : List ℕ) → ReadWhole lo ln bytes → length bytes ≤ 4194304 → seen ≡ bytes → IsTextOf seen written → sent ≡ written → AppendsPart ho hn sent → Rose fo fn → Broken lo ln ho hn fo fn
+pub broken-from : (lo ln ho hn : Option (List ℕ)) (fo fn : ℕ) (bytes seen written sent : List ℕ) → ReadWhole lo ln bytes
+    → length bytes ≤ 4194304 → seen ≡ bytes → IsTextOf seen written → sent ≡ written → AppendsPart ho hn sent
+    → Rose fo fn → Broken lo ln ho hn fo fn
 unfolding ran
 broken-from lo ln ho hn fo fn bytes seen written sent read short same t e a r = record {
   run = ran lo ln bytes seen written read short same t;

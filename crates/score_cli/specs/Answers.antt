@@ -26,7 +26,8 @@ is_command (v ∷ w ∷ ws) = false
 -- a sink got these bytes, or a proper prefix of them, and then its count of faults rose
 pub data Wrote (held_old held_new : Option (List ℕ)) (faults_old faults_new : ℕ) (bytes : List ℕ) : Type 0 where
   whole : Appends held_old held_new bytes → Wrote held_old held_new faults_old faults_new bytes
-  part : AppendsPart held_old held_new bytes → Rose faults_old faults_new → Wrote held_old held_new faults_old faults_new bytes
+  part : AppendsPart held_old held_new bytes → Rose faults_old faults_new
+      → Wrote held_old held_new faults_old faults_new bytes
 
 -- the line of a refusal: the first line at fault, and why
 unfoldable pub refused_line : Refusal → List ℕ

@@ -79,14 +79,19 @@ fn respond<S: Source, K: Sink>(
 ) -> Status
     ensures code { IsCode result.code }
     ensures usage { (result.code ≡ 2) ↔ (is_command (map (λ w. string_bytes w) words.now.items) ≡ false) }
-    ensures usage_line { result.code ≡ 2 → Wrote (K.held out.old) (K.held out.new) (K.faults out.old) (K.faults out.new) (codes "usage\n") }
+    ensures usage_line { result.code ≡ 2
+        → Wrote (K.held out.old) (K.held out.new) (K.faults out.old) (K.faults out.new) (codes "usage\n") }
     ensures done { result.code ≡ 0 → Done (S.left input.old) (S.left input.new) (K.held out.old) (K.held out.new) }
     ensures refused { result.code ≡ 3 →
-        NoDocument (S.left input.old) (S.left input.new) (K.held out.old) (K.held out.new) (K.faults out.old) (K.faults out.new)
-        ⊎ TooLong (S.left input.old) (S.left input.new) (K.held out.old) (K.held out.new) (K.faults out.old) (K.faults out.new) }
+        NoDocument (S.left input.old) (S.left input.new) (K.held out.old) (K.held out.new) (K.faults out.old)
+        (K.faults out.new)
+        ⊎ TooLong (S.left input.old) (S.left input.new) (K.held out.old) (K.held out.new) (K.faults out.old)
+        (K.faults out.new) }
     ensures read_fault { result.code ≡ 4 → Rose (S.faults input.old) (S.faults input.new) }
-    ensures read_line { result.code ≡ 4 → Wrote (K.held out.old) (K.held out.new) (K.faults out.old) (K.faults out.new) (codes "read fault\n") }
-    ensures write_fault { result.code ≡ 5 → Broken (S.left input.old) (S.left input.new) (K.held out.old) (K.held out.new) (K.faults out.old) (K.faults out.new) }
+    ensures read_line { result.code ≡ 4
+        → Wrote (K.held out.old) (K.held out.new) (K.faults out.old) (K.faults out.new) (codes "read fault\n") }
+    ensures write_fault { result.code ≡ 5 → Broken (S.left input.old) (S.left input.new) (K.held out.old)
+        (K.held out.new) (K.faults out.old) (K.faults out.new) }
     ensures memory { result.code ≡ 6 → Keeps (K.held out.old) (K.held out.new) }
 {
     if !is_command(words.as_slice()) {
@@ -142,20 +147,25 @@ pub fn score<S: Source, K: Sink>(
 
     // 2: the words alone decide.
     ensures usage { (result.code ≡ 2) ↔ (is_command (map (λ w. string_bytes w) words.now.items) ≡ false) }
-    ensures usage_line { result.code ≡ 2 → Wrote (K.held out.old) (K.held out.new) (K.faults out.old) (K.faults out.new) (codes "usage\n") }
+    ensures usage_line { result.code ≡ 2
+        → Wrote (K.held out.old) (K.held out.new) (K.faults out.old) (K.faults out.new) (codes "usage\n") }
 
     // 0: the headline.
     ensures done { result.code ≡ 0 → Done (S.left input.old) (S.left input.new) (K.held out.old) (K.held out.new) }
 
     // 3: the first line at fault and why, or too many bytes.
     ensures refused { result.code ≡ 3 →
-        NoDocument (S.left input.old) (S.left input.new) (K.held out.old) (K.held out.new) (K.faults out.old) (K.faults out.new)
-        ⊎ TooLong (S.left input.old) (S.left input.new) (K.held out.old) (K.held out.new) (K.faults out.old) (K.faults out.new) }
+        NoDocument (S.left input.old) (S.left input.new) (K.held out.old) (K.held out.new) (K.faults out.old)
+        (K.faults out.new)
+        ⊎ TooLong (S.left input.old) (S.left input.new) (K.held out.old) (K.held out.new) (K.faults out.old)
+        (K.faults out.new) }
 
     // 4 and 5: a count of faults rose in this call.
     ensures read_fault { result.code ≡ 4 → Rose (S.faults input.old) (S.faults input.new) }
-    ensures read_line { result.code ≡ 4 → Wrote (K.held out.old) (K.held out.new) (K.faults out.old) (K.faults out.new) (codes "read fault\n") }
-    ensures write_fault { result.code ≡ 5 → Broken (S.left input.old) (S.left input.new) (K.held out.old) (K.held out.new) (K.faults out.old) (K.faults out.new) }
+    ensures read_line { result.code ≡ 4
+        → Wrote (K.held out.old) (K.held out.new) (K.faults out.old) (K.faults out.new) (codes "read fault\n") }
+    ensures write_fault { result.code ≡ 5 → Broken (S.left input.old) (S.left input.new) (K.held out.old)
+        (K.held out.new) (K.faults out.old) (K.faults out.new) }
 
     // 6: nothing was written.
     ensures memory { result.code ≡ 6 → Keeps (K.held out.old) (K.held out.new) }

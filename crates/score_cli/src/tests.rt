@@ -4,17 +4,52 @@ use score_base::Memory;
 use score_io::{MemSink, MemSource};
 use std::alloc::Global;
 use std::process::Abort;
+use std::test::Fail;
 
-const HEAD: &str = "nodes 2\npartition 0 n1\npartition 1 n2\ninit a 10\ninit b 0\n";
+const HEAD: &str = "\
+nodes 2
+partition 0 n1
+partition 1 n2
+init a 10
+init b 0
+";
 
 const EMPTY_SCHEDULE: &str = "schedule\n";
 
-const EMPTY_SCHEDULE_TEXT: &str = "up n1 none\nup n2 none\nsummary\nkey a n2 10 0\nkey b n1 0 0\n";
+const EMPTY_SCHEDULE_TEXT: &str = "\
+up n1 none
+up n2 none
+summary
+key a n2 10 0
+key b n1 0 0
+";
 
-const FIRST_READ: &str = "tx 1 n1\nread a\nend\nschedule\nbegin 1\ndeliver 1\ndeliver 2\n";
+const FIRST_READ: &str = "\
+tx 1 n1
+read a
+end
+schedule
+begin 1
+deliver 1
+deliver 2
+";
 
-const FIRST_READ_TEXT: &str =
-    "up n1 none\nup n2 none\nbegan 1 n1 0\nsent 1 n1 n2 readreq 1 1 a first 0\ngot 1\nserved n2 1 1 a 0 0 10\nsent 2 n2 n1 readrep 1 1 0 10\ngot 2\ntaken 1 1 0 10\nfinished 1\nsummary\ntx 1 read 0\nkey a n2 10 0\nkey b n1 0 0\n";
+const FIRST_READ_TEXT: &str = "\
+up n1 none
+up n2 none
+began 1 n1 0
+sent 1 n1 n2 readreq 1 1 a first 0
+got 1
+served n2 1 1 a 0 0 10
+sent 2 n2 n1 readrep 1 1 0 10
+got 2
+taken 1 1 0 10
+finished 1
+summary
+tx 1 read 0
+key a n2 10 0
+key b n1 0 0
+";
 
 /// The words of a line.
 fn words_of(alloc: Global, line: &str) -> Result<Vec<String>, Memory> {
@@ -27,21 +62,19 @@ fn words_of(alloc: Global, line: &str) -> Result<Vec<String>, Memory> {
     Ok(words)
 }
 
-/// One call of the top call: whether it answers this code and writes this text.
+/// One call of the top call: the code that it answers, and what it writes.
 fn call(
     alloc: Global,
     line: &str,
     bytes: Vec<u8>,
     source_fails: u64,
     sink_fails: u64,
-    code: u8,
-    text: &str,
-) -> Result<bool, Memory> {
+) -> Result<(u8, Vec<u8>), Memory> {
     let words = words_of(alloc, line)?;
     let mut source = MemSource::new(bytes, [source_fails].to_vec(alloc)?);
     let mut sink = MemSink::new(alloc, [sink_fails].to_vec(alloc)?);
     let status = score(alloc, &words, &mut source, &mut sink);
-    Ok(status.code == code && sink.bytes() == text.as_bytes())
+    Ok((status.code, Vec::from_slice(alloc, sink.bytes())?))
 }
 
 /// The bytes of a document in two pieces.
@@ -51,8 +84,41 @@ fn bytes_of(alloc: Global, head: &str, rest: &str) -> Result<Vec<u8>, Memory> {
     Ok(bytes)
 }
 
+/// A line of a text, from 0; behind the last one nothing.
+fn line_at(text: &str, number: usize) -> &str {
+    text.split('\n').nth(number).unwrap_or("")
+}
+
+/// The first line in which two texts differ, or one behind the last.
+fn first_difference(one: &str, other: &str) -> usize {
+    let mut number = 0;
+    for line in one.split('\n') {
+        if line != line_at(other, number) {
+            return number;
+        }
+        number = number.saturating_add(1);
+    }
+    number
+}
+
+/// What a row of this name answered is what it should be; else the row and the first line at fault are shown.
+fn compare(rt: &impl Abort, name: &str, code: u8, bytes: &[u8], wanted_code: u8, wanted: &str) {
+    let text = str::from_utf8(bytes).unwrap_or("bytes that are no text");
+    let at = first_difference(text, wanted);
+    let number = at.saturating_add(1);
+    assert_eq!(rt;
+        line_at(text, at),
+        line_at(wanted, at),
+        "{name}, line {number}"
+    );
+    assert_eq!(rt; code, wanted_code, "{name}, the code");
+}
+
+/// One call of the top call, compared with the code and the text that it should have.
 fn called(
+    rt: &impl Abort,
     alloc: Global,
+    name: &str,
     line: &str,
     head: &str,
     rest: &str,
@@ -60,40 +126,52 @@ fn called(
     sink_fails: u64,
     code: u8,
     text: &str,
-) -> bool {
-    let Ok(bytes) = bytes_of(alloc, head, rest) else {
-        return false;
+) {
+    let answer = match bytes_of(alloc, head, rest) {
+        Ok(bytes) => call(alloc, line, bytes, source_fails, sink_fails),
+        Err(memory) => Err(memory),
     };
-    match call(alloc, line, bytes, source_fails, sink_fails, code, text) {
-        Ok(is_so) => is_so,
-        Err(_) => false,
+    match answer {
+        Ok((answered, bytes)) => compare(rt, name, answered, &bytes, code, text),
+        Err(_) => assert!(rt; false, "{name}: want of memory"),
     }
 }
 
-fn runs(rt: &impl Abort, alloc: Global, document: &str, text: &str) {
-    assert!(rt; called(alloc, "run", document, "", 0, 0, 0, text));
+fn runs(rt: &impl Abort, alloc: Global, name: &str, document: &str, text: &str) {
+    called(rt, alloc, name, "run", document, "", 0, 0, 0, text);
 }
 
 fn refuses(rt: &impl Abort, alloc: Global, rest: &str, text: &str) {
-    assert!(rt; called(alloc, "run", HEAD, rest, 0, 0, 3, text));
+    called(rt, alloc, rest, "run", HEAD, rest, 0, 0, 3, text);
 }
 
 #[test]
 fn reads(rt: HostRuntime) {
     let alloc = rt.alloc();
-    assert!(rt;
-        called(
-            alloc,
-            "run",
-            HEAD,
-            EMPTY_SCHEDULE,
-            0,
-            0,
-            0,
-            EMPTY_SCHEDULE_TEXT
-        )
+    called(
+        &rt,
+        alloc,
+        "empty schedule",
+        "run",
+        HEAD,
+        EMPTY_SCHEDULE,
+        0,
+        0,
+        0,
+        EMPTY_SCHEDULE_TEXT,
     );
-    assert!(rt; called(alloc, "run", HEAD, FIRST_READ, 0, 0, 0, FIRST_READ_TEXT));
+    called(
+        &rt,
+        alloc,
+        "first read",
+        "run",
+        HEAD,
+        FIRST_READ,
+        0,
+        0,
+        0,
+        FIRST_READ_TEXT,
+    );
 }
 
 #[test]
@@ -102,49 +180,86 @@ fn updates(rt: HostRuntime) {
     runs(
         &rt,
         alloc,
+        "read then write",
         rows::READ_THEN_WRITE,
         rows::READ_THEN_WRITE_TEXT,
     );
-    runs(&rt, alloc, rows::NEXT_UPDATE, rows::NEXT_UPDATE_TEXT);
-    runs(&rt, alloc, rows::WRITE_CONFLICT, rows::WRITE_CONFLICT_TEXT);
     runs(
         &rt,
         alloc,
+        "next update",
+        rows::NEXT_UPDATE,
+        rows::NEXT_UPDATE_TEXT,
+    );
+    runs(
+        &rt,
+        alloc,
+        "write conflict",
+        rows::WRITE_CONFLICT,
+        rows::WRITE_CONFLICT_TEXT,
+    );
+    runs(
+        &rt,
+        alloc,
+        "stale read refused",
         rows::STALE_READ_REFUSED,
         rows::STALE_READ_REFUSED_TEXT,
     );
-    runs(&rt, alloc, rows::HELD_READ, rows::HELD_READ_TEXT);
     runs(
         &rt,
         alloc,
+        "held read",
+        rows::HELD_READ,
+        rows::HELD_READ_TEXT,
+    );
+    runs(
+        &rt,
+        alloc,
+        "repeats after the end",
         rows::REPEATS_AFTER_THE_END,
         rows::REPEATS_AFTER_THE_END_TEXT,
     );
-    runs(&rt, alloc, rows::REPEATED_VOTES, rows::REPEATED_VOTES_TEXT);
-    runs(&rt, alloc, rows::EQUAL_FINALS, rows::EQUAL_FINALS_TEXT);
-    runs(&rt, alloc, rows::OWN_READ, rows::OWN_READ_TEXT);
-    runs(&rt, alloc, rows::SESSION, rows::SESSION_TEXT);
     runs(
         &rt,
         alloc,
+        "repeated votes",
+        rows::REPEATED_VOTES,
+        rows::REPEATED_VOTES_TEXT,
+    );
+    runs(
+        &rt,
+        alloc,
+        "equal finals",
+        rows::EQUAL_FINALS,
+        rows::EQUAL_FINALS_TEXT,
+    );
+    runs(&rt, alloc, "own read", rows::OWN_READ, rows::OWN_READ_TEXT);
+    runs(&rt, alloc, "session", rows::SESSION, rows::SESSION_TEXT);
+    runs(
+        &rt,
+        alloc,
+        "without session",
         rows::WITHOUT_SESSION,
         rows::WITHOUT_SESSION_TEXT,
     );
     runs(
         &rt,
         alloc,
+        "bystander gets nothing",
         rows::BYSTANDER_GETS_NOTHING,
         rows::BYSTANDER_GETS_NOTHING_TEXT,
     );
     runs(
         &rt,
         alloc,
+        "replicated transfer",
         rows::REPLICATED_TRANSFER,
         rows::REPLICATED_TRANSFER_TEXT,
     );
     runs(
         &rt,
         alloc,
+        "lock until applied",
         rows::LOCK_UNTIL_APPLIED,
         rows::LOCK_UNTIL_APPLIED_TEXT,
     );
@@ -168,16 +283,71 @@ fn refusals(rt: HostRuntime) {
         "refused 7 7\n",
     );
     refuses(&rt, alloc, "schedule\nretry 1\n", "refused 7 12\n");
-    assert!(rt; called(alloc, "run", "", "", 0, 0, 3, "refused 1 10\n"));
-    assert!(rt; called(alloc, "run run", HEAD, EMPTY_SCHEDULE, 0, 0, 2, "usage\n"));
-    assert!(rt; called(alloc, "", HEAD, EMPTY_SCHEDULE, 0, 0, 2, "usage\n"));
+    called(
+        &rt,
+        alloc,
+        "empty input",
+        "run",
+        "",
+        "",
+        0,
+        0,
+        3,
+        "refused 1 10\n",
+    );
+    called(
+        &rt,
+        alloc,
+        "usage",
+        "run run",
+        HEAD,
+        EMPTY_SCHEDULE,
+        0,
+        0,
+        2,
+        "usage\n",
+    );
+    called(
+        &rt,
+        alloc,
+        "usage",
+        "",
+        HEAD,
+        EMPTY_SCHEDULE,
+        0,
+        0,
+        2,
+        "usage\n",
+    );
 }
 
 #[test]
 fn faults(rt: HostRuntime) {
     let alloc = rt.alloc();
-    assert!(rt; called(alloc, "run", HEAD, EMPTY_SCHEDULE, 1, 0, 4, "read fault\n"));
-    assert!(rt; called(alloc, "run", HEAD, EMPTY_SCHEDULE, 0, 1, 5, ""));
+    called(
+        &rt,
+        alloc,
+        "read fault",
+        "run",
+        HEAD,
+        EMPTY_SCHEDULE,
+        1,
+        0,
+        4,
+        "read fault\n",
+    );
+    called(
+        &rt,
+        alloc,
+        "write fault",
+        "run",
+        HEAD,
+        EMPTY_SCHEDULE,
+        0,
+        1,
+        5,
+        "",
+    );
 }
 
 /// The text of a run of so many events that change nothing.
@@ -213,13 +383,12 @@ fn event_limit(rt: HostRuntime) {
     );
 }
 
-/// An input of one byte more than is read.
-fn is_too_long(alloc: Global) -> Result<bool, Memory> {
-    let bytes = vec![in alloc; 32u8; 4194305]?;
-    call(alloc, "run", bytes, 0, 0, 3, "too long\n")
-}
-
+// An input of one byte more than is read.
 #[test]
-fn too_long(rt: HostRuntime) {
-    assert!(rt; matches!(is_too_long(rt.alloc()), Ok(true)));
+fn too_long(rt: HostRuntime) -> Result<(), Fail> {
+    let alloc = rt.alloc();
+    let bytes = vec![in alloc; 32u8; 4194305]?;
+    let (code, text) = call(alloc, "run", bytes, 0, 0)?;
+    compare(&rt, "too long", code, &text, 3, "too long\n");
+    Ok(())
 }

@@ -19,12 +19,15 @@ pub uncovered : (at n i : ℕ) → (i < at) ⊎ (at + n ≤ i) → covers at n i
 uncovered at n i (inl h) = grind (arith, common_steps)
 uncovered at n i (inr h) = grind (arith, common_steps)
 
-pub length-put_at : (xs : List ℕ) (at : ℕ) (bytes : List ℕ) → at ≤ length xs → length (put_at xs at bytes) ≡ max (length xs) (at + length bytes)
+pub length-put_at : (xs : List ℕ) (at : ℕ) (bytes : List ℕ) → at ≤ length xs
+    → length (put_at xs at bytes) ≡ max (length xs) (at + length bytes)
 length-put_at xs at bytes h = grind (arith, elements)
 
-pub get_or-put_at : (xs : List ℕ) (at : ℕ) (bytes : List ℕ) (i : ℕ) → at ≤ length xs → (i < at) ⊎ (at + length bytes ≤ i) → get_or (put_at xs at bytes) i 0 ≡ get_or xs i 0
+pub get_or-put_at : (xs : List ℕ) (at : ℕ) (bytes : List ℕ) (i : ℕ) → at ≤ length xs
+    → (i < at) ⊎ (at + length bytes ≤ i) → get_or (put_at xs at bytes) i 0 ≡ get_or xs i 0
 get_or-put_at xs at bytes i h (inl e) = grind (arith, elements)
 get_or-put_at xs at bytes i h (inr e) = grind (arith, elements)
 
-pub take-put_at : (xs : List ℕ) (at k : ℕ) (bytes : List ℕ) → at ≤ length xs → k ≤ at → take k (put_at xs at bytes) ≡ take k xs
+pub take-put_at : (xs : List ℕ) (at k : ℕ) (bytes : List ℕ) → at ≤ length xs → k ≤ at
+    → take k (put_at xs at bytes) ≡ take k xs
 take-put_at xs at k bytes h low = grind (arith, common_steps)

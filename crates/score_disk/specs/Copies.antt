@@ -6,7 +6,8 @@ use Rattle.std.specs.List.{slice_index_or}
 abbrev pub is_marked : List Bool → ℕ → Bool
 is_marked marks i = slice_index_or marks i false
 
--- What a read gives and what is settled differ only at marked places. Each has a length between the least and the number
+-- What a read gives and what is settled differ only at marked places. Each has a length between the least and the
+-- number
 -- of marks, and a place with a mark that isn't set lies below the least.
 pub record Copies (bytes settled : List ℕ) (marks : List Bool) (least : ℕ) : Type 0 where
   pub bytes_least : least ≤ length bytes

@@ -5,7 +5,8 @@ use Rattle.score_base.specs.Faults.{Rose}
 
 -- The count of faults and `own`, the count without a fuse's own faults, never fall. An error comes only where the count
 -- rose, and the count rises only where `own` rises or the fuse has stopped a call; after Ok both are as before.
-pub record Counted {T E : Type 0} (faults_old faults_new own_old own_new : ℕ) (left_new : Option ℕ) (result : Result T E) : Type 0 where
+pub record Counted {T E : Type 0} (faults_old faults_new own_old own_new : ℕ) (left_new : Option ℕ)
+    (result : Result T E) : Type 0 where
   pub later : faults_old ≤ faults_new
   pub own_later : own_old ≤ own_new
   pub failed : OnErr result (Rose faults_old faults_new)

@@ -42,7 +42,8 @@ pub(crate) fn lengthen(bytes: &mut Vec<u8>, len: usize, byte: u8)
 /// Puts one byte at each marked place.
 pub(crate) fn garble(bytes: &mut Vec<u8>, marks: &[bool], byte: u8)
     ensures len { vec_len bytes.new ≡ vec_len bytes.old }
-    ensures each { (i : ℕ) → i < vec_len bytes.old → slice_index bytes.new.items i ≡ (if is_marked marks.now i then byte else slice_index bytes.old.items i) }
+    ensures each { (i : ℕ) → i < vec_len bytes.old
+        → slice_index bytes.new.items i ≡ (if is_marked marks.now i then byte else slice_index bytes.old.items i) }
     ensures capacity { vec_capacity bytes.new ≡ vec_capacity bytes.old }
 {
     for i in 0..bytes.len() {

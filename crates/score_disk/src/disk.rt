@@ -57,7 +57,8 @@ pub trait Disk: Drop {
     /// the count, and nothing is said of `buf`.
     fn read(&mut self, at: u64, buf: &mut [u8]) -> Result<(), Failed>
         requires { IsTrue (tells self.old) → at + length buf.old ≤ length (file self.old).seen }
-        ensures bytes { OnOk result (IsTrue (tells self.old) → buf.new ≡ slice_range (file self.old).seen at (at + length buf.old)) }
+        ensures bytes { OnOk result
+            (IsTrue (tells self.old) → buf.new ≡ slice_range (file self.old).seen at (at + length buf.old)) }
         ensures file { file self.new ≡ file self.old }
         ensures tells { tells self.new ≡ tells self.old }
         ensures spare { spare self.new ≡ spare self.old }
@@ -70,7 +71,8 @@ pub trait Disk: Drop {
         requires within { IsTrue (tells self.old) → at ≤ length (file self.old).seen }
         requires room { length bytes.now ≤ spare self.old }
         ensures written { OnOk result (IsTrue (tells self.old) → file self.new ≡ written at bytes.now (file self.old)) }
-        ensures missed { OnErr result (IsTrue (tells self.old) → Missed (file self.old) (written at bytes.now (file self.old)) (file self.new)) }
+        ensures missed { OnErr result
+            (IsTrue (tells self.old) → Missed (file self.old) (written at bytes.now (file self.old)) (file self.new)) }
         ensures tells { tells self.new ≡ tells self.old }
         ensures spare { spare self.old ≤ spare self.new + length bytes.now }
         ensures burns { Burns (left self.old) (left self.new) result }
@@ -81,7 +83,8 @@ pub trait Disk: Drop {
     fn cut(&mut self, at: u64) -> Result<(), Failed>
         requires within { IsTrue (tells self.old) → at ≤ length (file self.old).seen }
         ensures cut { OnOk result (IsTrue (tells self.old) → file self.new ≡ cut_to at (file self.old)) }
-        ensures missed { OnErr result (IsTrue (tells self.old) → Missed (file self.old) (cut_to at (file self.old)) (file self.new)) }
+        ensures missed { OnErr result
+            (IsTrue (tells self.old) → Missed (file self.old) (cut_to at (file self.old)) (file self.new)) }
         ensures tells { tells self.new ≡ tells self.old }
         ensures spare { spare self.old ≤ spare self.new }
         ensures burns { Burns (left self.old) (left self.new) result }

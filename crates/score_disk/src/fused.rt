@@ -105,7 +105,8 @@ impl<D: CrashDisk> Disk for Fused<D> {
         ensures tells { D.tells self.new.inner ≡ D.tells self.old.inner }
         ensures spare { D.spare self.new.inner ≡ D.spare self.old.inner }
         ensures left { self.new.left ≡ self.old.left }
-        ensures counted { Counted (D.faults self.old.inner + self.old.stops) (D.faults self.new.inner + self.new.stops) (D.faults self.old.inner) (D.faults self.new.inner) self.new.left result }
+        ensures counted { Counted (D.faults self.old.inner + self.old.stops) (D.faults self.new.inner + self.new.stops)
+            (D.faults self.old.inner) (D.faults self.new.inner) self.new.left result }
         ensures behind { self.old.left ≡ Some 0 → IsErr result × (self.new.inner ≡ self.old.inner) }
     {
         if self.left == Some(0) {
@@ -117,12 +118,14 @@ impl<D: CrashDisk> Disk for Fused<D> {
 
     fn read(&mut self, at: u64, buf: &mut [u8]) -> Result<(), Failed>
         requires { IsTrue (D.tells self.old.inner) → at + length buf.old ≤ length (D.file self.old.inner).seen }
-        ensures bytes { OnOk result (IsTrue (D.tells self.old.inner) → buf.new ≡ slice_range (D.file self.old.inner).seen at (at + length buf.old)) }
+        ensures bytes { OnOk result (IsTrue (D.tells self.old.inner)
+            → buf.new ≡ slice_range (D.file self.old.inner).seen at (at + length buf.old)) }
         ensures file { D.file self.new.inner ≡ D.file self.old.inner }
         ensures tells { D.tells self.new.inner ≡ D.tells self.old.inner }
         ensures spare { D.spare self.new.inner ≡ D.spare self.old.inner }
         ensures left { self.new.left ≡ self.old.left }
-        ensures counted { Counted (D.faults self.old.inner + self.old.stops) (D.faults self.new.inner + self.new.stops) (D.faults self.old.inner) (D.faults self.new.inner) self.new.left result }
+        ensures counted { Counted (D.faults self.old.inner + self.old.stops) (D.faults self.new.inner + self.new.stops)
+            (D.faults self.old.inner) (D.faults self.new.inner) self.new.left result }
         ensures behind { self.old.left ≡ Some 0 → IsErr result × (self.new.inner ≡ self.old.inner) }
     {
         if self.left == Some(0) {
@@ -135,14 +138,18 @@ impl<D: CrashDisk> Disk for Fused<D> {
     fn write(&mut self, at: u64, bytes: &[u8]) -> Result<(), Failed>
         requires within { IsTrue (D.tells self.old.inner) → at ≤ length (D.file self.old.inner).seen }
         requires room { length bytes.now ≤ D.spare self.old.inner }
-        ensures written { OnOk result (IsTrue (D.tells self.old.inner) → D.file self.new.inner ≡ written at bytes.now (D.file self.old.inner)) }
-        ensures missed { OnErr result (IsTrue (D.tells self.old.inner) → Missed (D.file self.old.inner) (written at bytes.now (D.file self.old.inner)) (D.file self.new.inner)) }
+        ensures written { OnOk result
+            (IsTrue (D.tells self.old.inner) → D.file self.new.inner ≡ written at bytes.now (D.file self.old.inner)) }
+        ensures missed { OnErr result (IsTrue (D.tells self.old.inner)
+            → Missed (D.file self.old.inner) (written at bytes.now (D.file self.old.inner)) (D.file self.new.inner)) }
         ensures tells { D.tells self.new.inner ≡ D.tells self.old.inner }
         ensures spare { D.spare self.old.inner ≤ D.spare self.new.inner + length bytes.now }
         ensures burns { Burns self.old.left self.new.left result }
-        ensures counted { Counted (D.faults self.old.inner + self.old.stops) (D.faults self.new.inner + self.new.stops) (D.faults self.old.inner) (D.faults self.new.inner) self.new.left result }
+        ensures counted { Counted (D.faults self.old.inner + self.old.stops) (D.faults self.new.inner + self.new.stops)
+            (D.faults self.old.inner) (D.faults self.new.inner) self.new.left result }
         ensures behind { self.old.left ≡ Some 0 → self.new.inner ≡ self.old.inner }
-        ensures passed { self.old.left ≢ Some 0 → ¬ Rose (D.faults self.old.inner) (D.faults self.new.inner) → IsTrue (D.tells self.old.inner) → D.file self.new.inner ≡ written at bytes.now (D.file self.old.inner) }
+        ensures passed { self.old.left ≢ Some 0 → ¬ Rose (D.faults self.old.inner) (D.faults self.new.inner)
+            → IsTrue (D.tells self.old.inner) → D.file self.new.inner ≡ written at bytes.now (D.file self.old.inner) }
     {
         if self.left == Some(0) {
             self.stops = self.stops.saturating_add(1);
@@ -160,13 +167,16 @@ impl<D: CrashDisk> Disk for Fused<D> {
     fn cut(&mut self, at: u64) -> Result<(), Failed>
         requires within { IsTrue (D.tells self.old.inner) → at ≤ length (D.file self.old.inner).seen }
         ensures cut { OnOk result (IsTrue (D.tells self.old.inner) → D.file self.new.inner ≡ cut_to at (D.file self.old.inner)) }
-        ensures missed { OnErr result (IsTrue (D.tells self.old.inner) → Missed (D.file self.old.inner) (cut_to at (D.file self.old.inner)) (D.file self.new.inner)) }
+        ensures missed { OnErr result (IsTrue (D.tells self.old.inner)
+            → Missed (D.file self.old.inner) (cut_to at (D.file self.old.inner)) (D.file self.new.inner)) }
         ensures tells { D.tells self.new.inner ≡ D.tells self.old.inner }
         ensures spare { D.spare self.old.inner ≤ D.spare self.new.inner }
         ensures burns { Burns self.old.left self.new.left result }
-        ensures counted { Counted (D.faults self.old.inner + self.old.stops) (D.faults self.new.inner + self.new.stops) (D.faults self.old.inner) (D.faults self.new.inner) self.new.left result }
+        ensures counted { Counted (D.faults self.old.inner + self.old.stops) (D.faults self.new.inner + self.new.stops)
+            (D.faults self.old.inner) (D.faults self.new.inner) self.new.left result }
         ensures behind { self.old.left ≡ Some 0 → self.new.inner ≡ self.old.inner }
-        ensures passed { self.old.left ≢ Some 0 → ¬ Rose (D.faults self.old.inner) (D.faults self.new.inner) → IsTrue (D.tells self.old.inner) → D.file self.new.inner ≡ cut_to at (D.file self.old.inner) }
+        ensures passed { self.old.left ≢ Some 0 → ¬ Rose (D.faults self.old.inner) (D.faults self.new.inner)
+            → IsTrue (D.tells self.old.inner) → D.file self.new.inner ≡ cut_to at (D.file self.old.inner) }
     {
         if self.left == Some(0) {
             self.stops = self.stops.saturating_add(1);
@@ -187,7 +197,8 @@ impl<D: CrashDisk> Disk for Fused<D> {
         ensures tells { D.tells self.new.inner ≡ D.tells self.old.inner }
         ensures spare { D.spare self.old.inner ≤ D.spare self.new.inner }
         ensures burns { Burns self.old.left self.new.left result }
-        ensures counted { Counted (D.faults self.old.inner + self.old.stops) (D.faults self.new.inner + self.new.stops) (D.faults self.old.inner) (D.faults self.new.inner) self.new.left result }
+        ensures counted { Counted (D.faults self.old.inner + self.old.stops) (D.faults self.new.inner + self.new.stops)
+            (D.faults self.old.inner) (D.faults self.new.inner) self.new.left result }
         ensures stopped { self.new.left ≡ Some 0 → self.new.inner ≡ self.old.inner }
     {
         if self.left == Some(0) {

@@ -137,7 +137,8 @@ impl Disk for MemDisk {
         ensures puts { memory_file self.new ≡ written at bytes.now (memory_file self.old) }
         ensures settled { self.new.settled.items ≡ self.old.settled.items }
         ensures numbered { IsNumbered self.old self.new result }
-        ensures missed { OnErr result (IsTrue true → Missed (memory_file self.old) (written at bytes.now (memory_file self.old)) (memory_file self.new)) }
+        ensures missed { OnErr result (IsTrue true
+            → Missed (memory_file self.old) (written at bytes.now (memory_file self.old)) (memory_file self.new)) }
         ensures spare { self.old.spare ≤ self.new.spare + length bytes.now }
         ensures counted { Counted self.old.faults self.new.faults self.old.faults self.new.faults None result }
     {
@@ -154,7 +155,8 @@ impl Disk for MemDisk {
         ensures cuts { memory_file self.new ≡ cut_to at (memory_file self.old) }
         ensures settled { self.new.settled.items ≡ self.old.settled.items }
         ensures numbered { IsNumbered self.old self.new result }
-        ensures missed { OnErr result (IsTrue true → Missed (memory_file self.old) (cut_to at (memory_file self.old)) (memory_file self.new)) }
+        ensures missed { OnErr result
+            (IsTrue true → Missed (memory_file self.old) (cut_to at (memory_file self.old)) (memory_file self.new)) }
         ensures spare { self.old.spare ≤ self.new.spare }
         ensures counted { Counted self.old.faults self.new.faults self.old.faults self.new.faults None result }
     {
@@ -204,8 +206,10 @@ impl CrashDisk for MemDisk {
         ensures faults { self.new.faults ≡ self.old.faults }
         ensures settled { how % 3 ≡ 0 → self.new.bytes.items ≡ self.old.settled.items }
         ensures now { how % 3 ≡ 1 → self.new.bytes.items ≡ self.old.bytes.items }
-        ensures long { how % 3 ≡ 2 → length self.new.bytes.items ≡ max (length self.old.bytes.items) (length self.old.settled.items) }
-        ensures torn { how % 3 ≡ 2 → (i : ℕ) → i < length self.new.bytes.items → slice_index self.new.bytes.items i ≡ (if is_marked self.old.marks.items i then how / 3 % 256 else slice_index self.old.bytes.items i) }
+        ensures long { how % 3 ≡ 2
+            → length self.new.bytes.items ≡ max (length self.old.bytes.items) (length self.old.settled.items) }
+        ensures torn { how % 3 ≡ 2 → (i : ℕ) → i < length self.new.bytes.items → slice_index self.new.bytes.items i
+            ≡ (if is_marked self.old.marks.items i then how / 3 % 256 else slice_index self.old.bytes.items i) }
         ensures calls { self.new.calls ≡ self.old.calls }
         ensures fails { self.new.fails.items ≡ self.old.fails.items }
     {

@@ -25,7 +25,8 @@ key_small (b ∷ bs) is =
     omega (arith, leb-true (length bs) 31 q.1)
 
 -- members of at most this many bytes each
-members_small : {A : Type 0} (Is : A → Type 0) (f : A → List ℕ) (most : ℕ) → ((x : A) → Is x → length (f x) ≤ most) → (xs : List A) → AllByRecursion Is xs → length (flat_map f xs) ≤ most * length xs
+members_small : {A : Type 0} (Is : A → Type 0) (f : A → List ℕ) (most : ℕ) → ((x : A) → Is x → length (f x) ≤ most)
+    → (xs : List A) → AllByRecursion Is xs → length (flat_map f xs) ≤ most * length xs
 members_small Is f most small [] each = omega arith
 members_small Is f most small (x ∷ xs) each =
     let more = members_small Is f most small xs each.1 in

@@ -13,9 +13,11 @@ use Rattle.score_fields.specs.Reading.{◌>>=◌, first_outcome, first_ballot, f
 use Rattle.score_fields.proofs.Codecs.{IsCodec, IsBytes-rest, bind_some, codec_eight, codec_tx, codec_write}
 
 -- what one value behind a byte was
-behind_takes : {A B : Type 0} {Is : A → Type 0} {bytes_of : A → List ℕ} {first : List ℕ → Option (A × List ℕ)} (Good : B → Type 0) (said : B → List ℕ) (make : A → B) (b : ℕ)
+behind_takes : {A B : Type 0} {Is : A → Type 0} {bytes_of : A → List ℕ} {first : List ℕ → Option (A × List ℕ)}
+    (Good : B → Type 0) (said : B → List ℕ) (make : A → B) (b : ℕ)
     → IsCodec Is bytes_of first → ((a : A) → Is a → Good (make a)) → ((a : A) → said (make a) ≡ b ∷ bytes_of a)
-    → (bytes : List ℕ) (x : B × List ℕ) → IsBytes (b ∷ bytes) → (first bytes >>= λ a. Some (make a.0, a.1)) ≡ Some x → Good x.0 × (b ∷ bytes ≡ said x.0 ++ x.1)
+    → (bytes : List ℕ) (x : B × List ℕ) → IsBytes (b ∷ bytes) → (first bytes >>= λ a. Some (make a.0, a.1)) ≡ Some x
+    → Good x.0 × (b ∷ bytes ≡ said x.0 ++ x.1)
 behind_takes {A} {B} {Is} {bytes_of} {first} Good said make b codec good same bytes x fits e =
     let a = bind_some (first bytes) (λ y. Some (make y.0, y.1)) x e in
     let p = codec.takes bytes a.0.0 a.0.1 (IsBytes-rest b bytes fits) a.1 in
@@ -29,7 +31,8 @@ unfolding first_outcome
 outcome_again (Commit f) rest h = rw (codec_eight.again f rest h) refl
 outcome_again Abort rest h = refl
 
-outcome_takes : (bytes : List ℕ) (o : Outcome) (rest : List ℕ) → IsBytes bytes → first_outcome bytes ≡ Some (o, rest) → IsOutcome o × (bytes ≡ outcome_bytes o ++ rest)
+outcome_takes : (bytes : List ℕ) (o : Outcome) (rest : List ℕ) → IsBytes bytes → first_outcome bytes ≡ Some (o, rest)
+    → IsOutcome o × (bytes ≡ outcome_bytes o ++ rest)
 unfolding first_outcome
 outcome_takes [] o rest fits e = absurd cc
 outcome_takes (zero ∷ bytes) o rest fits e =
@@ -48,7 +51,8 @@ ballot_again (Yes p) rest h = rw (codec_eight.again p rest h) refl
 ballot_again (No (Holder t)) rest h = rw (codec_tx.again t rest h) refl
 ballot_again (No (Newer key f)) rest h = rw (codec_write.again (key, f) rest h) refl
 
-ballot_takes : (bytes : List ℕ) (v : Ballot) (rest : List ℕ) → IsBytes bytes → first_ballot bytes ≡ Some (v, rest) → IsBallot v × (bytes ≡ ballot_bytes v ++ rest)
+ballot_takes : (bytes : List ℕ) (v : Ballot) (rest : List ℕ) → IsBytes bytes → first_ballot bytes ≡ Some (v, rest)
+    → IsBallot v × (bytes ≡ ballot_bytes v ++ rest)
 unfolding first_ballot
 ballot_takes [] v rest fits e = absurd cc
 ballot_takes (zero ∷ bytes) v rest fits e = absurd cc
@@ -65,7 +69,8 @@ unfolding first_date
 date_again (First sid) rest h = rw (codec_eight.again sid rest h) refl
 date_again (At sid) rest h = rw (codec_eight.again sid rest h) refl
 
-date_takes : (bytes : List ℕ) (d : Date) (rest : List ℕ) → IsBytes bytes → first_date bytes ≡ Some (d, rest) → IsDate d × (bytes ≡ date_bytes d ++ rest)
+date_takes : (bytes : List ℕ) (d : Date) (rest : List ℕ) → IsBytes bytes → first_date bytes ≡ Some (d, rest)
+    → IsDate d × (bytes ≡ date_bytes d ++ rest)
 unfolding first_date
 date_takes [] d rest fits e = absurd cc
 date_takes (zero ∷ bytes) d rest fits e = behind_takes IsDate date_bytes (λ sid. First sid) 0 codec_eight (λ sid h. h) (λ sid. refl) bytes (d, rest) fits e
@@ -77,18 +82,23 @@ codec_date = record { again = date_again; takes = date_takes }
 
 -- ---- a value that is all of the bytes
 
-whole_read : {A : Type 0} {Is : A → Type 0} {bytes_of : A → List ℕ} {first : List ℕ → Option (A × List ℕ)} → IsCodec Is bytes_of first
+whole_read : {A : Type 0} {Is : A → Type 0} {bytes_of : A → List ℕ} {first : List ℕ → Option (A × List ℕ)}
+    → IsCodec Is bytes_of first
     → (bytes : List ℕ) (h : IsSpelling Is bytes_of bytes) → first bytes ≡ Some (h.value, [])
 whole_read {A} {Is} {bytes_of} {first} codec bytes h = ap first (h.spelled ∙ sym (append-nil (bytes_of h.value))) ∙ codec.again h.value [] h.fits
 
-pub is_read : {A : Type 0} {Is : A → Type 0} {bytes_of : A → List ℕ} {first : List ℕ → Option (A × List ℕ)} → IsCodec Is bytes_of first
-    → (bytes : List ℕ) (o : Option A) → IsSpelling Is bytes_of bytes → o ≡ option_map (λ x. x.0) (first bytes) → o ≡ None → ⊥
+pub is_read : {A : Type 0} {Is : A → Type 0} {bytes_of : A → List ℕ} {first : List ℕ → Option (A × List ℕ)}
+    → IsCodec Is bytes_of first
+    → (bytes : List ℕ) (o : Option A) → IsSpelling Is bytes_of bytes → o ≡ option_map (λ x. x.0) (first bytes)
+    → o ≡ None → ⊥
 is_read {A} codec bytes o h e none =
     let read : o ≡ Some h.value = e ∙ ap (λ (y : Option (A × List ℕ)). option_map (λ x. x.0) y) (whole_read codec bytes h) in
     cc
 
-pub read_is : {A : Type 0} {Is : A → Type 0} {bytes_of : A → List ℕ} {first : List ℕ → Option (A × List ℕ)} → IsCodec Is bytes_of first
-    → (bytes : List ℕ) (o : Option A) (a : A) → IsSpelling Is bytes_of bytes → o ≡ option_map (λ x. x.0) (first bytes) → o ≡ Some a → bytes ≡ bytes_of a
+pub read_is : {A : Type 0} {Is : A → Type 0} {bytes_of : A → List ℕ} {first : List ℕ → Option (A × List ℕ)}
+    → IsCodec Is bytes_of first
+    → (bytes : List ℕ) (o : Option A) (a : A) → IsSpelling Is bytes_of bytes → o ≡ option_map (λ x. x.0) (first bytes)
+    → o ≡ Some a → bytes ≡ bytes_of a
 read_is {A} {Is} {bytes_of} codec bytes o a h e some =
     let read : o ≡ Some h.value = e ∙ ap (λ (y : Option (A × List ℕ)). option_map (λ x. x.0) y) (whole_read codec bytes h) in
     let same : h.value ≡ a = cc in

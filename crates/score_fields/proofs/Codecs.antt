@@ -10,9 +10,11 @@ use Rattle.score_fields.specs.Spelling.{IsBytes, two_bytes, eight_bytes, key_byt
 use Rattle.score_fields.specs.Reading.{◌>>=◌, first_within, first_two, first_tx, first_eight, first_text, first_key, first_write}
 
 -- the two ways of one spelling
-pub record IsCodec {A : Type 0} (Is : A → Type 0) (bytes_of : A → List ℕ) (first : List ℕ → Option (A × List ℕ)) : Type 0 where
+pub record IsCodec {A : Type 0} (Is : A → Type 0) (bytes_of : A → List ℕ) (first : List ℕ → Option (A × List ℕ)) : Type
+    0 where
   pub again : (a : A) (rest : List ℕ) → Is a → first (bytes_of a ++ rest) ≡ Some (a, rest)
-  pub takes : (bytes : List ℕ) (a : A) (rest : List ℕ) → IsBytes bytes → first bytes ≡ Some (a, rest) → Is a × (bytes ≡ bytes_of a ++ rest)
+  pub takes : (bytes : List ℕ) (a : A) (rest : List ℕ) → IsBytes bytes → first bytes ≡ Some (a, rest)
+      → Is a × (bytes ≡ bytes_of a ++ rest)
 
 -- ---- bytes
 
@@ -38,16 +40,19 @@ IsBytes-behind front rest bytes e h =
 -- ---- steps of reading
 
 -- the value of a step that found one
-pub bind_some : {A B : Type 0} (o : Option A) (f : A → Option B) (y : B) → (o >>= f) ≡ Some y → (x : A) × (o ≡ Some x) × (f x ≡ Some y)
+pub bind_some : {A B : Type 0} (o : Option A) (f : A → Option B) (y : B) → (o >>= f) ≡ Some y
+    → (x : A) × (o ≡ Some x) × (f x ≡ Some y)
 bind_some None f y e = absurd cc
 bind_some (Some x) f y e = (x, refl, e)
 
 -- ---- numbers
 
-within_again : (low high n : ℕ) (rest : List ℕ) → (low ≤ n) × (n ≤ high) → first_within low high (n ∷ rest) ≡ Some (n, rest)
+within_again : (low high n : ℕ) (rest : List ℕ) → (low ≤ n) × (n ≤ high)
+    → first_within low high (n ∷ rest) ≡ Some (n, rest)
 within_again low high n rest h = rw (le-leb low n h.0, le-leb n high h.1) refl
 
-within_takes : (low high : ℕ) (bytes : List ℕ) (n : ℕ) (rest : List ℕ) → IsBytes bytes → first_within low high bytes ≡ Some (n, rest) → ((low ≤ n) × (n ≤ high)) × (bytes ≡ n ∷ rest)
+within_takes : (low high : ℕ) (bytes : List ℕ) (n : ℕ) (rest : List ℕ) → IsBytes bytes
+    → first_within low high bytes ≡ Some (n, rest) → ((low ≤ n) × (n ≤ high)) × (bytes ≡ n ∷ rest)
 within_takes low high [] n rest fits e = absurd cc
 within_takes low high (b ∷ bytes) n rest fits e =
     let g = cond_some (leb low b && leb b high) (b, bytes) (n, rest) e in
@@ -78,7 +83,8 @@ guard_some : {A : Type 0} (b : Bool) (x y : A) → cond b None (Some x) ≡ Some
 guard_some true x y e = absurd cc
 guard_some false x y e = (refl, cc)
 
-two_takes : (bytes : List ℕ) (n : ℕ) (rest : List ℕ) → IsBytes bytes → first_two bytes ≡ Some (n, rest) → (n < 2 ^ 16) × (bytes ≡ two_bytes n ++ rest)
+two_takes : (bytes : List ℕ) (n : ℕ) (rest : List ℕ) → IsBytes bytes → first_two bytes ≡ Some (n, rest)
+    → (n < 2 ^ 16) × (bytes ≡ two_bytes n ++ rest)
 unfolding two_bytes first_two
 two_takes bytes n rest fits e =
     let g = guard_some (ltb (length bytes) 2) (from_be_bytes w16 (take 2 bytes), drop 2 bytes) (n, rest) e in
@@ -97,7 +103,8 @@ eight_again n rest lt =
     let long : ltb (length (to_be_bytes w64 n ++ rest)) 8 ≡ false = le-ltb _ _ (omega (arith, length-append (to_be_bytes w64 n) rest)) in
     rw long (ap (λ (m : ℕ). Some (m, rest)) (from_be_bytes-to_be_bytes_8 n lt))
 
-eight_takes : (bytes : List ℕ) (n : ℕ) (rest : List ℕ) → IsBytes bytes → first_eight bytes ≡ Some (n, rest) → (n < 2 ^ 64) × (bytes ≡ eight_bytes n ++ rest)
+eight_takes : (bytes : List ℕ) (n : ℕ) (rest : List ℕ) → IsBytes bytes → first_eight bytes ≡ Some (n, rest)
+    → (n < 2 ^ 64) × (bytes ≡ eight_bytes n ++ rest)
 unfolding eight_bytes first_eight
 eight_takes bytes n rest fits e =
     let g = guard_some (ltb (length bytes) 8) (from_be_bytes w64 (take 8 bytes), drop 8 bytes) (n, rest) e in
@@ -114,7 +121,8 @@ tx_again : (t : ℕ) (rest : List ℕ) → IsTx t → first_tx (two_bytes t ++ r
 unfolding first_tx
 tx_again t rest h = rw (codec_two.again t rest h.1, ne_eqb t 0 (λ z. omega (arith, z, h.0))) refl
 
-tx_takes : (bytes : List ℕ) (t : ℕ) (rest : List ℕ) → IsBytes bytes → first_tx bytes ≡ Some (t, rest) → IsTx t × (bytes ≡ two_bytes t ++ rest)
+tx_takes : (bytes : List ℕ) (t : ℕ) (rest : List ℕ) → IsBytes bytes → first_tx bytes ≡ Some (t, rest)
+    → IsTx t × (bytes ≡ two_bytes t ++ rest)
 unfolding first_tx
 tx_takes bytes t rest fits e =
     let b = bind_some (first_two bytes) (λ x. cond (eqb x.0 0) None (Some x)) (t, rest) e in
@@ -147,7 +155,8 @@ key_again : (key rest : List ℕ) → IsKey key → first_key (key_bytes key ++ 
 unfolding first_key
 key_again key rest h = ap (λ (o : Option (List ℕ × List ℕ)). o >>= λ text. cond (is_key text.0) (Some text) None) (text_again key rest) ∙ rw h refl
 
-key_takes : (bytes key rest : List ℕ) → IsBytes bytes → first_key bytes ≡ Some (key, rest) → IsKey key × (bytes ≡ key_bytes key ++ rest)
+key_takes : (bytes key rest : List ℕ) → IsBytes bytes → first_key bytes ≡ Some (key, rest)
+    → IsKey key × (bytes ≡ key_bytes key ++ rest)
 unfolding first_key
 key_takes bytes key rest fits e =
     let b = bind_some (first_text bytes) (λ text. cond (is_key text.0) (Some text) None) (key, rest) e in
@@ -158,13 +167,15 @@ key_takes bytes key rest fits e =
 pub codec_key : IsCodec IsKey key_bytes first_key
 codec_key = record { again = key_again; takes = key_takes }
 
-write_again : (write : List ℕ × ℕ) (rest : List ℕ) → IsWrite write → first_write (write_bytes write ++ rest) ≡ Some (write, rest)
+write_again : (write : List ℕ × ℕ) (rest : List ℕ) → IsWrite write
+    → first_write (write_bytes write ++ rest) ≡ Some (write, rest)
 unfolding first_write
 write_again write rest h =
     let regrouped : write_bytes write ++ rest ≡ key_bytes write.0 ++ (eight_bytes write.1 ++ rest) = append_assoc (key_bytes write.0) (eight_bytes write.1) rest in
     ap first_write regrouped ∙ rw (codec_key.again write.0 (eight_bytes write.1 ++ rest) h.0, codec_eight.again write.1 rest h.1) refl
 
-write_takes : (bytes : List ℕ) (write : List ℕ × ℕ) (rest : List ℕ) → IsBytes bytes → first_write bytes ≡ Some (write, rest) → IsWrite write × (bytes ≡ write_bytes write ++ rest)
+write_takes : (bytes : List ℕ) (write : List ℕ × ℕ) (rest : List ℕ) → IsBytes bytes
+    → first_write bytes ≡ Some (write, rest) → IsWrite write × (bytes ≡ write_bytes write ++ rest)
 unfolding first_write
 write_takes bytes write rest fits e =
     let a = bind_some (first_key bytes) (λ key. first_eight key.1 >>= λ value. Some ((key.0, value.0), value.1)) (write, rest) e in

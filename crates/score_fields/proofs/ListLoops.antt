@@ -10,17 +10,20 @@ use Rattle.score_fields.proofs.Lengths.{length-write_bytes}
 use Rattle.score_fields.proofs.Codecs.{IsCodec}
 
 -- the members from this one on
-pub flat_map_rest : {A : Type 0} (f : A → List ℕ) (xs : List A) (i : ℕ) (x : A) → i < length xs → x ≡ get_or xs i x → flat_map f (drop i xs) ≡ f x ++ flat_map f (drop (i + 1) xs)
+pub flat_map_rest : {A : Type 0} (f : A → List ℕ) (xs : List A) (i : ℕ) (x : A) → i < length xs → x ≡ get_or xs i x
+    → flat_map f (drop i xs) ≡ f x ++ flat_map f (drop (i + 1) xs)
 flat_map_rest {A} f xs i x lt is =
     let next : suc i ≡ i + 1 = omega arith in
     ap (flat_map f) (drop-cons xs i x lt) ∙ flat_map-cons f (get_or xs i x) (drop (suc i) xs) ∙ ap (λ (y : A). f y ++ flat_map f (drop (suc i) xs)) (sym is) ∙ ap (λ (j : ℕ). f x ++ flat_map f (drop j xs)) next
 
 -- ---- writing what is left, into room for all of it
 
-pub room_for : (out rest old total : List ℕ) (cap : ℕ) → out ++ rest ≡ old ++ total → length old + length total ≤ cap → length out + length rest ≤ cap
+pub room_for : (out rest old total : List ℕ) (cap : ℕ) → out ++ rest ≡ old ++ total → length old + length total ≤ cap
+    → length out + length rest ≤ cap
 room_for out rest old total cap e room = omega (arith, room, length-append out rest, length-append old total, ap length e)
 
-pub room_more : {A : Type 0} (f : A → List ℕ) (xs : List A) (i : ℕ) (x : A) (out old total : List ℕ) (cap : ℕ) → i < length xs → x ≡ get_or xs i x
+pub room_more : {A : Type 0} (f : A → List ℕ) (xs : List A) (i : ℕ) (x : A) (out old total : List ℕ) (cap : ℕ)
+    → i < length xs → x ≡ get_or xs i x
     → out ++ flat_map f (drop i xs) ≡ old ++ total → length old + length total ≤ cap → length out + length (f x) ≤ cap
 room_more f xs i x out old total cap lt is e room =
     let here = ap length (flat_map_rest f xs i x lt is) in
@@ -29,7 +32,8 @@ room_more f xs i x out old total cap lt is e room =
 -- ---- reading what is left
 
 -- the rest spells what is still to come of a list
-pub record Left {A : Type 0} (Is : A → Type 0) (Are : List A → Type 0) (f : A → List ℕ) (list : List A) (rest bytes : List ℕ) : Type 0 where
+pub record Left {A : Type 0} (Is : A → Type 0) (Are : List A → Type 0) (f : A → List ℕ) (list : List A)
+    (rest bytes : List ℕ) : Type 0 where
   pub left : List A
   pub each : AllByRecursion Is left
   pub spelled : rest ≡ flat_map f left
@@ -37,8 +41,10 @@ pub record Left {A : Type 0} (Is : A → Type 0) (Are : List A → Type 0) (f : 
   pub are : Are (list ++ left)
 
 -- a member that was read is the next
-next_is : {A : Type 0} (Is : A → Type 0) (f : A → List ℕ) (first : List ℕ → Option (A × List ℕ)) → IsCodec Is f first → first [] ≡ None
-    → (left : List A) (rest : List ℕ) (x : A) (after : List ℕ) → AllByRecursion Is left → rest ≡ flat_map f left → Some (x, after) ≡ first rest
+next_is : {A : Type 0} (Is : A → Type 0) (f : A → List ℕ) (first : List ℕ → Option (A × List ℕ)) → IsCodec Is f first
+    → first [] ≡ None
+    → (left : List A) (rest : List ℕ) (x : A) (after : List ℕ) → AllByRecursion Is left → rest ≡ flat_map f left
+    → Some (x, after) ≡ first rest
     → (others : List A) × (left ≡ x ∷ others) × (after ≡ flat_map f others)
 next_is Is f first codec none [] rest x after each e read = absurd (let bad : Some (x, after) ≡ None = read ∙ ap first e ∙ none in cc)
 next_is {A} Is f first codec none (y ∷ ys) rest x after each e read =
@@ -47,8 +53,10 @@ next_is {A} Is f first codec none (y ∷ ys) rest x after each e read =
     let same : x ≡ y = ap (λ (p : A × List ℕ). p.0) pair in
     (ys, ap (λ (z : A). z ∷ ys) (sym same), ap (λ (p : A × List ℕ). p.1) pair)
 
-pub left_next : {A : Type 0} (Is : A → Type 0) (Are : List A → Type 0) (f : A → List ℕ) (first : List ℕ → Option (A × List ℕ)) → IsCodec Is f first → first [] ≡ None
-    → (list : List A) (rest bytes : List ℕ) (x : A) (after : List ℕ) → Left Is Are f list rest bytes → Some (x, after) ≡ first rest → Left Is Are f (list ++ x ∷ []) after bytes
+pub left_next : {A : Type 0} (Is : A → Type 0) (Are : List A → Type 0) (f : A → List ℕ)
+    (first : List ℕ → Option (A × List ℕ)) → IsCodec Is f first → first [] ≡ None
+    → (list : List A) (rest bytes : List ℕ) (x : A) (after : List ℕ) → Left Is Are f list rest bytes
+    → Some (x, after) ≡ first rest → Left Is Are f (list ++ x ∷ []) after bytes
 left_next {A} Is Are f first codec none list rest bytes x after l read =
     let n = next_is Is f first codec none l.left rest x after l.each l.spelled read in
     let others = n.0 in
@@ -63,16 +71,20 @@ left_next {A} Is Are f first codec none list rest bytes x after l read =
     }
 
 -- the rest gets shorter
-pub left_shorter : {A : Type 0} (Is : A → Type 0) (Are : List A → Type 0) (f : A → List ℕ) (first : List ℕ → Option (A × List ℕ)) → IsCodec Is f first → first [] ≡ None → ((a : A) → 0 < length (f a))
-    → (list : List A) (rest bytes : List ℕ) (x : A) (after : List ℕ) → Left Is Are f list rest bytes → Some (x, after) ≡ first rest → length after < length rest
+pub left_shorter : {A : Type 0} (Is : A → Type 0) (Are : List A → Type 0) (f : A → List ℕ)
+    (first : List ℕ → Option (A × List ℕ)) → IsCodec Is f first → first [] ≡ None → ((a : A) → 0 < length (f a))
+    → (list : List A) (rest bytes : List ℕ) (x : A) (after : List ℕ) → Left Is Are f list rest bytes
+    → Some (x, after) ≡ first rest → length after < length rest
 left_shorter {A} Is Are f first codec none some list rest bytes x after l read =
     let n = next_is Is f first codec none l.left rest x after l.each l.spelled read in
     let others = n.0 in
     let whole : rest ≡ f x ++ after = l.spelled ∙ ap (flat_map f) n.1 ∙ flat_map-cons f x others ∙ ap (λ (y : List ℕ). f x ++ y) (sym n.2) in
     omega (arith, ap length whole, length-append (f x) after, some x)
 
-pub left_end : {A : Type 0} (Is : A → Type 0) (Are : List A → Type 0) (f : A → List ℕ) (first : List ℕ → Option (A × List ℕ)) → IsCodec Is f first
-    → (list : List A) (rest bytes : List ℕ) → Left Is Are f list rest bytes → None ≡ first rest → Are list × (bytes ≡ length list ∷ flat_map f list)
+pub left_end : {A : Type 0} (Is : A → Type 0) (Are : List A → Type 0) (f : A → List ℕ)
+    (first : List ℕ → Option (A × List ℕ)) → IsCodec Is f first
+    → (list : List A) (rest bytes : List ℕ) → Left Is Are f list rest bytes → None ≡ first rest
+    → Are list × (bytes ≡ length list ∷ flat_map f list)
 left_end {A} Is Are f first codec list rest bytes l read =
     let nothing : l.left ≡ [] = empty l.left l.each l.spelled in
     let same : list ++ l.left ≡ list = ap (λ (y : List A). list ++ y) nothing ∙ append-nil list in

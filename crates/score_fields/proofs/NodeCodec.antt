@@ -15,7 +15,8 @@ pub record Rises (low : ℕ) (nodes : List ℕ) : Type 0 where
   pub each : AllByRecursion IsNode nodes
   pub rising : IsStrictlyIncreasing nodes
 
-rising_on : (n : ℕ) (ns : List ℕ) → (0 < length ns → n < get_or ns 0 0) → IsStrictlyIncreasing ns → IsStrictlyIncreasing (n ∷ ns)
+rising_on : (n : ℕ) (ns : List ℕ) → (0 < length ns → n < get_or ns 0 0) → IsStrictlyIncreasing ns
+    → IsStrictlyIncreasing (n ∷ ns)
 rising_on n ns above more zero lt = above (omega (arith, lt))
 rising_on n ns above more (suc k) lt =
     let next : suc (k + 1) ≡ suc k + 1 = omega arith in
@@ -36,7 +37,8 @@ rises_tells low (n ∷ ns) e =
     let more = rises_tells n ns p.1 in
     record { first = λ some. above; each = ((omega arith, most), more.each); rising = rising_on n ns more.first more.rising }
 
-pub rises_told : (low : ℕ) (nodes : List ℕ) → (0 < length nodes → low < get_or nodes 0 0) → AllByRecursion IsNode nodes → IsStrictlyIncreasing nodes → rises_above low nodes ≡ true
+pub rises_told : (low : ℕ) (nodes : List ℕ) → (0 < length nodes → low < get_or nodes 0 0) → AllByRecursion IsNode nodes
+    → IsStrictlyIncreasing nodes → rises_above low nodes ≡ true
 rises_told low [] first each rising = refl
 rises_told low (n ∷ ns) first each rising =
     let above : low < n = first (omega arith) in
@@ -54,7 +56,8 @@ nodes_again nodes rest h =
     let rises : rises_above 0 nodes ≡ true = rises_told 0 nodes (first_node nodes h.each) h.each h.rising in
     rw (le-leb 1 (length nodes) h.some, le-leb (length nodes) 16 h.most, long, take_at nodes rest (length nodes) refl, drop_at nodes rest (length nodes) refl, rises) refl
 
-nodes_takes : (bytes nodes rest : List ℕ) → IsBytes bytes → first_nodes bytes ≡ Some (nodes, rest) → AreNodes nodes × (bytes ≡ nodes_bytes nodes ++ rest)
+nodes_takes : (bytes nodes rest : List ℕ) → IsBytes bytes → first_nodes bytes ≡ Some (nodes, rest)
+    → AreNodes nodes × (bytes ≡ nodes_bytes nodes ++ rest)
 unfolding first_nodes
 nodes_takes [] nodes rest fits e = absurd cc
 nodes_takes (n ∷ bytes) nodes rest fits e =

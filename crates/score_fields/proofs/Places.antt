@@ -12,19 +12,23 @@ use Rattle.score_fields.specs.Fields.{Meaning, Number, Key, Bytes, meaning, IsWi
 use Rattle.score_fields.proofs.Codecs.{IsBytes-drop}
 use Rattle.score_fields.proofs.FieldCodecs.{field_takes, fields_takes, fields_again}
 
-span_long : (bytes rest : List ℕ) (place : ℕ) (behind : List ℕ) → place ≤ length bytes → length rest < length (drop place bytes) → rest ≡ behind
+span_long : (bytes rest : List ℕ) (place : ℕ) (behind : List ℕ) → place ≤ length bytes
+    → length rest < length (drop place bytes) → rest ≡ behind
     → place + length (take (length (drop place bytes) - length behind) (drop place bytes)) ≡ length bytes - length rest
 span_long bytes rest place behind within shorter same =
     omega (arith, ap length same, length-take (length (drop place bytes) - length behind) (drop place bytes), length-drop place bytes)
 
 span_at : (end place : ℕ) (bytes rest behind : List ℕ) → end ≡ length bytes - length rest → rest ≡ behind
-    → ◌≡◌ {A = Option (Datum × ℕ)} (Some (datum.Span place (length bytes - length rest), length bytes - length rest)) (Some (datum.Span place end, length bytes - length behind))
+    → ◌≡◌ {A = Option (Datum × ℕ)} (Some (datum.Span place (length bytes - length rest), length bytes - length rest))
+    (Some (datum.Span place end, length bytes - length behind))
 span_at end place bytes rest behind long same =
     ap (λ (n : ℕ). Some (datum.Span place n, length bytes - length rest)) (sym long) ∙ ap (λ (r : List ℕ). Some (datum.Span place end, length bytes - length r)) same
 
 -- a span from where a value was read first to where the rest begins
-pub span_is : {A : Type 0} (bytes rest : List ℕ) (place : ℕ) (o : Option (A × List ℕ)) → place ≤ length bytes → length rest < length (drop place bytes) → Some rest ≡ option_map (λ x. x.1) o
-    → ◌≡◌ {A = Option (Datum × ℕ)} (Some (datum.Span place (length bytes - length rest), length bytes - length rest)) (placed place bytes (as_bytes (drop place bytes) o))
+pub span_is : {A : Type 0} (bytes rest : List ℕ) (place : ℕ) (o : Option (A × List ℕ)) → place ≤ length bytes
+    → length rest < length (drop place bytes) → Some rest ≡ option_map (λ x. x.1) o
+    → ◌≡◌ {A = Option (Datum × ℕ)} (Some (datum.Span place (length bytes - length rest), length bytes - length rest))
+    (placed place bytes (as_bytes (drop place bytes) o))
 span_is bytes rest place None within shorter e = absurd cc
 span_is bytes rest place (Some x) within shorter e =
     let same : rest ≡ x.1 = cc in
@@ -33,10 +37,12 @@ span_is bytes rest place (Some x) within shorter e =
 
 -- ---- data and what they mean
 
-placed_as : (f : Field) (place : ℕ) (bytes : List ℕ) (x : Meaning × List ℕ) → place ≤ length bytes → drop place bytes ≡ field_bytes f x.0 ++ x.1 → length bytes - length x.1 ≡ place + length (field_bytes f x.0)
+placed_as : (f : Field) (place : ℕ) (bytes : List ℕ) (x : Meaning × List ℕ) → place ≤ length bytes
+    → drop place bytes ≡ field_bytes f x.0 ++ x.1 → length bytes - length x.1 ≡ place + length (field_bytes f x.0)
 placed_as f place bytes x within e = omega (arith, ap length e, length-append (field_bytes f x.0) x.1, length-drop place bytes)
 
-rest_is : (place : ℕ) (bytes front rest : List ℕ) → drop place bytes ≡ front ++ rest → drop (place + length front) bytes ≡ rest
+rest_is : (place : ℕ) (bytes front rest : List ℕ) → drop place bytes ≡ front ++ rest
+    → drop (place + length front) bytes ≡ rest
 rest_is place bytes front rest e = sym (drop-drop (length front) place bytes) ∙ ap (drop (length front)) e ∙ drop_at front rest (length front) refl
 
 -- the data of what a table reads first from this place on
@@ -50,7 +56,8 @@ with_datum d o = o >>= λ ds. Some (d ∷ ds.0, ds.1)
 abbrev with_meaning : Meaning → Option (List Meaning × List ℕ) → Option (List Meaning × List ℕ)
 with_meaning m o = o >>= λ ms. Some (m ∷ ms.0, ms.1)
 
-one_more : (f : Field) (fs : List Field) (place : ℕ) (bytes : List ℕ) (m : Meaning) (after : ℕ) (o : Option (List Meaning × List ℕ)) → after ≡ place + length (field_bytes f m)
+one_more : (f : Field) (fs : List Field) (place : ℕ) (bytes : List ℕ) (m : Meaning) (after : ℕ)
+    (o : Option (List Meaning × List ℕ)) → after ≡ place + length (field_bytes f m)
     → with_datum (datum_at place m) (data_of after fs bytes o) ≡ data_of place (f ∷ fs) bytes (with_meaning m o)
 one_more f fs place bytes m after None e = refl
 one_more f fs place bytes m after (Some x) e = ap (λ (n : ℕ). Some (datum_at place m ∷ data_at n fs x.0, length bytes - length x.1)) e
@@ -63,7 +70,8 @@ data_is [] place bytes fits within =
 data_is (f ∷ fs) place bytes fits within = by_field (λ p. data_is fs p bytes fits) (first_field f (drop place bytes)) refl where
   by_field : ((p : ℕ) → p ≤ length bytes → data_from fs p bytes ≡ data_of p fs bytes (first_fields fs (drop p bytes)))
       → (o : Option (Meaning × List ℕ)) → first_field f (drop place bytes) ≡ o
-      → (placed place bytes o >>= λ d. with_datum d.0 (data_from fs d.1 bytes)) ≡ data_of place (f ∷ fs) bytes (o >>= λ m. with_meaning m.0 (first_fields fs m.1))
+      → (placed place bytes o >>= λ d. with_datum d.0 (data_from fs d.1 bytes))
+      ≡ data_of place (f ∷ fs) bytes (o >>= λ m. with_meaning m.0 (first_fields fs m.1))
   by_field rest_of None e = refl
   by_field rest_of (Some x) e =
       let took = field_takes f (drop place bytes) x (IsBytes-drop place bytes fits) e in
@@ -74,19 +82,23 @@ data_is (f ∷ fs) place bytes fits within = by_field (λ p. data_is fs p bytes 
 
 -- ---- what data mean where they stand
 
-front_slice : (front text rest : List ℕ) → slice_range (front ++ (text ++ rest)) (length front) (length front + length text) ≡ text
+front_slice : (front text rest : List ℕ)
+    → slice_range (front ++ (text ++ rest)) (length front) (length front + length text) ≡ text
 front_slice front text rest =
     let n : length front + length text - length front ≡ length text = omega arith in
     ap (λ (k : ℕ). take k (drop (length front) (front ++ (text ++ rest)))) n ∙ ap (take (length text)) (drop_at front (text ++ rest) (length front) refl) ∙ take_at text rest (length text) refl
 
 -- a datum that was placed means what was meant, and lies in the bytes
-means_it : (f : Field) (m : Meaning) (front rest : List ℕ) → (meaning (front ++ (field_bytes f m ++ rest)) (datum_at (length front) m) ≡ m) × IsWithin (front ++ (field_bytes f m ++ rest)) (datum_at (length front) m)
+means_it : (f : Field) (m : Meaning) (front rest : List ℕ)
+    → (meaning (front ++ (field_bytes f m ++ rest)) (datum_at (length front) m) ≡ m)
+    × IsWithin (front ++ (field_bytes f m ++ rest)) (datum_at (length front) m)
 means_it f (Number n) front rest = (refl, tt)
 means_it f (Key key) front rest = (refl, tt)
 means_it f (Bytes text) front rest = (ap (λ (b : List ℕ). Bytes b) (front_slice front text rest), (omega arith, omega (arith, length-append front (text ++ rest), length-append text rest)))
 
 pub mean_them : (fs : List Field) (ms : List Meaning) (front rest : List ℕ) → AllFit fs ms
-    → (map (meaning (front ++ (fields_bytes fs ms ++ rest))) (data_at (length front) fs ms) ≡ ms) × AllByRecursion (IsWithin (front ++ (fields_bytes fs ms ++ rest))) (data_at (length front) fs ms)
+    → (map (meaning (front ++ (fields_bytes fs ms ++ rest))) (data_at (length front) fs ms) ≡ ms)
+    × AllByRecursion (IsWithin (front ++ (fields_bytes fs ms ++ rest))) (data_at (length front) fs ms)
 mean_them [] [] front rest fit = (refl, tt)
 mean_them [] (m ∷ ms) front rest fit = absurd fit
 mean_them (f ∷ fs) [] front rest fit = absurd fit
@@ -107,7 +119,8 @@ mean_them (f ∷ fs) (m ∷ ms) front rest fit =
 
 -- ---- a whole layout
 
-some_data : (place : ℕ) (fs : List Field) (bytes : List ℕ) (o : Option (List Meaning × List ℕ)) (values : List Datum) (used : ℕ) → Some (values, used) ≡ data_of place fs bytes o
+some_data : (place : ℕ) (fs : List Field) (bytes : List ℕ) (o : Option (List Meaning × List ℕ)) (values : List Datum)
+    (used : ℕ) → Some (values, used) ≡ data_of place fs bytes o
     → (x : List Meaning × List ℕ) × (o ≡ Some x) × (values ≡ data_at place fs x.0) × (used ≡ length bytes - length x.1)
 some_data place fs bytes None values used e = absurd cc
 some_data place fs bytes (Some x) values used e =
@@ -115,7 +128,8 @@ some_data place fs bytes (Some x) values used e =
     (x, refl, ap (λ (p : List Datum × ℕ). p.0) pair, ap (λ (p : List Datum × ℕ). p.1) pair)
 
 -- what a table took is what stands there
-pub is_taken : (tag : ℕ) (fs : List Field) (bytes : List ℕ) (values : List Datum) (used : ℕ) → IsBytes bytes → bytes ≡ tag ∷ drop 1 bytes → Some (values, used) ≡ data_from fs 1 bytes → IsTaken tag fs bytes values used
+pub is_taken : (tag : ℕ) (fs : List Field) (bytes : List ℕ) (values : List Datum) (used : ℕ) → IsBytes bytes
+    → bytes ≡ tag ∷ drop 1 bytes → Some (values, used) ≡ data_from fs 1 bytes → IsTaken tag fs bytes values used
 is_taken tag fs bytes values used fits tag-is e =
     let some : 1 ≤ length bytes = omega (arith, ap length tag-is) in
     let s = some_data 1 fs bytes (first_fields fs (drop 1 bytes)) values used (e ∙ data_is fs 1 bytes fits some) in
@@ -137,7 +151,8 @@ is_taken tag fs bytes values used fits tag-is e =
     }
 
 -- what is spelled so is taken
-pub is_taken_again : (tag : ℕ) (fs : List Field) (bytes : List ℕ) (ms : List Meaning) (rest : List ℕ) → IsBytes bytes → AllFit fs ms → bytes ≡ layout_bytes tag fs ms ++ rest
+pub is_taken_again : (tag : ℕ) (fs : List Field) (bytes : List ℕ) (ms : List Meaning) (rest : List ℕ) → IsBytes bytes
+    → AllFit fs ms → bytes ≡ layout_bytes tag fs ms ++ rest
     → data_from fs 1 bytes ≡ Some (data_at 1 fs ms, length (layout_bytes tag fs ms))
 is_taken_again tag fs bytes ms rest fits fit e =
     let some : 1 ≤ length bytes = omega (arith, ap length e) in
@@ -152,13 +167,16 @@ pub behind_tag : (bytes : List ℕ) (tag : ℕ) → 1 ≤ length bytes → get_o
 behind_tag [] tag some e = absurd (omega (arith, some))
 behind_tag (b ∷ bytes) tag some e = ap (λ (n : ℕ). n ∷ bytes) e
 
-pub not_taken : (tag : ℕ) (fs : List Field) (bytes : List ℕ) → IsBytes bytes → None ≡ data_from fs 1 bytes → (ms : List Meaning) (rest : List ℕ) → AllFit fs ms → bytes ≡ layout_bytes tag fs ms ++ rest → ⊥
+pub not_taken : (tag : ℕ) (fs : List Field) (bytes : List ℕ) → IsBytes bytes → None ≡ data_from fs 1 bytes
+    → (ms : List Meaning) (rest : List ℕ) → AllFit fs ms → bytes ≡ layout_bytes tag fs ms ++ rest → ⊥
 not_taken tag fs bytes fits none ms rest fit e =
     let bad : ◌≡◌ {A = Option (List Datum × ℕ)} None (Some (data_at 1 fs ms, length (layout_bytes tag fs ms))) = none ∙ is_taken_again tag fs bytes ms rest fits fit e in
     absurd cc
 
-pub taken_is : (tag : ℕ) (fs : List Field) (bytes : List ℕ) (values : List Datum) (used : ℕ) → IsBytes bytes → Some (values, used) ≡ data_from fs 1 bytes
-    → (ms : List Meaning) (rest : List ℕ) → AllFit fs ms → bytes ≡ layout_bytes tag fs ms ++ rest → (values ≡ data_at 1 fs ms) × (used ≡ length (layout_bytes tag fs ms))
+pub taken_is : (tag : ℕ) (fs : List Field) (bytes : List ℕ) (values : List Datum) (used : ℕ) → IsBytes bytes
+    → Some (values, used) ≡ data_from fs 1 bytes
+    → (ms : List Meaning) (rest : List ℕ) → AllFit fs ms → bytes ≡ layout_bytes tag fs ms ++ rest
+    → (values ≡ data_at 1 fs ms) × (used ≡ length (layout_bytes tag fs ms))
 taken_is tag fs bytes values used fits some ms rest fit e =
     let same : ◌≡◌ {A = Option (List Datum × ℕ)} (Some (values, used)) (Some (data_at 1 fs ms, length (layout_bytes tag fs ms))) = some ∙ is_taken_again tag fs bytes ms rest fits fit e in
     let pair : ◌≡◌ {A = List Datum × ℕ} (values, used) (data_at 1 fs ms, length (layout_bytes tag fs ms)) = cc in

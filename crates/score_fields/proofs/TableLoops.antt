@@ -33,9 +33,11 @@ fields_from fs i f lt =
 pub record Here (source : List ℕ) (fs : List Field) (values : List Datum) (i : ℕ) (f : Field) (d : Datum) : Type 0 where
   pub fits : Fits f (meaning source d)
   pub within : IsWithin source d
-  pub rest : fields_bytes (drop i fs) (drop i (map (meaning source) values)) ≡ field_bytes f (meaning source d) ++ fields_bytes (drop (i + 1) fs) (drop (i + 1) (map (meaning source) values))
+  pub rest : fields_bytes (drop i fs) (drop i (map (meaning source) values)) ≡ field_bytes f (meaning source d) ++
+      fields_bytes (drop (i + 1) fs) (drop (i + 1) (map (meaning source) values))
 
-pub here : (source : List ℕ) (fs : List Field) (values : List Datum) (i : ℕ) (f : Field) (d : Datum) → AllFit fs (map (meaning source) values) → All (IsWithin source) values
+pub here : (source : List ℕ) (fs : List Field) (values : List Datum) (i : ℕ) (f : Field) (d : Datum)
+    → AllFit fs (map (meaning source) values) → All (IsWithin source) values
     → i < length fs → d ≡ get_or values i d → Here source fs values i (get_or fs i f) d
 here source fs values i f0 d fit within lt d-is =
     let f = get_or fs i f0 in
@@ -55,32 +57,41 @@ here source fs values i f0 d fit within lt d-is =
     }
 
 -- the length so far and what is left of it
-pub len_more : (source : List ℕ) (fs : List Field) (values : List Datum) (i : ℕ) (f : Field) (d : Datum) (len total : ℕ) → Here source fs values i f d
+pub len_more : (source : List ℕ) (fs : List Field) (values : List Datum) (i : ℕ) (f : Field) (d : Datum) (len total : ℕ)
+    → Here source fs values i f d
     → len + length (fields_bytes (drop i fs) (drop i (map (meaning source) values))) ≡ total
-    → (len + length (field_bytes f (meaning source d))) + length (fields_bytes (drop (i + 1) fs) (drop (i + 1) (map (meaning source) values))) ≡ total
+    → (len + length (field_bytes f (meaning source d)))
+    + length (fields_bytes (drop (i + 1) fs) (drop (i + 1) (map (meaning source) values))) ≡ total
 len_more source fs values i f d len total h e =
     omega (arith, e, ap length h.rest, length-append (field_bytes f (meaning source d)) (fields_bytes (drop (i + 1) fs) (drop (i + 1) (map (meaning source) values))))
 
-pub piece_fits : (source : List ℕ) (fs : List Field) (values : List Datum) (i : ℕ) (f : Field) (d : Datum) (len total : ℕ) → Here source fs values i f d
-    → len + length (fields_bytes (drop i fs) (drop i (map (meaning source) values))) ≡ total → len + length (field_bytes f (meaning source d)) ≤ total
+pub piece_fits : (source : List ℕ) (fs : List Field) (values : List Datum) (i : ℕ) (f : Field) (d : Datum)
+    (len total : ℕ) → Here source fs values i f d
+    → len + length (fields_bytes (drop i fs) (drop i (map (meaning source) values))) ≡ total
+    → len + length (field_bytes f (meaning source d)) ≤ total
 piece_fits source fs values i f d len total h e =
     omega (arith, e, ap length h.rest, length-append (field_bytes f (meaning source d)) (fields_bytes (drop (i + 1) fs) (drop (i + 1) (map (meaning source) values))))
 
 -- the bytes so far and what is left of them
-pub bytes_more : (source : List ℕ) (fs : List Field) (values : List Datum) (i : ℕ) (f : Field) (d : Datum) (out out' whole : List ℕ) → Here source fs values i f d
-    → out' ≡ out ++ field_bytes f (meaning source d) → out ++ fields_bytes (drop i fs) (drop i (map (meaning source) values)) ≡ whole
+pub bytes_more : (source : List ℕ) (fs : List Field) (values : List Datum) (i : ℕ) (f : Field) (d : Datum)
+    (out out' whole : List ℕ) → Here source fs values i f d
+    → out' ≡ out ++ field_bytes f (meaning source d)
+    → out ++ fields_bytes (drop i fs) (drop i (map (meaning source) values)) ≡ whole
     → out' ++ fields_bytes (drop (i + 1) fs) (drop (i + 1) (map (meaning source) values)) ≡ whole
 bytes_more source fs values i f d out out' whole h put e =
     let rest = fields_bytes (drop (i + 1) fs) (drop (i + 1) (map (meaning source) values)) in
     ap (λ (y : List ℕ). y ++ rest) put ∙ append_assoc out (field_bytes f (meaning source d)) rest ∙ ap (λ (y : List ℕ). out ++ y) (sym h.rest) ∙ e
 
-pub bytes_fit : (source : List ℕ) (fs : List Field) (values : List Datum) (i : ℕ) (f : Field) (d : Datum) (out old total : List ℕ) (cap : ℕ) → Here source fs values i f d
-    → out ++ fields_bytes (drop i fs) (drop i (map (meaning source) values)) ≡ old ++ total → length old + length total ≤ cap → length out + length (field_bytes f (meaning source d)) ≤ cap
+pub bytes_fit : (source : List ℕ) (fs : List Field) (values : List Datum) (i : ℕ) (f : Field) (d : Datum)
+    (out old total : List ℕ) (cap : ℕ) → Here source fs values i f d
+    → out ++ fields_bytes (drop i fs) (drop i (map (meaning source) values)) ≡ old ++ total
+    → length old + length total ≤ cap → length out + length (field_bytes f (meaning source d)) ≤ cap
 bytes_fit source fs values i f d out old total cap h e room =
     let rest = fields_bytes (drop (i + 1) fs) (drop (i + 1) (map (meaning source) values)) in
     omega (arith, room, ap length e, length-append out (fields_bytes (drop i fs) (drop i (map (meaning source) values))), length-append old total, ap length h.rest, length-append (field_bytes f (meaning source d)) rest)
 
-pub layout_small : (tag : ℕ) (fs : List Field) (ms : List Meaning) → AllFit fs ms → length fs ≤ 8 → length (layout_bytes tag fs ms) < 2 ^ 60
+pub layout_small : (tag : ℕ) (fs : List Field) (ms : List Meaning) → AllFit fs ms → length fs ≤ 8
+    → length (layout_bytes tag fs ms) < 2 ^ 60
 layout_small tag fs ms fit le = omega (arith, fields_small fs ms fit)
 
 -- ---- reading

@@ -136,4 +136,5 @@ datum_from f place bytes = placed place bytes (first_field f (drop place bytes))
 -- the data of fields from this place on
 abbrev pub data_from : List Field → ℕ → List ℕ → Option (List Datum × ℕ)
 data_from [] place bytes = Some ([], place)
-data_from (f ∷ fs) place bytes = datum_from f place bytes >>= λ d. data_from fs d.1 bytes >>= λ ds. Some (d.0 ∷ ds.0, ds.1)
+data_from (f ∷ fs) place bytes =
+    datum_from f place bytes >>= λ d. data_from fs d.1 bytes >>= λ ds. Some (d.0 ∷ ds.0, ds.1)

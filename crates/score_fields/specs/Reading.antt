@@ -53,7 +53,9 @@ rises_above low (n ∷ ns) = nat_lt low n && nat_le n 16 && rises_above n ns
 -- nodes behind their count
 unfoldable pub first_nodes : List ℕ → Option (List ℕ × List ℕ)
 first_nodes [] = None
-first_nodes (n ∷ bytes) = if nat_le 1 n && nat_le n 16 && nat_le n (length bytes) && rises_above 0 (take n bytes) then Some (take n bytes, drop n bytes) else None
+first_nodes (n ∷ bytes) =
+    if nat_le 1 n && nat_le n 16 && nat_le n (length bytes) && rises_above 0 (take n bytes)
+    then Some (take n bytes, drop n bytes) else None
 
 -- this many, one behind the other
 abbrev pub first_many : {A : Type 0} → (List ℕ → Option (A × List ℕ)) → ℕ → List ℕ → Option (List A × List ℕ)

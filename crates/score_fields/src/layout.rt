@@ -148,10 +148,12 @@ impl<const N: usize> Layout<N> {
         requires eight { N ≤ 8 }
         requires fits { AllFit self.now.fields (map (meaning source.now) values.now) }
         requires within { All (IsWithin source.now) values.now }
-        ensures ok { OnOk result (out.new.items ≡ out.old.items ++ layout_bytes self.now.tag self.now.fields (map (meaning source.now) values.now)) }
+        ensures ok { OnOk result (out.new.items
+            ≡ out.old.items ++ layout_bytes self.now.tag self.now.fields (map (meaning source.now) values.now)) }
         ensures err { OnErr result (out.new.items ≡ out.old.items) }
         ensures capacity { vec_capacity out.old ≤ vec_capacity out.new }
-        ensures full { OnErr result (vec_capacity out.old < vec_len out.old + length (layout_bytes self.now.tag self.now.fields (map (meaning source.now) values.now))) }
+        ensures full { OnErr result (vec_capacity out.old < vec_len out.old
+            + length (layout_bytes self.now.tag self.now.fields (map (meaning source.now) values.now))) }
     {
         make_room(out, self.len(values, source))?;
         put_byte(out, self.tag);
@@ -187,7 +189,8 @@ impl<const N: usize> Layout<N> {
         // What is spelled so is taken, whatever follows.
         ensures again { (ms : List Meaning) (rest : List ℕ) → AllFit self.now.fields ms → bytes.now ≡ layout_bytes self.now.tag self.now.fields ms ++ rest
             → IsSomeAnd result (λ t. (t.values ≡ data_at 1 self.now.fields ms) × (t.used ≡ length (layout_bytes self.now.tag self.now.fields ms))) }
-        ensures none { IfNone result ((ms : List Meaning) (rest : List ℕ) → AllFit self.now.fields ms → bytes.now ≡ layout_bytes self.now.tag self.now.fields ms ++ rest → ⊥) }
+        ensures none { IfNone result ((ms : List Meaning) (rest : List ℕ) → AllFit self.now.fields ms
+            → bytes.now ≡ layout_bytes self.now.tag self.now.fields ms ++ rest → ⊥) }
     {
         let [tag, ..] = bytes else {
             return None;

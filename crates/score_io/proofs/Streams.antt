@@ -1,6 +1,6 @@
 -- How the turns of a whole read or write make up the whole.
-use Rattle.std.proofs.Common.{◌≡◌, ℕ, ◌+◌, ◌≤◌, List, [], ◌++◌, length, take, drop, Option, None, Some, sym, ap, subst, ◌∙◌, append_assoc, append-nil, length-append, arith}
-use Rattle.std.specs.Io.KnownBytes.{Appends, Consumes, IsAtEnd}
+use Rattle.std.proofs.Common.{◌≡◌, ℕ, ◌+◌, ◌≤◌, List, [], ◌++◌, length, take, drop, Option, None, Some, sym, ap, subst, ◌∙◌, append-nil, length-append, arith}
+use Rattle.std.specs.Io.KnownBytes.{Appends, Consumes}
 use Rattle.std.proofs.KnownBytes.{Appends-trans, Consumes-trans}
 use Rattle.std.proofs.Math.Seq.{take-add}
 use Rattle.score_io.specs.Streams.{ReadWhole, Lost, LostAtMost, Gained}
@@ -10,7 +10,8 @@ pub gained_all : (a b : Option (List ℕ)) (xs : List ℕ) → Gained a b [] xs 
 gained_all a b xs p = subst (λ (l : List ℕ). Consumes a b l) (sym p.more) p.lost
 
 -- a turn that fails loses a few bytes more
-pub lost_more : (a b c : Option (List ℕ)) (xs : List ℕ) (n m : ℕ) → Gained a b [] xs → LostAtMost b c n → length xs + n ≤ m → LostAtMost a c m
+pub lost_more : (a b c : Option (List ℕ)) (xs : List ℕ) (n m : ℕ) → Gained a b [] xs → LostAtMost b c n
+    → length xs + n ≤ m → LostAtMost a c m
 lost_more a b c xs n m p q h = record {
   came = xs ++ q.came;
   counted = rw length-append (omega (arith, q.counted));
@@ -18,11 +19,13 @@ lost_more a b c xs n m p q h = record {
 }
 
 -- a piece goes behind what was sent before
-pub appends_piece : (a b c : Option (List ℕ)) (xs : List ℕ) (i n : ℕ) → Appends a b (take i xs) → Appends b c (take n (drop i xs)) → Appends a c (take (i + n) xs)
+pub appends_piece : (a b c : Option (List ℕ)) (xs : List ℕ) (i n : ℕ) → Appends a b (take i xs)
+    → Appends b c (take n (drop i xs)) → Appends a c (take (i + n) xs)
 appends_piece a b c xs i n p q = rw (take-add i n xs) (Appends-trans a b c _ _ p q)
 
 -- a source that tells its bytes and was read to its end gave them all
-pub whole_told : (xs bytes : List ℕ) (now : Option (List ℕ)) → ReadWhole (Some xs) now bytes → (bytes ≡ xs) × (now ≡ Some [])
+pub whole_told : (xs bytes : List ℕ) (now : Option (List ℕ)) → ReadWhole (Some xs) now bytes
+    → (bytes ≡ xs) × (now ≡ Some [])
 whole_told xs bytes None r = absurd r.lost
 whole_told xs bytes (Some ys) r = (sym (r.lost ∙ ap (λ l. bytes ++ l) r.end ∙ append-nil bytes), ap Some r.end)
 

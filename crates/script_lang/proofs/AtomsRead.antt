@@ -61,7 +61,8 @@ key_first (b ∷ bs) e = not-true (is_digit b) (first (not (is_digit b)) (is_key
     first true q r t h = refl
     first false q r t h = cc
 
-pub atom_again : (known : List Key) (a : Atom) → is_atom_among known a ≡ true → is_plain_atom a ≡ true → atom_of known (atom_word a) ≡ Ok a
+pub atom_again : (known : List Key) (a : Atom) → is_atom_among known a ≡ true → is_plain_atom a ≡ true
+    → atom_of known (atom_word a) ≡ Ok a
 unfolding atom_of number_atom key_atom
 atom_again known (atom.Number v) among plain =
     let small : v < 2 ^ 64 = grind (arith, nat_tests, plain) in

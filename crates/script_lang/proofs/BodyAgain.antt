@@ -40,8 +40,10 @@ first_line_again nodes numbers t n s new is least most low few =
     (goes (session_of (session_words s)) _ s _ (session_again s few) refl)))
 
 -- a line of an operation, with room for it and its key
-pub read_again : (most : ℕ) (named : BTreeSet Key) (s : ScriptData) (k : Key) → length s.ops < MAX_OPS → length (insert_key (slice_cmp nat_cmp) named.keys k) ≤ most → is_key k ≡ true
-    → body_line most named s (codes "read") (k ∷ []) ≡ Ok (stage.Open (record s { ops = s.ops ++ op.Read k ∷ [] }), with_key named k)
+pub read_again : (most : ℕ) (named : BTreeSet Key) (s : ScriptData) (k : Key) → length s.ops < MAX_OPS
+    → length (insert_key (slice_cmp nat_cmp) named.keys k) ≤ most → is_key k ≡ true
+    → body_line most named s (codes "read") (k ∷ [])
+    ≡ Ok (stage.Open (record s { ops = s.ops ++ op.Read k ∷ [] }), with_key named k)
 unfolding read_line
 read_again most named s k room few is =
     let less : nat_le MAX_OPS (length s.ops) ≡ false = grind (arith, nat_tests, room) in
@@ -49,8 +51,11 @@ read_again most named s k room few is =
     (goes (key_of k) _ k _ (key_again k is)
     (goes (name_key most named k) _ (with_key named k) _ (name_again most named k few) refl))
 
-pub write_again : (most : ℕ) (named : BTreeSet Key) (s : ScriptData) (k : Key) (x : Expr) → length s.ops < MAX_OPS → length (insert_key (slice_cmp nat_cmp) named.keys k) ≤ most → is_key k ≡ true → is_plain_expr x ≡ true → is_expr_among (known_keys s.ops) x ≡ true
-    → body_line most named s (codes "write") (k ∷ expr_words x) ≡ Ok (stage.Open (record s { ops = s.ops ++ op.Write k x ∷ [] }), with_key named k)
+pub write_again : (most : ℕ) (named : BTreeSet Key) (s : ScriptData) (k : Key) (x : Expr) → length s.ops < MAX_OPS
+    → length (insert_key (slice_cmp nat_cmp) named.keys k) ≤ most → is_key k ≡ true → is_plain_expr x ≡ true
+    → is_expr_among (known_keys s.ops) x ≡ true
+    → body_line most named s (codes "write") (k ∷ expr_words x)
+    ≡ Ok (stage.Open (record s { ops = s.ops ++ op.Write k x ∷ [] }), with_key named k)
 unfolding write_line
 write_again most named s k x room few is plain among =
     let less : nat_le MAX_OPS (length s.ops) ≡ false = grind (arith, nat_tests, room) in
@@ -59,6 +64,7 @@ write_again most named s k x room few is plain among =
     (goes (name_key most named k) _ (with_key named k) _ (name_again most named k few)
     (goes (expr_of (known_keys s.ops) (expr_words x)) _ x _ (expr_again (known_keys s.ops) x among plain) refl)))
 
-pub end_again : (most : ℕ) (named : BTreeSet Key) (s : ScriptData) → 1 ≤ length s.ops → body_line most named s (codes "end") [] ≡ Ok (stage.Done s, named)
+pub end_again : (most : ℕ) (named : BTreeSet Key) (s : ScriptData) → 1 ≤ length s.ops
+    → body_line most named s (codes "end") [] ≡ Ok (stage.Done s, named)
 unfolding end_line
 end_again most named s some = passes (length s.ops == 0) _ _ _ (ne_eqb (length s.ops) 0 (λ e. omega (arith, e, some))) refl

@@ -37,7 +37,8 @@ pub record IsFirst (nodes : ℕ) (numbers : BTreeSet TxId) (line : List (List �
   pub node : (nat_le 1 s.home && nat_le s.home nodes) ≡ true
   pub session : nat_le s.session MAX_SESSION ≡ true
 
-pub first_line_read : (nodes : ℕ) (numbers : BTreeSet TxId) (ws : List (List ℕ)) → IfOk (first_line nodes numbers ws) (IsFirst nodes numbers (codes "tx" ∷ ws))
+pub first_line_read : (nodes : ℕ) (numbers : BTreeSet TxId) (ws : List (List ℕ))
+    → IfOk (first_line nodes numbers ws) (IsFirst nodes numbers (codes "tx" ∷ ws))
 unfolding first_line
 first_line_read nodes numbers ws =
     behind (word_at ws) _ (λ x. ws ≡ x.0 ∷ x.1) _ (word_read ws) (λ w a. behind (tx_of w.0) _ _ _ (tx_read w.0) (λ t b.
@@ -59,7 +60,8 @@ is_op_among known (op.Read k) = true
 is_op_among known (op.Write k e) = is_expr_among known e
 
 -- one operation more
-pub record IsMore (most : ℕ) (named : BTreeSet Key) (s : ScriptData) (line : List (List ℕ)) (t : ScriptData) (more : BTreeSet Key) : Type 0 where
+pub record IsMore (most : ℕ) (named : BTreeSet Key) (s : ScriptData) (line : List (List ℕ)) (t : ScriptData)
+    (more : BTreeSet Key) : Type 0 where
   pub last : Op
   pub added : t ≡ record s { ops = s.ops ++ last ∷ [] }
   pub spelled : line ≡ op_words last
@@ -70,7 +72,8 @@ pub record IsMore (most : ℕ) (named : BTreeSet Key) (s : ScriptData) (line : L
   pub few : length more.keys ≤ most
 
 -- the end of a script
-pub record IsEnd (named : BTreeSet Key) (s : ScriptData) (line : List (List ℕ)) (t : ScriptData) (more : BTreeSet Key) : Type 0 where
+pub record IsEnd (named : BTreeSet Key) (s : ScriptData) (line : List (List ℕ)) (t : ScriptData) (more : BTreeSet Key) :
+    Type 0 where
   pub same : t ≡ s
   pub spelled : line ≡ codes "end" ∷ []
   pub some : 1 ≤ length s.ops
@@ -81,7 +84,8 @@ abbrev pub Follows : ℕ → BTreeSet Key → ScriptData → List (List ℕ) →
 Follows most named s line (stage.Open t) more = IsMore most named s line t more
 Follows most named s line (stage.Done t) more = IsEnd named s line t more
 
-read_line_read : (most : ℕ) (named : BTreeSet Key) (s : ScriptData) (ws : List (List ℕ)) → IfOk (read_line most named s ws) (λ x. Follows most named s (codes "read" ∷ ws) x.0 x.1)
+read_line_read : (most : ℕ) (named : BTreeSet Key) (s : ScriptData) (ws : List (List ℕ))
+    → IfOk (read_line most named s ws) (λ x. Follows most named s (codes "read" ∷ ws) x.0 x.1)
 unfolding read_line
 read_line_read most named s ws = either (nat_le MAX_OPS (length s.ops)) _ _ _ (λ e. tt) (λ room.
     behind (word_at ws) _ (λ x. ws ≡ x.0 ∷ x.1) _ (word_read ws) (λ w a. behind (key_of w.0) _ _ _ (key_read w.0) (λ k b.
@@ -96,7 +100,8 @@ read_line_read most named s ws = either (nat_le MAX_OPS (length s.ops)) _ _ _ (�
       few = c.1;
     })))))
 
-write_line_read : (most : ℕ) (named : BTreeSet Key) (s : ScriptData) (ws : List (List ℕ)) → IfOk (write_line most named s ws) (λ x. Follows most named s (codes "write" ∷ ws) x.0 x.1)
+write_line_read : (most : ℕ) (named : BTreeSet Key) (s : ScriptData) (ws : List (List ℕ))
+    → IfOk (write_line most named s ws) (λ x. Follows most named s (codes "write" ∷ ws) x.0 x.1)
 unfolding write_line
 write_line_read most named s ws = either (nat_le MAX_OPS (length s.ops)) _ _ _ (λ e. tt) (λ room.
     behind (word_at ws) _ (λ x. ws ≡ x.0 ∷ x.1) _ (word_read ws) (λ w a. behind (key_of w.0) _ _ _ (key_read w.0) (λ k b.
@@ -112,7 +117,8 @@ write_line_read most named s ws = either (nat_le MAX_OPS (length s.ops)) _ _ _ (
       few = c.1;
     })))))
 
-end_line_read : (most : ℕ) (named : BTreeSet Key) (s : ScriptData) (ws : List (List ℕ)) → IfOk (end_line named s ws) (λ x. Follows most named s (codes "end" ∷ ws) x.0 x.1)
+end_line_read : (most : ℕ) (named : BTreeSet Key) (s : ScriptData) (ws : List (List ℕ))
+    → IfOk (end_line named s ws) (λ x. Follows most named s (codes "end" ∷ ws) x.0 x.1)
 unfolding end_line
 end_line_read most named s ws = either (length s.ops == 0) _ _ _ (λ e. tt) (λ some. behind (end_at ws) _ (λ _. ws ≡ []) _ (end_read ws) (λ _ e. record {
   same = refl;
@@ -121,13 +127,15 @@ end_line_read most named s ws = either (length s.ops == 0) _ _ _ (λ e. tt) (λ 
   names = refl;
 }))
 
-pub body_read : (most : ℕ) (named : BTreeSet Key) (s : ScriptData) (w : List ℕ) (ws : List (List ℕ)) → IfOk (body_line most named s w ws) (λ x. Follows most named s (w ∷ ws) x.0 x.1)
+pub body_read : (most : ℕ) (named : BTreeSet Key) (s : ScriptData) (w : List ℕ) (ws : List (List ℕ))
+    → IfOk (body_line most named s w ws) (λ x. Follows most named s (w ∷ ws) x.0 x.1)
 body_read most named s w ws =
     either (is_word w (codes "read")) _ _ _ (λ e. by (codes "read") e _ (read_line_read most named s ws)) (λ _.
     either (is_word w (codes "write")) _ _ _ (λ e. by (codes "write") e _ (write_line_read most named s ws)) (λ _.
     either (is_word w (codes "end")) _ _ _ (λ e. by (codes "end") e _ (end_line_read most named s ws)) (λ _. tt)))
   where
-    by : (bytes : List ℕ) → is_word w bytes ≡ true → (m : Result (Stage × BTreeSet Key) Why) → IfOk m (λ x. Follows most named s (bytes ∷ ws) x.0 x.1) → IfOk m (λ x. Follows most named s (w ∷ ws) x.0 x.1)
+    by : (bytes : List ℕ) → is_word w bytes ≡ true → (m : Result (Stage × BTreeSet Key) Why)
+        → IfOk m (λ x. Follows most named s (bytes ∷ ws) x.0 x.1) → IfOk m (λ x. Follows most named s (w ∷ ws) x.0 x.1)
     by bytes e m h = subst (λ (v : List ℕ). IfOk m (λ x. Follows most named s (v ∷ ws) x.0 x.1)) (sym (same_text w bytes (sym e))) h
 
 -- The words of the lines that were read.
@@ -141,7 +149,8 @@ stage_words (stage.Open s) = body_words s
 stage_words (stage.Done s) = script_words s
 
 -- a line adds its words
-pub follows_words : (most : ℕ) (named : BTreeSet Key) (s : ScriptData) (line : List (List ℕ)) (x : Stage) (more : BTreeSet Key) → Follows most named s line x more → stage_words x ≡ body_words s ++ line ∷ []
+pub follows_words : (most : ℕ) (named : BTreeSet Key) (s : ScriptData) (line : List (List ℕ)) (x : Stage)
+    (more : BTreeSet Key) → Follows most named s line x more → stage_words x ≡ body_words s ++ line ∷ []
 follows_words most named s line (stage.Open t) more h =
     ap body_words h.added
     ∙ ap (λ l. tx_words s ∷ l) (map-append op_words s.ops (h.last ∷ []))

@@ -13,12 +13,16 @@ abbrev pub joined : List Step → Result (List Step) Why → Result (List Step) 
 joined front (Ok more) = Ok (front ++ more)
 joined front (Err why) = Err why
 
-joined_more : (front : List Step) (s : Step) (m : Result (List Step) Why) → joined (front ++ s ∷ []) m ≡ joined front (m >>= λ more. Ok (s ∷ more))
+joined_more : (front : List Step) (s : Step) (m : Result (List Step) Why)
+    → joined (front ++ s ∷ []) m ≡ joined front (m >>= λ more. Ok (s ∷ more))
 joined_more front s (Ok more) = ap Ok (append_assoc front (s ∷ []) more)
 joined_more front s (Err why) = refl
 
 -- one more step was read
-pub steps_more : (known : List Key) (room : ℕ) (words ws : List (List ℕ)) (w : List ℕ) (o : Operator) (s : Step) (front new : List Step) (whole : Result (List Step) Why) → 0 < room → operator_of w ≡ Ok o → step_of known o ws ≡ Ok s → new ≡ front ++ s ∷ [] → joined front (steps_of known room words) ≡ whole → words ≡ w ∷ ws → joined new (steps_of known (room - 1) (drop (atoms_behind o) ws)) ≡ whole
+pub steps_more : (known : List Key) (room : ℕ) (words ws : List (List ℕ)) (w : List ℕ) (o : Operator) (s : Step)
+    (front new : List Step) (whole : Result (List Step) Why) → 0 < room → operator_of w ≡ Ok o
+    → step_of known o ws ≡ Ok s → new ≡ front ++ s ∷ [] → joined front (steps_of known room words) ≡ whole
+    → words ≡ w ∷ ws → joined new (steps_of known (room - 1) (drop (atoms_behind o) ws)) ≡ whole
 unfolding steps_of
 steps_more known zero words ws w o s front new whole some op one more told first = absurd (omega (arith, some))
 steps_more known (suc room) words ws w o s front new whole some op one more told first =

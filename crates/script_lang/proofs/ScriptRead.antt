@@ -26,17 +26,20 @@ abbrev words_so_far : Option Stage → List (List (List ℕ))
 words_so_far None = []
 words_so_far (Some x) = stage_words x
 
-begin_read : (nodes : ℕ) (named : BTreeSet Key) (w : List ℕ) (ws : List (List ℕ)) → IfOk (begin_line nodes named w ws) (λ x. stage_words x.0 ≡ (w ∷ ws) ∷ [])
+begin_read : (nodes : ℕ) (named : BTreeSet Key) (w : List ℕ) (ws : List (List ℕ))
+    → IfOk (begin_line nodes named w ws) (λ x. stage_words x.0 ≡ (w ∷ ws) ∷ [])
 unfolding begin_line
 begin_read nodes named w ws = either (is_word w (codes "tx")) _ _ _ (λ e. behind (first_line nodes (record { keys = [] }) ws) _ _ _ (first_line_read nodes (record { keys = [] }) ws) (λ s h.
     ap (λ ops. tx_words s ∷ map op_words ops) h.bare ∙ ap (λ l. l ∷ []) (sym h.spelled) ∙ ap (λ v. (v ∷ ws) ∷ []) (sym (same_text w (codes "tx") (sym e))))) (λ _. tt)
 
-text_line_read : (most nodes : ℕ) (so_far : Option Stage) (named : BTreeSet Key) (w : List ℕ) (ws : List (List ℕ)) → IfOk (text_line most nodes so_far named w ws) (λ x. stage_words x.0 ≡ words_so_far so_far ++ (w ∷ ws) ∷ [])
+text_line_read : (most nodes : ℕ) (so_far : Option Stage) (named : BTreeSet Key) (w : List ℕ) (ws : List (List ℕ))
+    → IfOk (text_line most nodes so_far named w ws) (λ x. stage_words x.0 ≡ words_so_far so_far ++ (w ∷ ws) ∷ [])
 text_line_read most nodes None named w ws = begin_read nodes named w ws
 text_line_read most nodes (Some (stage.Open s)) named w ws = weaken (body_line most named s w ws) _ _ (body_read most named s w ws) (λ x h. follows_words most named s (w ∷ ws) x.0 x.1 h)
 text_line_read most nodes (Some (stage.Done s)) named w ws = tt
 
-words_line_read : (most nodes : ℕ) (d : TextDraft) (ws : List (List ℕ)) → IfOk (words_line most nodes d ws) (λ e. words_so_far e.stage ≡ words_so_far d.stage ++ ws ∷ [])
+words_line_read : (most nodes : ℕ) (d : TextDraft) (ws : List (List ℕ))
+    → IfOk (words_line most nodes d ws) (λ e. words_so_far e.stage ≡ words_so_far d.stage ++ ws ∷ [])
 unfolding words_line
 words_line_read most nodes d [] = tt
 words_line_read most nodes d (w ∷ ws) = behind (text_line most nodes d.stage d.named w ws) _ (λ x. stage_words x.0 ≡ words_so_far d.stage ++ (w ∷ ws) ∷ []) _ (text_line_read most nodes d.stage d.named w ws) (λ x h. h)
@@ -46,7 +49,8 @@ abbrev read_so_far : TextDraft → List (List ℕ)
 read_so_far d = map (join_with_byte 32) (words_so_far d.stage)
 
 -- the text of the lines that were read, with one more
-line_read : (most nodes : ℕ) (d : TextDraft) (line : List ℕ) → IfOk (line_of most nodes d line) (λ e. read_so_far e ≡ read_so_far d ++ line ∷ [])
+line_read : (most nodes : ℕ) (d : TextDraft) (line : List ℕ)
+    → IfOk (line_of most nodes d line) (λ e. read_so_far e ≡ read_so_far d ++ line ∷ [])
 unfolding line_of
 line_read most nodes d line = either (list_all is_printed line) _ _ _ (λ e. weaken (words_line most nodes d ws) _ _ (words_line_read most nodes d ws) (λ next h.
     ap (map (join_with_byte 32)) h ∙ map-append (join_with_byte 32) (words_so_far d.stage) (ws ∷ []) ∙ ap (λ l. read_so_far d ++ l ∷ []) (join_with_byte-slice_split 32 line))) (λ e. tt)
@@ -58,25 +62,35 @@ pub empty_list : {A : Type 0} (xs : List A) → (length xs == 0) ≡ true → xs
 empty_list [] e = refl
 empty_list (x ∷ xs) e = absurd (grind (arith, nat_tests, e))
 
-close_read : (so_far : Option Stage) (named : BTreeSet Key) (tail : List ℕ) → IfOk (close (record { stage = so_far; named = named }) tail) (λ s. map (join_with_byte 32) (words_so_far so_far) ++ tail ∷ [] ≡ script_lines s ++ [] ∷ [])
+close_read : (so_far : Option Stage) (named : BTreeSet Key) (tail : List ℕ) → IfOk
+    (close (record { stage = so_far; named = named }) tail)
+    (λ s. map (join_with_byte 32) (words_so_far so_far) ++ tail ∷ [] ≡ script_lines s ++ [] ∷ [])
 close_read None named tail = either (length tail == 0) _ _ _ (λ e. tt) (λ e. tt)
 close_read (Some (stage.Open s)) named tail = either (length tail == 0) _ _ _ (λ e. tt) (λ e. tt)
 close_read (Some (stage.Done s)) named tail = either (length tail == 0) _ _ _ (λ e. ap (λ l. script_lines s ++ l ∷ []) (empty_list tail e)) (λ e. tt)
 
-lines_read : (most nodes : ℕ) (d : TextDraft) (n : ℕ) (pieces : List (List ℕ)) → IfOk (lines_from most nodes d n pieces) (λ s. read_so_far d ++ pieces ≡ script_lines s ++ [] ∷ [])
+lines_read : (most nodes : ℕ) (d : TextDraft) (n : ℕ) (pieces : List (List ℕ))
+    → IfOk (lines_from most nodes d n pieces) (λ s. read_so_far d ++ pieces ≡ script_lines s ++ [] ∷ [])
 unfolding lines_from
 lines_read most nodes d n [] = tt
 lines_read most nodes d n (x ∷ rest) = either (length rest == 0) _ _ _ (λ e. last (close d x) (empty_list rest e) (close_read d.stage d.named x)) (λ e. more (line_of most nodes d x) (line_read most nodes d x) (λ next. lines_read most nodes next (n + 1) rest))
   where
-    last : (m : Result ScriptData Why) → rest ≡ [] → IfOk m (λ s. read_so_far d ++ x ∷ [] ≡ script_lines s ++ [] ∷ []) → IfOk (at_line n m) (λ s. read_so_far d ++ x ∷ rest ≡ script_lines s ++ [] ∷ [])
+    last : (m : Result ScriptData Why) → rest ≡ [] → IfOk m (λ s. read_so_far d ++ x ∷ [] ≡ script_lines s ++ [] ∷ [])
+        → IfOk (at_line n m) (λ s. read_so_far d ++ x ∷ rest ≡ script_lines s ++ [] ∷ [])
     last (Ok s) none h = ap (λ l. read_so_far d ++ x ∷ l) none ∙ h
     last (Err w) none h = tt
 
-    again : (next : TextDraft) (r : Result ScriptData At) → read_so_far next ≡ read_so_far d ++ x ∷ [] → IfOk r (λ s. read_so_far next ++ rest ≡ script_lines s ++ [] ∷ []) → IfOk r (λ s. read_so_far d ++ x ∷ rest ≡ script_lines s ++ [] ∷ [])
+    again : (next : TextDraft) (r : Result ScriptData At) → read_so_far next ≡ read_so_far d ++ x ∷ []
+        → IfOk r (λ s. read_so_far next ++ rest ≡ script_lines s ++ [] ∷ [])
+        → IfOk r (λ s. read_so_far d ++ x ∷ rest ≡ script_lines s ++ [] ∷ [])
     again next (Ok s) h k = sym (ap (λ l. l ++ rest) h ∙ append_assoc (read_so_far d) (x ∷ []) rest) ∙ k
     again next (Err at) h k = tt
 
-    more : (m : Result TextDraft Why) → IfOk m (λ next. read_so_far next ≡ read_so_far d ++ x ∷ []) → ((next : TextDraft) → IfOk (lines_from most nodes next (n + 1) rest) (λ s. read_so_far next ++ rest ≡ script_lines s ++ [] ∷ [])) → IfOk (at_line n m >>> λ next. lines_from most nodes next (n + 1) rest) (λ s. read_so_far d ++ x ∷ rest ≡ script_lines s ++ [] ∷ [])
+    more : (m : Result TextDraft Why) → IfOk m (λ next. read_so_far next ≡ read_so_far d ++ x ∷ [])
+        → ((next : TextDraft)
+        → IfOk (lines_from most nodes next (n + 1) rest) (λ s. read_so_far next ++ rest ≡ script_lines s ++ [] ∷ []))
+        → IfOk (at_line n m >>> λ next. lines_from most nodes next (n + 1) rest)
+        (λ s. read_so_far d ++ x ∷ rest ≡ script_lines s ++ [] ∷ [])
     more (Ok next) h k = again next (lines_from most nodes next (n + 1) rest) h (k next)
     more (Err w) h k = tt
 

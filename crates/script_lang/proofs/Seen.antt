@@ -45,18 +45,22 @@ in_middle [] t k q = refl
 in_middle (x ∷ s) t k q = ap (λ b. same_key q x || b) (in_middle s t k q) ∙ or_swap (same_key q x) (same_key q k) (is_key_among q (s ++ t))
 
 -- what one more key adds to the keys so far
-pub distinct_more : (seen ks : List Key) (k : Key) → seen ++ distinct_keys seen (k ∷ ks) ≡ (seen ++ unless_among seen k) ++ distinct_keys (seen ++ unless_among seen k) ks
+pub distinct_more : (seen ks : List Key) (k : Key) → seen ++ distinct_keys seen (k ∷ ks)
+    ≡ (seen ++ unless_among seen k) ++ distinct_keys (seen ++ unless_among seen k) ks
 distinct_more seen ks k = by (is_key_among k seen)
   where
-    by : (b : Bool) → seen ++ cond b (distinct_keys seen ks) (k ∷ distinct_keys (k ∷ seen) ks) ≡ (seen ++ cond b [] (k ∷ [])) ++ distinct_keys (seen ++ cond b [] (k ∷ [])) ks
+    by : (b : Bool) → seen ++ cond b (distinct_keys seen ks) (k ∷ distinct_keys (k ∷ seen) ks)
+        ≡ (seen ++ cond b [] (k ∷ [])) ++ distinct_keys (seen ++ cond b [] (k ∷ [])) ks
     by true = ap (λ s. s ++ distinct_keys s ks) (sym (append-nil seen))
     by false = ap (λ l. seen ++ k ∷ l) (distinct_same (k ∷ seen) (seen ++ k ∷ []) ks (at_end seen k)) ∙ sym (append_assoc seen (k ∷ []) (distinct_keys (seen ++ k ∷ []) ks))
 
-pub written_more : (seen : List Key) (ops : List Op) (o : Op) → seen ++ written_keys seen (o ∷ ops) ≡ (seen ++ written_key seen o) ++ written_keys (seen ++ written_key seen o) ops
+pub written_more : (seen : List Key) (ops : List Op) (o : Op) → seen ++ written_keys seen (o ∷ ops)
+    ≡ (seen ++ written_key seen o) ++ written_keys (seen ++ written_key seen o) ops
 written_more seen ops (op.Read k) = ap (λ s. s ++ written_keys s ops) (sym (append-nil seen))
 written_more seen ops (op.Write k e) = by (is_key_among k seen)
   where
-    by : (b : Bool) → seen ++ cond b (written_keys seen ops) (k ∷ written_keys (k ∷ seen) ops) ≡ (seen ++ cond b [] (k ∷ [])) ++ written_keys (seen ++ cond b [] (k ∷ [])) ops
+    by : (b : Bool) → seen ++ cond b (written_keys seen ops) (k ∷ written_keys (k ∷ seen) ops)
+        ≡ (seen ++ cond b [] (k ∷ [])) ++ written_keys (seen ++ cond b [] (k ∷ [])) ops
     by true = ap (λ s. s ++ written_keys s ops) (sym (append-nil seen))
     by false = ap (λ l. seen ++ k ∷ l) (written_same (k ∷ seen) (seen ++ k ∷ []) ops (at_end seen k)) ∙ sym (append_assoc seen (k ∷ []) (written_keys (seen ++ k ∷ []) ops))
 
@@ -69,7 +73,9 @@ again s k there q = is_there (is_key_among q s) (same_key q k) (λ same. subst (
     is_there a false h = refl
 
 -- one more key of a script, in its distinct keys
-pub distinct_told : (ops rest : List Op) (o : Op) (seen new whole : List Key) → ops ≡ o ∷ rest → seen ++ distinct_keys seen (keys_named ops) ≡ whole → new ≡ seen ++ unless_among seen (key_of o) → new ++ distinct_keys new (keys_named rest) ≡ whole
+pub distinct_told : (ops rest : List Op) (o : Op) (seen new whole : List Key) → ops ≡ o ∷ rest
+    → seen ++ distinct_keys seen (keys_named ops) ≡ whole → new ≡ seen ++ unless_among seen (key_of o)
+    → new ++ distinct_keys new (keys_named rest) ≡ whole
 distinct_told ops rest o seen new whole first told more =
     ap (λ s. s ++ distinct_keys s (keys_named rest)) more
     ∙ sym (distinct_more seen (keys_named rest) (key_of o))
@@ -77,7 +83,8 @@ distinct_told ops rest o seen new whole first told more =
     ∙ told
 
 -- one more operation, in the keys that are written
-pub written_told : (ops rest : List Op) (o : Op) (seen new whole : List Key) → ops ≡ o ∷ rest → seen ++ written_keys seen ops ≡ whole → new ≡ seen ++ written_key seen o → new ++ written_keys new rest ≡ whole
+pub written_told : (ops rest : List Op) (o : Op) (seen new whole : List Key) → ops ≡ o ∷ rest
+    → seen ++ written_keys seen ops ≡ whole → new ≡ seen ++ written_key seen o → new ++ written_keys new rest ≡ whole
 written_told ops rest o seen new whole first told more =
     ap (λ s. s ++ written_keys s rest) more
     ∙ sym (written_more seen rest o)
@@ -89,16 +96,20 @@ pub keys_named_more : (ops rest : List Op) → keys_named (ops ++ rest) ≡ keys
 keys_named_more [] rest = refl
 keys_named_more (o ∷ ops) rest = ap (λ ks. key_of o ∷ ks) (keys_named_more ops rest)
 
-remote_more : (named : List Key) (rest : List Op) (o : Op) → remote_keys named (o ∷ rest) ≡ remote_key named o ++ remote_keys (named ++ key_of o ∷ []) rest
+remote_more : (named : List Key) (rest : List Op) (o : Op)
+    → remote_keys named (o ∷ rest) ≡ remote_key named o ++ remote_keys (named ++ key_of o ∷ []) rest
 remote_more named rest (op.Write k e) = remote_same (k ∷ named) (named ++ k ∷ []) rest (at_end named k)
 remote_more named rest (op.Read k) = by (is_key_among k named) refl
   where
-    by : (b : Bool) → is_key_among k named ≡ b → cond b (remote_keys named rest) (k ∷ remote_keys (k ∷ named) rest) ≡ cond b [] (k ∷ []) ++ remote_keys (named ++ k ∷ []) rest
+    by : (b : Bool) → is_key_among k named ≡ b → cond b (remote_keys named rest) (k ∷ remote_keys (k ∷ named) rest)
+        ≡ cond b [] (k ∷ []) ++ remote_keys (named ++ k ∷ []) rest
     by true there = remote_same named (named ++ k ∷ []) rest (again named k there)
     by false none = ap (λ l. k ∷ l) (remote_same (k ∷ named) (named ++ k ∷ []) rest (at_end named k))
 
 -- one more operation, in the keys that are read remotely
-pub remote_told : (before longer ops rest : List Op) (o : Op) (keys new whole : List Key) → longer ≡ before ++ o ∷ [] → ops ≡ o ∷ rest → keys ++ remote_keys (keys_named before) ops ≡ whole → new ≡ keys ++ remote_key (keys_named before) o → new ++ remote_keys (keys_named longer) rest ≡ whole
+pub remote_told : (before longer ops rest : List Op) (o : Op) (keys new whole : List Key) → longer ≡ before ++ o ∷ []
+    → ops ≡ o ∷ rest → keys ++ remote_keys (keys_named before) ops ≡ whole
+    → new ≡ keys ++ remote_key (keys_named before) o → new ++ remote_keys (keys_named longer) rest ≡ whole
 remote_told before longer ops rest o keys new whole more first told added =
     ap (λ ns. new ++ remote_keys ns rest) (ap keys_named more ∙ keys_named_more before (o ∷ []))
     ∙ ap (λ l. l ++ remote_keys (keys_named before ++ key_of o ∷ []) rest) added

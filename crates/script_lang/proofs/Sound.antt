@@ -17,7 +17,8 @@ use Rattle.script_lang.proofs.Seen.{SameKeys, in_middle}
 use Rattle.script_lang.specs.declared.limits.TheConstants.{MAX_OPS}
 
 -- a read behind them leaves them sound
-are_sound-read : (known : List Key) (ops : List Op) (k : Key) → are_sound known (ops ++ op.Read k ∷ []) ≡ are_sound known ops
+are_sound-read : (known : List Key) (ops : List Op) (k : Key)
+    → are_sound known (ops ++ op.Read k ∷ []) ≡ are_sound known ops
 are_sound-read known [] k = refl
 are_sound-read known (op.Read x ∷ ops) k = are_sound-read (x ∷ known) ops k
 are_sound-read known (op.Write x e ∷ ops) k = ap (λ b. is_expr_among known e && b) (are_sound-read known ops k)
@@ -43,21 +44,26 @@ pub expr_same : (s t : List Key) (e : Expr) → SameKeys s t → is_expr_among s
 expr_same s t e h = rw (atom_same s t e.first h, steps_same s t e.steps h) refl
 
 -- a write of an expression over the keys read before leaves them sound
-are_sound-write : (known : List Key) (ops : List Op) (k : Key) (e : Expr) → is_expr_among (known_keys ops ++ known) e ≡ true → are_sound known ops ≡ true → are_sound known (ops ++ op.Write k e ∷ []) ≡ true
+are_sound-write : (known : List Key) (ops : List Op) (k : Key) (e : Expr)
+    → is_expr_among (known_keys ops ++ known) e ≡ true → are_sound known ops ≡ true
+    → are_sound known (ops ++ op.Write k e ∷ []) ≡ true
 are_sound-write known [] k e among sound = rw among refl
 are_sound-write known (op.Read x ∷ ops) k e among sound = are_sound-write (x ∷ known) ops k e (expr_same (known_keys ops ++ x ∷ known) (x ∷ known_keys ops ++ known) e (in_middle (known_keys ops) known x) ∙ among) sound
 are_sound-write known (op.Write x f ∷ ops) k e among sound =
     let both = and_parts (is_expr_among known f) (are_sound known ops) sound in
     rw (both.0, are_sound-write known ops k e among both.1) refl
 
-pub IsFront-read : {T E : Type 0} (r : Result T E) (old new : List Op) (k : Key) → IsFront old → length old < MAX_OPS → OnOk r (new ≡ old ++ op.Read k ∷ []) → OnErr r (new ≡ old) → IsFront new
+pub IsFront-read : {T E : Type 0} (r : Result T E) (old new : List Op) (k : Key) → IsFront old → length old < MAX_OPS
+    → OnOk r (new ≡ old ++ op.Read k ∷ []) → OnErr r (new ≡ old) → IsFront new
 IsFront-read (Ok x) old new k front short ok err = rw ok (record {
   most = omega (arith, length-append old (op.Read k ∷ []));
   sound = rw (are_sound-read [] old k) front.sound;
 })
 IsFront-read (Err e) old new k front short ok err = rw err front
 
-pub IsFront-write : {T E : Type 0} (r : Result T E) (old new : List Op) (k : Key) (e : Expr) → IsFront old → length old < MAX_OPS → is_expr_among (known_keys old) e ≡ true → OnOk r (new ≡ old ++ op.Write k e ∷ []) → OnErr r (new ≡ old) → IsFront new
+pub IsFront-write : {T E : Type 0} (r : Result T E) (old new : List Op) (k : Key) (e : Expr) → IsFront old
+    → length old < MAX_OPS → is_expr_among (known_keys old) e ≡ true → OnOk r (new ≡ old ++ op.Write k e ∷ [])
+    → OnErr r (new ≡ old) → IsFront new
 IsFront-write (Ok x) old new k e front short among ok err = rw ok (record {
   most = omega (arith, length-append old (op.Write k e ∷ []));
   sound = are_sound-write [] old k e (ap (λ ks. is_expr_among ks e) (append-nil (known_keys old)) ∙ among) front.sound;

@@ -79,7 +79,8 @@ pub record AreStepsOf (known : List Key) (room : ℕ) (ws : List (List ℕ)) (ss
   pub plain : are_plain_steps ss ≡ true
   pub few : length ss ≤ room
 
-steps_read : (known : List Key) (room : ℕ) (ws : List (List ℕ)) → IfOk (steps_of known room ws) (AreStepsOf known room ws)
+steps_read : (known : List Key) (room : ℕ) (ws : List (List ℕ))
+    → IfOk (steps_of known room ws) (AreStepsOf known room ws)
 unfolding steps_of
 steps_read known room [] = record { spelled = refl; among = refl; plain = refl; few = omega arith }
 steps_read known zero (w ∷ ws) = then (operator_of w) _ _ (λ o. tt)
@@ -91,7 +92,9 @@ steps_read known (suc room) (w ∷ ws) = behind (operator_of w) _ (λ o. w ≡ o
 })))
 
 -- an expression of an atom and steps that were read is over the known keys
-pub parts_among : (known : List Key) (w : List ℕ) (ws : List (List ℕ)) (a : Atom) (ss : List Step) → atom_of known w ≡ Ok a → steps_of known MAX_STEPS ws ≡ Ok ss → is_expr_among known (record { first = a; steps = ss }) ≡ true
+pub parts_among : (known : List Key) (w : List ℕ) (ws : List (List ℕ)) (a : Atom) (ss : List Step)
+    → atom_of known w ≡ Ok a → steps_of known MAX_STEPS ws ≡ Ok ss
+    → is_expr_among known (record { first = a; steps = ss }) ≡ true
 parts_among known w ws a ss one more =
     let h = at_ok (atom_of known w) (IsAtomOf known w) a (atom_read known w) one in
     let k = at_ok (steps_of known MAX_STEPS ws) (AreStepsOf known MAX_STEPS ws) ss (steps_read known MAX_STEPS ws) more in
@@ -158,7 +161,8 @@ behind_in (step.Min a) ws = refl
 behind_in (step.Max a) ws = refl
 behind_in (step.Pick a b) ws = refl
 
-step_again : (known : List Key) (s : Step) (ws : List (List ℕ)) → is_step_among known s ≡ true → is_plain_step s ≡ true → step_of known (operator_in s) (words_in s ++ ws) ≡ Ok s
+step_again : (known : List Key) (s : Step) (ws : List (List ℕ)) → is_step_among known s ≡ true → is_plain_step s ≡ true
+    → step_of known (operator_in s) (words_in s ++ ws) ≡ Ok s
 unfolding step_of one_atom two_atoms first_atom
 step_again known (step.Add a) ws among plain = rw (atom_again known a among plain) refl
 step_again known (step.Sub a) ws among plain = rw (atom_again known a among plain) refl
@@ -170,7 +174,8 @@ step_again known (step.Pick a b) ws among plain =
     let plains = and_parts (is_plain_atom a) (is_plain_atom b) plain in
     rw (atom_again known a both.0 plains.0, atom_again known b both.1 plains.1) refl
 
-steps_again : (known : List Key) (room : ℕ) (ss : List Step) → are_steps_among known ss ≡ true → are_plain_steps ss ≡ true → length ss ≤ room → steps_of known room (flat_map step_words ss) ≡ Ok ss
+steps_again : (known : List Key) (room : ℕ) (ss : List Step) → are_steps_among known ss ≡ true
+    → are_plain_steps ss ≡ true → length ss ≤ room → steps_of known room (flat_map step_words ss) ≡ Ok ss
 unfolding steps_of
 steps_again known room [] among plain few = refl
 steps_again known zero (s ∷ ss) among plain few = absurd (omega (arith, few))
@@ -180,7 +185,8 @@ steps_again known (suc room) (s ∷ ss) among plain few =
     let rest = steps_again known room ss both.1 plains.1 (omega (arith, few)) in
     rw (spelled_in s, operator_again (operator_in s), step_again known s (flat_map step_words ss) both.0 plains.0, behind_in s (flat_map step_words ss), rest) refl
 
-pub expr_again : (known : List Key) (e : Expr) → is_expr_among known e ≡ true → is_plain_expr e ≡ true → expr_of known (expr_words e) ≡ Ok e
+pub expr_again : (known : List Key) (e : Expr) → is_expr_among known e ≡ true → is_plain_expr e ≡ true
+    → expr_of known (expr_words e) ≡ Ok e
 unfolding expr_of
 expr_again known e among plain =
     let all = and_parts (is_atom_among known e.first && nat_le (length e.steps) MAX_STEPS) (are_steps_among known e.steps) among in

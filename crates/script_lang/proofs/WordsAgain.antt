@@ -11,7 +11,8 @@ use Rattle.script_lang.specs.Reading.{◌>>=◌, number_at, in_range}
 use Rattle.script_lang.specs.Words.{node_of, key_of, tx_of}
 
 -- one reader behind another
-pub goes : {A B : Type 0} (m : Result A Why) (f : A → Result B Why) (x : A) (r : Result B Why) → m ≡ Ok x → f x ≡ r → (m >>= f) ≡ r
+pub goes : {A B : Type 0} (m : Result A Why) (f : A → Result B Why) (x : A) (r : Result B Why) → m ≡ Ok x → f x ≡ r
+    → (m >>= f) ≡ r
 goes m f x r h k = ap (λ n. n >>= f) h ∙ k
 
 -- a limit that is not reached
@@ -31,7 +32,8 @@ small n high h k =
     omega (arith, most, k)
 
 -- a node of the cluster
-pub node_of_again : (nodes n : ℕ) → nat_le 1 n ≡ true → nat_le n nodes ≡ true → n < 2 ^ 64 → node_of nodes (110 ∷ decimal n) ≡ Ok n
+pub node_of_again : (nodes n : ℕ) → nat_le 1 n ≡ true → nat_le n nodes ≡ true → n < 2 ^ 64
+    → node_of nodes (110 ∷ decimal n) ≡ Ok n
 node_of_again nodes n least most low = rw (number-decimal n low, least, most) refl
 
 pub key_again : (k : List ℕ) → is_key k ≡ true → key_of k ≡ Ok k

@@ -30,11 +30,13 @@ unfolding number_at
 number_read [] = tt
 number_read (w ∷ ws) = by (number w) refl
   where
-    by : (o : Option ℕ) → number w ≡ o → IfOk {T = ℕ × List (List ℕ)} (or_why why.Number o >>= λ n. Ok (n, ws)) (λ x. (w ∷ ws ≡ decimal x.0 ∷ x.1) × (x.0 < 2 ^ 64))
+    by : (o : Option ℕ) → number w ≡ o → IfOk {T = ℕ × List (List ℕ)} (or_why why.Number o >>= λ n. Ok (n, ws))
+        (λ x. (w ∷ ws ≡ decimal x.0 ∷ x.1) × (x.0 < 2 ^ 64))
     by None e = tt
     by (Some n) e = (ap (λ v. v ∷ ws) (decimal-number w n e), number_small w n e)
 
-pub in_range_read : (low high n : ℕ) → IfOk (in_range low high n) (λ m. (m ≡ n) × (nat_le low m ≡ true) × (nat_le m high ≡ true))
+pub in_range_read : (low high n : ℕ)
+    → IfOk (in_range low high n) (λ m. (m ≡ n) × (nat_le low m ≡ true) × (nat_le m high ≡ true))
 in_range_read low high n = either (nat_le low n && nat_le n high) _ _ _ (λ e. let both = and_parts (nat_le low n) (nat_le n high) e in (refl, both.0, both.1)) (λ _. tt)
 
 pub key_read : (w : List ℕ) → IfOk (key_of w) (λ k. (w ≡ k) × (is_key k ≡ true))
@@ -43,14 +45,17 @@ key_read w = either (is_key w) _ _ _ (λ e. (refl, e)) (λ _. tt)
 pub tx_read : (w : List ℕ) → IfOk (tx_of w) (λ t. (w ≡ decimal t) × ((nat_le 1 t && nat_le t MAX_TX) ≡ true))
 tx_read w = by (number w) refl
   where
-    by : (o : Option ℕ) → number w ≡ o → IfOk (tx_in o) (λ t. (w ≡ decimal t) × ((nat_le 1 t && nat_le t MAX_TX) ≡ true))
+    by : (o : Option ℕ) → number w ≡ o
+        → IfOk (tx_in o) (λ t. (w ≡ decimal t) × ((nat_le 1 t && nat_le t MAX_TX) ≡ true))
     by None e = tt
     by (Some t) e = either (nat_le 1 t && nat_le t MAX_TX) _ _ _ (λ g. (decimal-number w t e, g)) (λ _. tt)
 
-pub node_read : (nodes : ℕ) (w : List ℕ) → IfOk (node_of nodes w) (λ n. (w ≡ 110 ∷ decimal n) × ((nat_le 1 n && nat_le n nodes) ≡ true))
+pub node_read : (nodes : ℕ) (w : List ℕ)
+    → IfOk (node_of nodes w) (λ n. (w ≡ 110 ∷ decimal n) × ((nat_le 1 n && nat_le n nodes) ≡ true))
 node_read nodes [] = tt
 node_read nodes (b ∷ bs) = either (b == 110) _ _ _ (λ e. by (grind (arith, nat_tests, e)) (number bs) refl) (λ _. tt)
   where
-    by : b ≡ 110 → (o : Option ℕ) → number bs ≡ o → IfOk (node_in nodes o) (λ n. (b ∷ bs ≡ 110 ∷ decimal n) × ((nat_le 1 n && nat_le n nodes) ≡ true))
+    by : b ≡ 110 → (o : Option ℕ) → number bs ≡ o
+        → IfOk (node_in nodes o) (λ n. (b ∷ bs ≡ 110 ∷ decimal n) × ((nat_le 1 n && nat_le n nodes) ≡ true))
     by first None e = tt
     by first (Some n) e = either (nat_le 1 n && nat_le n nodes) _ _ _ (λ g. (ap (λ (c : ℕ). c ∷ bs) first ∙ ap (λ ds. 110 ∷ ds) (decimal-number bs n e), g)) (λ _. tt)

@@ -47,7 +47,8 @@ remote_key seen (op.Write k e) = []
 -- the keys that are read remotely, in order: by a read of a key that no operation before it names
 abbrev pub remote_keys : List Key → List Op → List Key
 remote_keys seen [] = []
-remote_keys seen (op.Read k ∷ ops) = if is_key_among k seen then remote_keys seen ops else k ∷ remote_keys (k ∷ seen) ops
+remote_keys seen (op.Read k ∷ ops) =
+    if is_key_among k seen then remote_keys seen ops else k ∷ remote_keys (k ∷ seen) ops
 remote_keys seen (op.Write k e ∷ ops) = remote_keys (k ∷ seen) ops
 
 -- the key of a write, unless it is among those written before
@@ -59,7 +60,8 @@ written_key seen (op.Write k e) = unless_among seen k
 abbrev pub written_keys : List Key → List Op → List Key
 written_keys seen [] = []
 written_keys seen (op.Read k ∷ ops) = written_keys seen ops
-written_keys seen (op.Write k e ∷ ops) = if is_key_among k seen then written_keys seen ops else k ∷ written_keys (k ∷ seen) ops
+written_keys seen (op.Write k e ∷ ops) =
+    if is_key_among k seen then written_keys seen ops else k ∷ written_keys (k ∷ seen) ops
 
 -- the script has a write
 abbrev pub is_update : List Op → Bool

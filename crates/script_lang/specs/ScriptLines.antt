@@ -107,7 +107,8 @@ words_line most nodes d (w ∷ ws) = do
 
 -- a line of printed bytes, as words between single spaces
 unfoldable pub line_of : ℕ → ℕ → TextDraft → List ℕ → Result TextDraft Why
-line_of most nodes d line = if list_all is_printed line then words_line most nodes d (slice_split (λ b. b == 32) line) else Err why.Byte
+line_of most nodes d line =
+    if list_all is_printed line then words_line most nodes d (slice_split (λ b. b == 32) line) else Err why.Byte
 
 -- what was read, or the fault of the line of this number
 abbrev pub at_line : {A : Type 0} → ℕ → Result A Why → Result A At
@@ -136,7 +137,9 @@ close d tail = if length tail == 0 then whole d.stage else Err why.Missing
 -- The pieces between line feeds, the first of them with this number. The last has no line feed.
 unfoldable pub lines_from : ℕ → ℕ → TextDraft → ℕ → List (List ℕ) → Result ScriptData At
 lines_from most nodes d n [] = at_line n (Err why.Missing)
-lines_from most nodes d n (x ∷ rest) = if length rest == 0 then at_line n (close d x) else (at_line n (line_of most nodes d x) >>> λ e. lines_from most nodes e (n + 1) rest)
+lines_from most nodes d n (x ∷ rest) =
+    if length rest == 0 then at_line n (close d x)
+    else (at_line n (line_of most nodes d x) >>> λ e. lines_from most nodes e (n + 1) rest)
 
 -- nothing is read yet
 abbrev pub unread : TextDraft

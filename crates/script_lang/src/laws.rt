@@ -16,7 +16,8 @@ use crate::limits::MAX_OPS;
 /// An expression has one spelling. Its words are read as it where its keys are known and its steps
 /// are at most 16, and whatever is read as it is its words.
 pub fn law_expr_spelling()
-    ensures reads { (known : List Key) (e : Expr) → IsTrue (is_expr_among known e) → IsTrue (is_plain_expr e) → expr_of known (expr_words e) ≡ Ok e }
+    ensures reads { (known : List Key) (e : Expr) → IsTrue (is_expr_among known e) → IsTrue (is_plain_expr e)
+        → expr_of known (expr_words e) ≡ Ok e }
     ensures writes { (known : List Key) (ws : List (List ℕ)) (e : Expr) → expr_of known ws ≡ Ok e → ws ≡ expr_words e }
     ensures known { (known : List Key) (ws : List (List ℕ)) (e : Expr) → expr_of known ws ≡ Ok e → IsTrue (is_expr_among known e) }
     ensures plain { (known : List Key) (ws : List (List ℕ)) (e : Expr) → expr_of known ws ≡ Ok e → IsTrue (is_plain_expr e) }
@@ -35,5 +36,6 @@ pub fn law_key_limit()
 
 /// An expression over some keys can be evaluated where each of them has a value.
 pub fn law_known_keys()
-    ensures { (reads : ReadValues) (known : List Key) (e : Expr) → IsTrue (list_all (map.contains_key reads) known) → IsTrue (is_expr_among known e) → IsTrue (has_each_key reads e) }
+    ensures { (reads : ReadValues) (known : List Key) (e : Expr) → IsTrue (list_all (map.contains_key reads) known)
+        → IsTrue (is_expr_among known e) → IsTrue (has_each_key reads e) }
 {}

@@ -63,7 +63,8 @@ fn text_line(
     word: &[u8],
     rest: &[&[u8]],
 ) -> Result<Stage, LineEnd>
-    ensures { Gives (λ s. (s, named.new)) result (text_line MAX_OPS nodes stage named.old word.now (map (λ w. w.now) rest.now)) }
+    ensures { Gives (λ s. (s, named.new)) result
+        (text_line MAX_OPS nodes stage named.old word.now (map (λ w. w.now) rest.now)) }
 {
     match stage {
         Some(stage) => stage_line(alloc, stage, named, word, rest),

@@ -1,5 +1,5 @@
 -- The operation that a transaction waits for, by the operations before it.
-use Rattle.std.proofs.Common.{◌≡◌, ℕ, ◌+◌, ◌<◌, Bool, true, false, not, ◌&&◌, ◌||◌, is_some, List, [], ◌∷◌, ◌++◌, length, take, drop, get_or, Option, Some, None, ap, sym, refl, subst, ◌∙◌, inl, inr, if◌then◌else◌}
+use Rattle.std.proofs.Common.{◌≡◌, ℕ, ◌+◌, ◌<◌, Bool, true, false, not, ◌&&◌, ◌||◌, is_some, List, [], ◌∷◌, ◌++◌, length, take, drop, get_or, Option, Some, None, ap, sym, refl, subst, ◌∙◌, inl, inr}
 use Rattle.std.proofs.lemmas.Bool.{cases_Bool}
 use Rattle.std.proofs.lemmas.Cmp.{nat_list_eq_equiv}
 use Rattle.std.proofs.lemmas.List.{take_more, drop_more}
@@ -39,7 +39,8 @@ or-false true = refl
 or-false false = refl
 
 -- a key is named up to an operation
-among-append : (k : Key) (xs : List Op) (o : Op) → is_key_among k (keys_named (xs ++ o ∷ [])) ≡ (is_key_among k (keys_named xs) || (same_key k (key_of o) || false))
+among-append : (k : Key) (xs : List Op) (o : Op)
+    → is_key_among k (keys_named (xs ++ o ∷ [])) ≡ (is_key_among k (keys_named xs) || (same_key k (key_of o) || false))
 among-append k xs o = ap (list_any (same_key k)) (named-append xs o) ∙ list_any-append (same_key k) (keys_named xs) (key_of o ∷ [])
 
 -- a key more
@@ -47,7 +48,8 @@ names-more : (seen : List Key) (xs : List Op) (o : Op) → Names seen xs → Nam
 names-more seen xs o names k = ap (λ b. same_key k (key_of o) || b) (names k) ∙ or-turned (same_key k (key_of o)) (is_key_among k (keys_named xs)) ∙ sym (among-append k xs o)
 
 -- a key that is there already
-names-same : (seen : List Key) (xs : List Op) (o : Op) → Names seen xs → is_key_among (key_of o) seen ≡ true → Names seen (xs ++ o ∷ [])
+names-same : (seen : List Key) (xs : List Op) (o : Op) → Names seen xs → is_key_among (key_of o) seen ≡ true
+    → Names seen (xs ++ o ∷ [])
 names-same seen xs o names there k = elim (cases_Bool (same_key k (key_of o))) [
   | inl same ↦
       let here : is_key_among k seen ≡ true = list_any_congr nat_list_eq_equiv k (key_of o) seen same ∙ there in
@@ -67,12 +69,14 @@ first_open-taken (Some v) j rest e = refl
 first_open-taken None j rest e = cc
 
 -- what stands behind an operation that does not wait
-record Passed (j : ℕ) (rs : List (ℕ × Value)) (before : List Op) (o : Op) (seen : List Key) (ys : List Op) : Type 0 where
-  pub seen' : List Key
-  pub names : Names seen' (before ++ o ∷ [])
-  pub rest : waiting_from (j + 1) seen' rs ys ≡ waiting_from j seen rs (o ∷ ys)
+record Passed (j : ℕ) (rs : List (ℕ × Value)) (before : List Op) (o : Op) (seen : List Key) (ys : List Op) : Type 0
+  where
+    pub seen' : List Key
+    pub names : Names seen' (before ++ o ∷ [])
+    pub rest : waiting_from (j + 1) seen' rs ys ≡ waiting_from j seen rs (o ∷ ys)
 
-passes : (j : ℕ) (rs : List (ℕ × Value)) (before : List Op) (o : Op) (seen : List Key) (ys : List Op) → Names seen before → is_waiting rs j before o ≡ false → Passed j rs before o seen ys
+passes : (j : ℕ) (rs : List (ℕ × Value)) (before : List Op) (o : Op) (seen : List Key) (ys : List Op)
+    → Names seen before → is_waiting rs j before o ≡ false → Passed j rs before o seen ys
 passes j rs before (op.Read k) seen ys names w = elim (cases_Bool (is_key_among k seen)) [
   | inl there ↦ record { seen' = seen; names = names-same seen before (op.Read k) names there; rest = rw there refl }
   | inr new ↦
@@ -83,7 +87,8 @@ passes j rs before (op.Write k e) seen ys names w = record { seen' = k ∷ seen;
 
 -- ---- the walk
 
-pub Walked-more : (ops : List Op) (rs : List (ℕ × Value)) (i : ℕ) (o : Op) → i < length ops → o ≡ get_or ops i o → Walked ops rs i → is_waiting rs (i + 1) (take i ops) o ≡ false → Walked ops rs (i + 1)
+pub Walked-more : (ops : List Op) (rs : List (ℕ × Value)) (i : ℕ) (o : Op) → i < length ops → o ≡ get_or ops i o
+    → Walked ops rs i → is_waiting rs (i + 1) (take i ops) o ≡ false → Walked ops rs (i + 1)
 Walked-more ops rs i o h at walked w =
     let p = passes (i + 1) rs (take i ops) o walked.seen (drop (i + 1) ops) walked.names w in
     record {

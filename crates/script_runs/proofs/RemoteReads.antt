@@ -17,7 +17,8 @@ use Rattle.script_lang.proofs.KeyLists.{among-here, among-later}
 -- the numbers of the remote reads of these operations, the first of which has number j
 abbrev pub remote_numbers : ℕ → List Key → List Op → List ℕ
 remote_numbers j seen [] = []
-remote_numbers j seen (op.Read k ∷ ops) = if is_key_among k seen then remote_numbers (j + 1) seen ops else j ∷ remote_numbers (j + 1) (k ∷ seen) ops
+remote_numbers j seen (op.Read k ∷ ops) =
+    if is_key_among k seen then remote_numbers (j + 1) seen ops else j ∷ remote_numbers (j + 1) (k ∷ seen) ops
 remote_numbers j seen (op.Write k e ∷ ops) = remote_numbers (j + 1) (k ∷ seen) ops
 
 abbrev pub has_number : ℕ → List ℕ → Bool
@@ -37,7 +38,9 @@ pub numbers-rise : (j : ℕ) (seen : List Key) (ops : List Op) → AreRising j (
 numbers-rise j seen [] = tt
 numbers-rise j seen (op.Read k ∷ ops) = go (is_key_among k seen) (numbers-rise (j + 1) seen ops) (numbers-rise (j + 1) (k ∷ seen) ops)
   where
-    go : (b : Bool) → AreRising (j + 1) (remote_numbers (j + 1) seen ops) → AreRising (j + 1) (remote_numbers (j + 1) (k ∷ seen) ops) → AreRising j (if b then remote_numbers (j + 1) seen ops else j ∷ remote_numbers (j + 1) (k ∷ seen) ops)
+    go : (b : Bool) → AreRising (j + 1) (remote_numbers (j + 1) seen ops)
+        → AreRising (j + 1) (remote_numbers (j + 1) (k ∷ seen) ops)
+        → AreRising j (if b then remote_numbers (j + 1) seen ops else j ∷ remote_numbers (j + 1) (k ∷ seen) ops)
     go true old new = rising-lower (j + 1) j (remote_numbers (j + 1) seen ops) (omega arith) old
     go false old new = (omega arith, rising-lower (j + 1) (suc j) (remote_numbers (j + 1) (k ∷ seen) ops) (omega arith) new)
 numbers-rise j seen (op.Write k e ∷ ops) = rising-lower (j + 1) j (remote_numbers (j + 1) (k ∷ seen) ops) (omega arith) (numbers-rise (j + 1) (k ∷ seen) ops)
@@ -50,14 +53,18 @@ pub record IsRemote (j : ℕ) (seen : List Key) (ops : List Op) (a : ℕ) : Type
   pub new : is_key_among key seen ≡ false
   pub listed : is_key_among key (remote_keys seen ops) ≡ true
 
-remote-later : (j a : ℕ) (o : Op) (seen seen' : List Key) (ops : List Op) → ((k : Key) → is_key_among k seen' ≡ false → is_key_among k seen ≡ false) → ((k : Key) → is_key_among k (remote_keys seen' ops) ≡ true → is_key_among k (remote_keys seen (o ∷ ops)) ≡ true) → IsRemote (j + 1) seen' ops a → IsRemote j seen (o ∷ ops) a
+remote-later : (j a : ℕ) (o : Op) (seen seen' : List Key) (ops : List Op)
+    → ((k : Key) → is_key_among k seen' ≡ false → is_key_among k seen ≡ false)
+    → ((k : Key) → is_key_among k (remote_keys seen' ops) ≡ true → is_key_among k (remote_keys seen (o ∷ ops)) ≡ true)
+    → IsRemote (j + 1) seen' ops a → IsRemote j seen (o ∷ ops) a
 remote-later j a o seen seen' ops less more h =
     let le = h.least in
     let step : a - j ≡ suc (a - (j + 1)) = omega arith in
     let P : ℕ → Type 0 = λ i. slice_get (o ∷ ops) i ≡ Some (op.Read h.key) in
     record { least = omega arith; key = h.key; read = subst P (sym step) h.read; new = less h.key h.new; listed = more h.key h.listed }
 
-pub number-remote : (j a : ℕ) (seen : List Key) (ops : List Op) → has_number a (remote_numbers j seen ops) ≡ true → IsRemote j seen ops a
+pub number-remote : (j a : ℕ) (seen : List Key) (ops : List Op) → has_number a (remote_numbers j seen ops) ≡ true
+    → IsRemote j seen ops a
 number-remote j a seen [] h = absurd (grind (arith, h))
 number-remote j a seen (op.Read k ∷ ops) h = go (is_key_among k seen) refl h (number-remote (j + 1) a seen ops) (number-remote (j + 1) a (k ∷ seen) ops)
   where
@@ -67,7 +74,11 @@ number-remote j a seen (op.Read k ∷ ops) h = go (is_key_among k seen) refl h (
         let P : ℕ → Type 0 = λ i. slice_get (op.Read k ∷ ops) i ≡ Some (op.Read k) in
         subst (IsRemote j seen (op.Read k ∷ ops)) is (record { least = omega arith; key = k; read = subst P (sym first) refl; new = e; listed = rw e (among-here k (remote_keys (k ∷ seen) ops)) })
 
-    go : (b : Bool) → is_key_among k seen ≡ b → has_number a (if b then remote_numbers (j + 1) seen ops else j ∷ remote_numbers (j + 1) (k ∷ seen) ops) ≡ true → (has_number a (remote_numbers (j + 1) seen ops) ≡ true → IsRemote (j + 1) seen ops a) → (has_number a (remote_numbers (j + 1) (k ∷ seen) ops) ≡ true → IsRemote (j + 1) (k ∷ seen) ops a) → IsRemote j seen (op.Read k ∷ ops) a
+    go : (b : Bool) → is_key_among k seen ≡ b
+        → has_number a (if b then remote_numbers (j + 1) seen ops else j ∷ remote_numbers (j + 1) (k ∷ seen) ops) ≡ true
+        → (has_number a (remote_numbers (j + 1) seen ops) ≡ true → IsRemote (j + 1) seen ops a)
+        → (has_number a (remote_numbers (j + 1) (k ∷ seen) ops) ≡ true → IsRemote (j + 1) (k ∷ seen) ops a)
+        → IsRemote j seen (op.Read k ∷ ops) a
     go true e h old new = remote-later j a (op.Read k) seen seen ops (λ x n. n) (λ x n. rw e n) (old h)
     go false e h old new = elim (or_cases (j == a) (has_number a (remote_numbers (j + 1) (k ∷ seen) ops)) h) [
       | inl is ↦ here e (grind (arith, nat_tests, is))
@@ -81,11 +92,16 @@ abbrev pub first_without : List (ℕ × Value) → List ℕ → Option ℕ
 first_without values [] = None
 first_without values (n ∷ ns) = first_open (value_taken n values) n (first_without values ns)
 
-pub waiting-is : (j : ℕ) (seen : List Key) (values : List (ℕ × Value)) (ops : List Op) → waiting_from j seen values ops ≡ first_without values (remote_numbers j seen ops)
+pub waiting-is : (j : ℕ) (seen : List Key) (values : List (ℕ × Value)) (ops : List Op)
+    → waiting_from j seen values ops ≡ first_without values (remote_numbers j seen ops)
 waiting-is j seen values [] = refl
 waiting-is j seen values (op.Read k ∷ ops) = go (is_key_among k seen) (waiting-is (j + 1) seen values ops) (waiting-is (j + 1) (k ∷ seen) values ops)
   where
-    go : (b : Bool) → waiting_from (j + 1) seen values ops ≡ first_without values (remote_numbers (j + 1) seen ops) → waiting_from (j + 1) (k ∷ seen) values ops ≡ first_without values (remote_numbers (j + 1) (k ∷ seen) ops) → (if b then waiting_from (j + 1) seen values ops else first_open (value_taken j values) j (waiting_from (j + 1) (k ∷ seen) values ops)) ≡ first_without values (if b then remote_numbers (j + 1) seen ops else j ∷ remote_numbers (j + 1) (k ∷ seen) ops)
+    go : (b : Bool) → waiting_from (j + 1) seen values ops ≡ first_without values (remote_numbers (j + 1) seen ops)
+        → waiting_from (j + 1) (k ∷ seen) values ops ≡ first_without values (remote_numbers (j + 1) (k ∷ seen) ops)
+        → (if b then waiting_from (j + 1) seen values ops
+        else first_open (value_taken j values) j (waiting_from (j + 1) (k ∷ seen) values ops)) ≡ first_without values
+        (if b then remote_numbers (j + 1) seen ops else j ∷ remote_numbers (j + 1) (k ∷ seen) ops)
     go true old new = old
     go false old new = ap (first_open (value_taken j values) j) new
 waiting-is j seen values (op.Write k e ∷ ops) = waiting-is (j + 1) (k ∷ seen) values ops
@@ -99,11 +115,13 @@ pub record InOrder (ops : List Op) (values : List (ℕ × Value)) (rest : List �
 pub order-first : (ops : List Op) → InOrder ops [] (remote_numbers 1 [] ops)
 order-first ops = record { numbers = refl }
 
-pub taken-among : (a : ℕ) (values : List (ℕ × Value)) → is_some (value_taken a values) ≡ has_number a (map (λ y. y.0) values)
+pub taken-among : (a : ℕ) (values : List (ℕ × Value))
+    → is_some (value_taken a values) ≡ has_number a (map (λ y. y.0) values)
 taken-among a [] = refl
 taken-among a (x ∷ xs) = go (x.0 == a) (taken-among a xs)
   where
-    go : (b : Bool) → is_some (value_taken a xs) ≡ has_number a (map (λ y. y.0) xs) → is_some (if b then Some x.1 else value_taken a xs) ≡ (b || has_number a (map (λ y. y.0) xs))
+    go : (b : Bool) → is_some (value_taken a xs) ≡ has_number a (map (λ y. y.0) xs)
+        → is_some (if b then Some x.1 else value_taken a xs) ≡ (b || has_number a (map (λ y. y.0) xs))
     go true h = refl
     go false h = h
 
@@ -125,23 +143,28 @@ rising-below j n a (m ∷ ns) rest h is = elim (or_cases (m == a) (has_number a 
     rising-least j n [] rest h = h.0
     rising-least j n (m ∷ ns) rest h = omega (arith, h.0, rising-least (suc m) n ns rest h.1)
 
-untaken-from : (n : ℕ) (values : List (ℕ × Value)) (rest : List ℕ) (a : ℕ) → AreRising 1 (map (λ y. y.0) values ++ n ∷ rest) → n ≤ a → value_taken a values ≡ None
+untaken-from : (n : ℕ) (values : List (ℕ × Value)) (rest : List ℕ) (a : ℕ)
+    → AreRising 1 (map (λ y. y.0) values ++ n ∷ rest) → n ≤ a → value_taken a values ≡ None
 untaken-from n values rest a up le = go (value_taken a values) (taken-among a values)
   where
     go : (o : Option Value) → is_some o ≡ has_number a (map (λ y. y.0) values) → o ≡ None
     go None e = refl
     go (Some v) e = absurd (let lt = rising-below 1 n a (map (λ y. y.0) values) rest up (sym e) in omega arith)
 
-pass-taken : (values : List (ℕ × Value)) (ns rest : List ℕ) → ((a : ℕ) → has_number a ns ≡ true → is_some (value_taken a values) ≡ true) → first_without values (ns ++ rest) ≡ first_without values rest
+pass-taken : (values : List (ℕ × Value)) (ns rest : List ℕ)
+    → ((a : ℕ) → has_number a ns ≡ true → is_some (value_taken a values) ≡ true)
+    → first_without values (ns ++ rest) ≡ first_without values rest
 pass-taken values [] rest each = refl
 pass-taken values (n ∷ ns) rest each = go (value_taken n values) (each n (grind (arith, nat_tests))) (pass-taken values ns rest (λ a h. each a (or_right (n == a) (has_number a ns) h)))
   where
-    go : (o : Option Value) → is_some o ≡ true → first_without values (ns ++ rest) ≡ first_without values rest → first_open o n (first_without values (ns ++ rest)) ≡ first_without values rest
+    go : (o : Option Value) → is_some o ≡ true → first_without values (ns ++ rest) ≡ first_without values rest
+        → first_open o n (first_without values (ns ++ rest)) ≡ first_without values rest
     go None h more = absurd (grind (arith, h))
     go (Some v) h more = more
 
 -- what is waited for is the first that is left
-pub order-waiting : (ops : List Op) (values : List (ℕ × Value)) (rest : List ℕ) → InOrder ops values rest → waiting ops values ≡ slice_get rest 0
+pub order-waiting : (ops : List Op) (values : List (ℕ × Value)) (rest : List ℕ) → InOrder ops values rest
+    → waiting ops values ≡ slice_get rest 0
 order-waiting ops values rest h =
     waiting-is 1 [] values ops
     ∙ ap (first_without values) (sym h.numbers)
@@ -153,26 +176,31 @@ order-waiting ops values rest h =
     first (n ∷ rest) up = rw (untaken-from n values rest n up (omega arith)) refl
 
 -- nothing behind it is taken
-pub order-untaken : (ops : List Op) (values : List (ℕ × Value)) (n : ℕ) (rest : List ℕ) (a : ℕ) → InOrder ops values (n ∷ rest) → n ≤ a → value_taken a values ≡ None
+pub order-untaken : (ops : List Op) (values : List (ℕ × Value)) (n : ℕ) (rest : List ℕ) (a : ℕ)
+    → InOrder ops values (n ∷ rest) → n ≤ a → value_taken a values ≡ None
 order-untaken ops values n rest a h le = untaken-from n values rest a (let P : List ℕ → Type 0 = λ ns. AreRising 1 ns in subst P (sym h.numbers) (numbers-rise 1 [] ops)) le
 
 -- what is taken is of a remote read
-pub order-remote : (ops : List Op) (values : List (ℕ × Value)) (rest : List ℕ) (a : ℕ) (v : Value) → InOrder ops values rest → value_taken a values ≡ Some v → IsRemote 1 [] ops a
+pub order-remote : (ops : List Op) (values : List (ℕ × Value)) (rest : List ℕ) (a : ℕ) (v : Value)
+    → InOrder ops values rest → value_taken a values ≡ Some v → IsRemote 1 [] ops a
 order-remote ops values rest a v h e =
     let is : has_number a (map (λ y. y.0) values) ≡ true = sym (taken-among a values) ∙ ap is_some e in
     let all : has_number a (remote_numbers 1 [] ops) ≡ true = ap (has_number a) (sym h.numbers) ∙ has-append a (map (λ y. y.0) values) rest ∙ or_left (has_number a (map (λ y. y.0) values)) (has_number a rest) is in
     number-remote 1 a [] ops all
 
-map-append : (values : List (ℕ × Value)) (y : ℕ × Value) (rest : List ℕ) → map (λ y. y.0) (values ++ y ∷ []) ++ rest ≡ map (λ y. y.0) values ++ y.0 ∷ rest
+map-append : (values : List (ℕ × Value)) (y : ℕ × Value) (rest : List ℕ)
+    → map (λ y. y.0) (values ++ y ∷ []) ++ rest ≡ map (λ y. y.0) values ++ y.0 ∷ rest
 map-append [] y rest = refl
 map-append (x ∷ xs) y rest = ap (λ ns. x.0 ∷ ns) (map-append xs y rest)
 
 -- the first that is left takes its value
-pub order-more : (ops : List Op) (values : List (ℕ × Value)) (n : ℕ) (v : Value) (rest : List ℕ) → InOrder ops values (n ∷ rest) → InOrder ops (values ++ (n, v) ∷ []) rest
+pub order-more : (ops : List Op) (values : List (ℕ × Value)) (n : ℕ) (v : Value) (rest : List ℕ)
+    → InOrder ops values (n ∷ rest) → InOrder ops (values ++ (n, v) ∷ []) rest
 order-more ops values n v rest h = record { numbers = map-append values (n, v) rest ∙ h.numbers }
 
 -- who waits has reads left, the first of which is the one waited for
-pub order-left : (ops : List Op) (values : List (ℕ × Value)) (rest : List ℕ) (i : ℕ) → InOrder ops values rest → waiting ops values ≡ Some i → (more : List ℕ) × (rest ≡ i ∷ more)
+pub order-left : (ops : List Op) (values : List (ℕ × Value)) (rest : List ℕ) (i : ℕ) → InOrder ops values rest
+    → waiting ops values ≡ Some i → (more : List ℕ) × (rest ≡ i ∷ more)
 order-left ops values rest i h w = go rest (sym (order-waiting ops values rest h) ∙ w)
   where
     go : (ns : List ℕ) → slice_get ns 0 ≡ Some i → (more : List ℕ) × (ns ≡ i ∷ more)

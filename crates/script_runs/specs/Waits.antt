@@ -20,7 +20,9 @@ first_open None j rest = Some j
 -- and before which the script names the keys seen
 abbrev pub waiting_from : ℕ → List Key → List (ℕ × Value) → List Op → Option ℕ
 waiting_from j seen values [] = None
-waiting_from j seen values (op.Read k ∷ ops) = if is_key_among k seen then waiting_from (j + 1) seen values ops else first_open (value_taken j values) j (waiting_from (j + 1) (k ∷ seen) values ops)
+waiting_from j seen values (op.Read k ∷ ops) =
+    if is_key_among k seen then waiting_from (j + 1) seen values ops
+    else first_open (value_taken j values) j (waiting_from (j + 1) (k ∷ seen) values ops)
 waiting_from j seen values (op.Write k e ∷ ops) = waiting_from (j + 1) (k ∷ seen) values ops
 
 -- the first remote read of a script without a taken value
@@ -29,5 +31,6 @@ waiting ops values = waiting_from 1 [] values ops
 
 -- operation j, which stands behind these, reads a key that none of them names, and no value was taken for it
 abbrev pub is_waiting : List (ℕ × Value) → ℕ → List Op → Op → Bool
-is_waiting values j before (op.Read k) = not (is_key_among k (keys_named before)) && not (is_some (value_taken j values))
+is_waiting values j before (op.Read k) =
+    not (is_key_among k (keys_named before)) && not (is_some (value_taken j values))
 is_waiting values j before (op.Write k e) = false

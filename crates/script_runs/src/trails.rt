@@ -50,7 +50,8 @@ impl Trail {
 
     /// An own read.
     fn read_own(&mut self, j: u8, key: Key, value: Value) -> Result<(), Memory>
-        ensures { OnOk result (self.new ≡ record self.old { own = self.old.own ++ (j, value) ∷ []; latest = map.insert self.old.latest key value }) }
+        ensures { OnOk result (self.new ≡ record self.old
+            { own = self.old.own ++ (j, value) ∷ []; latest = map.insert self.old.latest key value }) }
     {
         self.own.push((j, value))?;
         self.latest.set(key, value)
@@ -58,7 +59,8 @@ impl Trail {
 
     /// A remote read with its taken value.
     fn read_taken(&mut self, key: Key, value: Value) -> Result<(), Memory>
-        ensures { OnOk result (self.new ≡ record self.old { mine = map.insert self.old.mine key value; latest = map.insert self.old.latest key value }) }
+        ensures { OnOk result (self.new ≡ record self.old
+            { mine = map.insert self.old.mine key value; latest = map.insert self.old.latest key value }) }
     {
         self.mine.set(key, value)?;
         self.latest.set(key, value)

@@ -38,11 +38,14 @@ same_test Greater e = cc
 abbrev pub has : List ((ℕ × ℕ) × Unit {0}) → ℕ × ℕ → Bool
 has ps m = is_some (map.find by_final m ps)
 
-found_or : (m n : ℕ × ℕ) (q : (ℕ × ℕ) × Unit {0}) (qs : List ((ℕ × ℕ) × Unit {0})) (b : Bool) → eq_by_cmp by_final n q.0 ≡ b → IsAtMost m q.0 → (has qs n ≡ true → IsAtMost m n) → is_some (cond b (Some q.1) (map.find by_final n qs)) ≡ true → IsAtMost m n
+found_or : (m n : ℕ × ℕ) (q : (ℕ × ℕ) × Unit {0}) (qs : List ((ℕ × ℕ) × Unit {0})) (b : Bool)
+    → eq_by_cmp by_final n q.0 ≡ b → IsAtMost m q.0 → (has qs n ≡ true → IsAtMost m n)
+    → is_some (cond b (Some q.1) (map.find by_final n qs)) ≡ true → IsAtMost m n
 found_or m n q qs true is here later among = subst (IsAtMost m) (sym (by_final-IsAntisymmetric n q.0 (same_test (by_final n q.0) is))) here
 found_or m n q qs false is here later among = later among
 
-at_most_found : (m : ℕ × ℕ) (ps : List ((ℕ × ℕ) × Unit {0})) (n : ℕ × ℕ) → All (λ p. IsAtMost m p.0) ps → has ps n ≡ true → IsAtMost m n
+at_most_found : (m : ℕ × ℕ) (ps : List ((ℕ × ℕ) × Unit {0})) (n : ℕ × ℕ) → All (λ p. IsAtMost m p.0) ps
+    → has ps n ≡ true → IsAtMost m n
 at_most_found m [] n low among = cc
 at_most_found m (q ∷ qs) n low among =
     found_or m n q qs (eq_by_cmp by_final n q.0) refl (low 0 q (omega arith)) (λ later. at_most_found m qs n (λ j d within. low (suc j) d (omega (arith, within))) later) among
@@ -50,13 +53,15 @@ at_most_found m (q ∷ qs) n low among =
 pub contains_has : (ps : List ((ℕ × ℕ) × Unit {0})) (m : ℕ × ℕ) → set.contains (commits_of ps) m ≡ has ps m
 contains_has ps m = set.contains-from_list by_final_total _ m ∙ sym (is_some-find by_final m ps)
 
-first_at_most : (p : (ℕ × ℕ) × Unit {0}) (ps : List ((ℕ × ℕ) × Unit {0})) (n : ℕ × ℕ) → IsRising by_final (p ∷ ps) → has (p ∷ ps) n ≡ true → IsAtMost p.0 n
+first_at_most : (p : (ℕ × ℕ) × Unit {0}) (ps : List ((ℕ × ℕ) × Unit {0})) (n : ℕ × ℕ) → IsRising by_final (p ∷ ps)
+    → has (p ∷ ps) n ≡ true → IsAtMost p.0 n
 first_at_most p ps n rising among =
     found_or p.0 n p ps (eq_by_cmp by_final n p.0) refl (inr (refl, omega arith))
     (λ later. at_most_found p.0 ps n (λ j d within. then_at_most p.0 _ (rising 0 (suc j) d (omega arith) (omega (arith, within)))) later) among
 
 -- the first of a table is its least commit
-pub least_below : (ps : List ((ℕ × ℕ) × Unit {0})) (limit : Option ℕ) (d : (ℕ × ℕ) × Unit {0}) → IsRising by_final ps → 0 < length ps
+pub least_below : (ps : List ((ℕ × ℕ) × Unit {0})) (limit : Option ℕ) (d : (ℕ × ℕ) × Unit {0}) → IsRising by_final ps
+    → 0 < length ps
     → IsTrue (is_below limit (slice_index_or ps 0 d).0.0) → IsLeastBelow (commits_of ps) limit (slice_index_or ps 0 d).0
 least_below [] limit d rising some below = absurd (omega (arith, some))
 least_below (p ∷ ps) limit d rising some below = record {
@@ -70,13 +75,16 @@ below_too None m n low below = refl
 below_too (Some l) m n low below = grind (arith, nat_tests, common_steps)
 
 -- where the first is not below the limit, none is
-pub none_below : (ps : List ((ℕ × ℕ) × Unit {0})) (limit : Option ℕ) (d : (ℕ × ℕ) × Unit {0}) → IsRising by_final ps → 0 < length ps
-    → is_below limit (slice_index_or ps 0 d).0.0 ≡ false → (n : ℕ × ℕ) → IsTrue (set.contains (commits_of ps) n) → ¬ IsTrue (is_below limit n.0)
+pub none_below : (ps : List ((ℕ × ℕ) × Unit {0})) (limit : Option ℕ) (d : (ℕ × ℕ) × Unit {0}) → IsRising by_final ps
+    → 0 < length ps
+    → is_below limit (slice_index_or ps 0 d).0.0 ≡ false → (n : ℕ × ℕ) → IsTrue (set.contains (commits_of ps) n)
+    → ¬ IsTrue (is_below limit n.0)
 none_below [] limit d rising some past n among below = absurd (omega (arith, some))
 none_below (p ∷ ps) limit d rising some past n among below =
     let bad = below_too limit p.0 n (first_at_most p ps n rising (sym (contains_has (p ∷ ps) n) ∙ among)) below in cc
 
-pub no_commits : (ps : List ((ℕ × ℕ) × Unit {0})) → length ps ≡ 0 → (n : ℕ × ℕ) → ¬ IsTrue (set.contains (commits_of ps) n)
+pub no_commits : (ps : List ((ℕ × ℕ) × Unit {0})) → length ps ≡ 0 → (n : ℕ × ℕ)
+    → ¬ IsTrue (set.contains (commits_of ps) n)
 no_commits [] none n among = let bad = sym (contains_has [] n) ∙ among in cc
 no_commits (p ∷ ps) none n among = absurd (omega (arith, none))
 
@@ -90,7 +98,8 @@ none_or : (b : Bool) (x : Option (Unit {0})) → is_some (cond b None x) ≡ (no
 none_or true x = refl
 none_or false x = refl
 
-pub insert_commit : (ps : List ((ℕ × ℕ) × Unit {0})) (i : ℕ) (m : ℕ × ℕ) → IsGap by_final ps m i → commits_of (insert ps i (m, tt)) ≡ set.insert (commits_of ps) m
+pub insert_commit : (ps : List ((ℕ × ℕ) × Unit {0})) (i : ℕ) (m : ℕ × ℕ) → IsGap by_final ps m i
+    → commits_of (insert ps i (m, tt)) ≡ set.insert (commits_of ps) m
 insert_commit ps i m gap =
     set.same_set by_final_total by_final-IsAntisymmetric _ _
     (λ n. contains_has (insert ps i (m, tt)) n
@@ -98,7 +107,8 @@ insert_commit ps i m gap =
     ∙ some_or (eq_by_cmp by_final n m) (map.find by_final n ps)
     ∙ sym (set.contains-insert by_final_total (commits_of ps) m n ∙ ap (λ b. eq_by_cmp by_final n m || b) (contains_has ps n)))
 
-pub remove_commit : (ps : List ((ℕ × ℕ) × Unit {0})) (i : ℕ) (d : (ℕ × ℕ) × Unit {0}) → IsRising by_final ps → i < length ps → commits_of (remove ps i) ≡ set.remove (commits_of ps) (slice_index_or ps i d).0
+pub remove_commit : (ps : List ((ℕ × ℕ) × Unit {0})) (i : ℕ) (d : (ℕ × ℕ) × Unit {0}) → IsRising by_final ps
+    → i < length ps → commits_of (remove ps i) ≡ set.remove (commits_of ps) (slice_index_or ps i d).0
 remove_commit ps i d rising within =
     set.same_set by_final_total by_final-IsAntisymmetric _ _
     (λ n. contains_has (remove ps i) n

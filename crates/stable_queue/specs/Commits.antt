@@ -21,7 +21,8 @@ pub record Queue : Type 0 where
 -- a queue is stored as the pair of its fields
 abbrev pub queue_code : Coded Queue
 queue_code =
-    code_by (Commits × ℕ) (coded× (set.code (coded× coded_ℕ coded_ℕ)) coded_ℕ) (λ q. (q.commits, q.spare)) (λ p. record { commits = p.0; spare = p.1 }) (λ _. refl)
+    code_by (Commits × ℕ) (coded× (set.code (coded× coded_ℕ coded_ℕ)) coded_ℕ)
+    (λ q. (q.commits, q.spare)) (λ p. record { commits = p.0; spare = p.1 }) (λ _. refl)
 
 -- f is below the limit, or there is no limit
 abbrev pub is_below : Option ℕ → ℕ → Bool

@@ -74,7 +74,8 @@ impl Stable {
     pub fn pop_below(&mut self, limit: Option<Ident>) -> Option<(Ident, TxId)>
         ensures none { IsNone result ↔ ((m : ℕ × ℕ) → IsTrue (set.contains self.old.commits m) → ¬ IsTrue (is_below limit m.0)) }
         ensures least { IfSome result (IsLeastBelow self.old.commits limit) }
-        ensures rest { MatchOption result (self.new.commits ≡ self.old.commits) (λ m. self.new.commits ≡ set.remove self.old.commits m) }
+        ensures rest { MatchOption result (self.new.commits ≡ self.old.commits)
+            (λ m. self.new.commits ≡ set.remove self.old.commits m) }
         ensures spare { self.old.spare ≤ self.new.spare }
     {
         if self.commits.len() == 0 {

@@ -37,7 +37,8 @@ fn decision_behind<'a>(rec: &'a Record, t: TxId, before: Option<Decided<'a>>) ->
 
 /// Whether a record is a Decided of t.
 fn is_decided_in(rec: &Record, t: TxId) -> bool
-    ensures { (r : List Record) → times_decided t (rec.now ∷ r) ≡ (if result then times_decided t r + 1 else times_decided t r) }
+    ensures { (r : List Record)
+        → times_decided t (rec.now ∷ r) ≡ (if result then times_decided t r + 1 else times_decided t r) }
 {
     match rec {
         Record::Decided { t: u, .. } => *u == t,

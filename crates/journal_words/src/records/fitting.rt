@@ -113,7 +113,8 @@ fn are_free(
     reads: &[Key],
     writes: &[(Key, Value)],
 ) -> Result<bool, Memory>
-    ensures { IfOk result (λ free. free ≡ (is_none (holder (reverse before.now) t reads.now writes.now) && is_none (newer (reverse before.now) reads.now sid))) }
+    ensures { IfOk result (λ free. free ≡ (is_none (holder (reverse before.now) t reads.now writes.now)
+        && is_none (newer (reverse before.now) reads.now sid))) }
 {
     Ok(
         holder(alloc, before, t, reads, writes)?.is_none()
@@ -131,7 +132,8 @@ fn fits_prepared(
     parts: &[NodeId],
     said: &Prepared,
 ) -> Result<bool, Memory>
-    ensures { IfOk result (λ fit. fit ≡ fits_prepared cluster.now me (reverse before.now) t parts.now said.now.sid said.now.proposal said.now.reads said.now.writes) }
+    ensures { IfOk result (λ fit. fit ≡ fits_prepared cluster.now me (reverse before.now) t parts.now said.now.sid
+        said.now.proposal said.now.reads said.now.writes) }
 {
     let is_new = prepared_of(before, t).is_none()
         && said.sid < said.proposal

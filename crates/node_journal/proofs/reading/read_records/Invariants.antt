@@ -10,7 +10,8 @@ invariant-gates g l = record {
   inside : l.at < l.len;
   count : length l.records.items ≤ l.at;
   fit : All IsRecord l.records.items;
-  spelled : IsTrue (g.D.Disk.tells l.fn.disk) → Spells (drop l.first (take l.at (g.D.Disk.file l.fn.disk).seen)) l.records.items;
+  spelled : IsTrue (g.D.Disk.tells l.fn.disk)
+      → Spells (drop l.first (take l.at (g.D.Disk.file l.fn.disk).seen)) l.records.items;
   file : g.D.Disk.file l.disk ≡ g.D.Disk.file l.fn.disk;
   tells : g.D.Disk.tells l.disk ≡ g.D.Disk.tells l.fn.disk;
   left : g.D.Disk.left l.disk ≡ g.D.Disk.left l.fn.disk;

@@ -7,5 +7,6 @@ use Rattle.schedule_replay.proofs.numbering.number_all.Given as goal
 abbrev pub invariant-loop-out : goal.invariant-loop-out
 invariant-loop-out l = record {
   small : l.next + sends (into_iter_items l.out-iterator) ≤ l.fn.m + sends l.fn.outs.items;
-  told : l.acts.items ++ numbered l.next l.from (into_iter_items l.out-iterator) ≡ l.fn.acts.items ++ numbered l.fn.m l.from l.fn.outs.items;
+  told : l.acts.items ++ numbered l.next l.from (into_iter_items l.out-iterator) ≡ l.fn.acts.items ++ numbered l.fn.m
+      l.from l.fn.outs.items;
 }

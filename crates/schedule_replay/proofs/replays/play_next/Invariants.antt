@@ -9,5 +9,6 @@ abbrev pub invariant-loop-i : goal.invariant-loop-i
 invariant-loop-i l = record {
   same : l.run.doc ≡ l.fn.run.doc;
   left : HasRoom l.fn.run.doc (past l.run) (l.count - l.i);
-  told : l.run.acts ++ plays l.fn.run.doc (past l.run) (replicate (l.count - l.i) (item.Next 1)) ≡ l.fn.run.acts ++ plays l.fn.run.doc (past l.fn.run) (replicate l.count (item.Next 1));
+  told : l.run.acts ++ plays l.fn.run.doc (past l.run) (replicate (l.count - l.i) (item.Next 1)) ≡ l.fn.run.acts ++
+      plays l.fn.run.doc (past l.fn.run) (replicate l.count (item.Next 1));
 }

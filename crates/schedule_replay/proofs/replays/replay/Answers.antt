@@ -35,7 +35,8 @@ loop-item-preserved c =
     }
 
 -- behind the last item nothing is left to play
-whole : (d : DocumentData) (acts behind : List Act) (left : List Item) → left ≡ [] → acts ++ plays d behind (flat_map events_in left) ≡ calm_run d → acts ≡ calm_run d
+whole : (d : DocumentData) (acts behind : List Act) (left : List Item) → left ≡ []
+    → acts ++ plays d behind (flat_map events_in left) ≡ calm_run d → acts ≡ calm_run d
 whole d acts behind left none told = sym (append-nil acts) ∙ ap (λ is. acts ++ plays d behind (flat_map events_in is)) (sym none) ∙ told
 
 -- the acts that are handed out are the calm run, of which the law speaks

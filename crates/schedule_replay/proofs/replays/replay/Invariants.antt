@@ -13,5 +13,7 @@ abbrev pub invariant-loop-item : goal.invariant-loop-item
 invariant-loop-item l = record {
   same : l.run.doc ≡ l.doc;
   left : HasRoom l.doc (past l.run) (sum_by events_of (drop l.item-index l.item-items));
-  told : l.run.acts ++ plays l.doc (past l.run) (flat_map events_in (drop l.item-index l.item-items)) ≡ start_row l.doc.cluster.nodes (λ n. true) ++ plays l.doc (after [] (start_row l.doc.cluster.nodes (λ n. true))) (flat_map events_in l.doc.items);
+  told : l.run.acts ++ plays l.doc (past l.run) (flat_map events_in (drop l.item-index l.item-items)) ≡ start_row
+      l.doc.cluster.nodes (λ n. true) ++ plays l.doc (after [] (start_row l.doc.cluster.nodes (λ n. true)))
+      (flat_map events_in l.doc.items);
 }

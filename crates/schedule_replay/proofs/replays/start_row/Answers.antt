@@ -1,7 +1,7 @@
 use Rattle.std.proofs.Common.{◌+◌, ◌∷◌, [], ◌∙◌, append_assoc}
 use Rattle.grid_model.specs.declared.acts.Act.TheVariants as act
 use Rattle.grid_model.specs.declared.acts.Flag.TheVariants as flag
-use Rattle.schedule_replay.proofs.Ranges.{range_more}
+use Rattle.score_base.proofs.Ranges.{range_more}
 use Rattle.schedule_replay.proofs.replays.start_row.Goals as goal
 
 pub loop-n-preserved : goal.loop-n-preserved

@@ -6,4 +6,7 @@ use Rattle.run_state.specs.Kept.{past}
 use Rattle.schedule_replay.proofs.restarts.push_losses.Given as goal
 
 abbrev pub invariant-loop-number : goal.invariant-loop-number
-invariant-loop-number l = l.acts.items ++ flat_map (λ t. lost_at l.run.doc (past l.run) l.n (script_of t l.run.doc.scripts)) l.number-iterator ≡ l.fn.acts.items ++ flat_map (λ t. lost_at l.run.doc (past l.run) l.n (script_of t l.run.doc.scripts)) l.numbers.keys
+invariant-loop-number l =
+    l.acts.items ++ flat_map (λ t. lost_at l.run.doc (past l.run) l.n (script_of t l.run.doc.scripts)) l.number-iterator
+    ≡ l.fn.acts.items
+    ++ flat_map (λ t. lost_at l.run.doc (past l.run) l.n (script_of t l.run.doc.scripts)) l.numbers.keys

@@ -6,7 +6,8 @@ use Rattle.score_io.specs.Streams.{AppendsPart}
 use Rattle.score_cli.specs.Answers.{Wrote, whole, part}
 use Rattle.score_cli.proofs.lines.say.Goals as goal
 
-wrote_from : {T E : Type 0} (a b : Option (List ℕ)) (m n : ℕ) (bs : List ℕ) (r : Result T E) → OnOk r (Appends a b bs) → OnErr r (AppendsPart a b bs) → OnErr r (Rose m n) → Wrote a b m n bs
+wrote_from : {T E : Type 0} (a b : Option (List ℕ)) (m n : ℕ) (bs : List ℕ) (r : Result T E) → OnOk r (Appends a b bs)
+    → OnErr r (AppendsPart a b bs) → OnErr r (Rose m n) → Wrote a b m n bs
 wrote_from a b m n bs (Ok x) p q f = whole p
 wrote_from a b m n bs (Err e) p q f = part q f
 

@@ -7,7 +7,8 @@ use Rattle.script_lang.specs.declared.limits.TheConstants.{MAX_STEPS}
 
 abbrev pub invariant-loop-words : goal.invariant-loop-words
 invariant-loop-words l = record {
-  told : joined l.steps (steps_of (known_keys l.before) l.room (map (λ w. w.now) l.words)) ≡ steps_of (known_keys l.before) MAX_STEPS (map (λ w. w.now) l.initial.words);
+  told : joined l.steps (steps_of (known_keys l.before) l.room (map (λ w. w.now) l.words)) ≡ steps_of
+      (known_keys l.before) MAX_STEPS (map (λ w. w.now) l.initial.words);
   most : l.room ≤ MAX_STEPS;
 }
 

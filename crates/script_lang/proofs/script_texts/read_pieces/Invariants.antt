@@ -5,7 +5,8 @@ use Rattle.script_lang.proofs.script_texts.read_pieces.Given as goal
 
 abbrev pub invariant-loop-lines : goal.invariant-loop-lines
 invariant-loop-lines l = record {
-  told : lines_from MAX_OPS l.nodes l.draft l.n (map (λ w. w.now) l.lines) ≡ lines_from MAX_OPS l.nodes unread 1 (map (λ w. w.now) l.pieces);
+  told : lines_from MAX_OPS l.nodes l.draft l.n (map (λ w. w.now) l.lines) ≡ lines_from MAX_OPS l.nodes unread 1
+      (map (λ w. w.now) l.pieces);
   numbered : l.n + length l.lines ≡ length l.pieces + 1;
 }
 
