@@ -3,3 +3,4 @@ pub mod Places
 pub mod Runs
 pub mod Conflicts
 pub mod Taking
+pub mod Merging

@@ -17,7 +17,8 @@ by_transaction_total = then_total (on_total (λ p. p.0) nat_cmp_total) (on_total
 tied : (l : Lock) (u : ℕ) (k : List ℕ) → eq_by_cmp by_transaction (u, k) (place l) ≡ is_at l u k
 tied l u k = sym (both_tied _ _ (nat_cmp u l.t) (slice_cmp nat_cmp k l.key) (sym (unsigned_tied u l.t)) (nat_list_eq_equiv.symm l.key k ∙ texts_ties k l.key))
 
-pub held_is : (ls : List Lock) (u : ℕ) (k : List ℕ) → set.contains (set.from_list {R = by_transaction} (places ls)) (u, k) ≡ holds_in ls u k
+pub held_is : (ls : List Lock) (u : ℕ) (k : List ℕ)
+    → set.contains (set.from_list {R = by_transaction} (places ls)) (u, k) ≡ holds_in ls u k
 held_is [] u k = set.contains-empty by_transaction (u, k)
 held_is (l ∷ ls) u k =
     set.contains-insert by_transaction_total (set.from_list (places ls)) (place l) (u, k)
@@ -32,7 +33,10 @@ and_false : (a w : Bool) → w ≡ ((a && false) || w)
 and_false true w = refl
 and_false false w = refl
 
-written_head : (l : Lock) (rest : List Lock) (u : ℕ) (k : List ℕ) (w b : Bool) → set.contains (set.from_list {R = by_transaction} (places rest)) (u, k) ≡ w → set.contains (set.from_list {R = by_transaction} (places (cond b (l ∷ rest) rest))) (u, k) ≡ ((is_at l u k && b) || w)
+written_head : (l : Lock) (rest : List Lock) (u : ℕ) (k : List ℕ) (w b : Bool)
+    → set.contains (set.from_list {R = by_transaction} (places rest)) (u, k) ≡ w
+    → set.contains (set.from_list {R = by_transaction} (places (cond b (l ∷ rest) rest))) (u, k)
+    ≡ ((is_at l u k && b) || w)
 written_head l rest u k w true is =
     set.contains-insert by_transaction_total (set.from_list (places rest)) (place l) (u, k)
     ∙ ap (λ b. b || set.contains (set.from_list {R = by_transaction} (places rest)) (u, k)) (tied l u k)
@@ -40,7 +44,8 @@ written_head l rest u k w true is =
     ∙ ap (λ b. b || w) (and_true (is_at l u k))
 written_head l rest u k w false is = is ∙ and_false (is_at l u k) w
 
-pub written_is : (ls : List Lock) (u : ℕ) (k : List ℕ) → set.contains (set.from_list {R = by_transaction} (written_places ls)) (u, k) ≡ writes_in ls u k
+pub written_is : (ls : List Lock) (u : ℕ) (k : List ℕ)
+    → set.contains (set.from_list {R = by_transaction} (written_places ls)) (u, k) ≡ writes_in ls u k
 written_is [] u k = set.contains-empty by_transaction (u, k)
 written_is (l ∷ ls) u k = written_head l (filter (λ (x : Lock). x.writes) ls) u k (writes_in ls u k) l.writes (written_is ls u k)
 
@@ -48,11 +53,13 @@ or_assoc : (a b c : Bool) → (a || (b || c)) ≡ ((a || b) || c)
 or_assoc true b c = refl
 or_assoc false b c = refl
 
-pub holds_in-append : (xs ys : List Lock) (u : ℕ) (k : List ℕ) → holds_in (xs ++ ys) u k ≡ (holds_in xs u k || holds_in ys u k)
+pub holds_in-append : (xs ys : List Lock) (u : ℕ) (k : List ℕ)
+    → holds_in (xs ++ ys) u k ≡ (holds_in xs u k || holds_in ys u k)
 holds_in-append [] ys u k = refl
 holds_in-append (x ∷ xs) ys u k = ap (λ b. is_at x u k || b) (holds_in-append xs ys u k) ∙ or_assoc (is_at x u k) (holds_in xs u k) (holds_in ys u k)
 
-pub writes_in-append : (xs ys : List Lock) (u : ℕ) (k : List ℕ) → writes_in (xs ++ ys) u k ≡ (writes_in xs u k || writes_in ys u k)
+pub writes_in-append : (xs ys : List Lock) (u : ℕ) (k : List ℕ)
+    → writes_in (xs ++ ys) u k ≡ (writes_in xs u k || writes_in ys u k)
 writes_in-append [] ys u k = refl
 writes_in-append (x ∷ xs) ys u k = ap (λ b. (is_at x u k && x.writes) || b) (writes_in-append xs ys u k) ∙ or_assoc (is_at x u k && x.writes) (writes_in xs u k) (writes_in ys u k)
 
@@ -76,19 +83,25 @@ kept true true c h = let bad : true ≡ false = h refl in cc
 kept true false c h = refl
 kept false x c h = refl
 
-holds_head : (t : ℕ) (l : Lock) (ls rest : List Lock) (u : ℕ) (k : List ℕ) (b : Bool) → nat_eq l.t t ≡ b → holds_in rest u k ≡ (not (nat_eq u t) && holds_in ls u k) → holds_in (cond (not b) (l ∷ rest) rest) u k ≡ (not (nat_eq u t) && holds_in (l ∷ ls) u k)
+holds_head : (t : ℕ) (l : Lock) (ls rest : List Lock) (u : ℕ) (k : List ℕ) (b : Bool) → nat_eq l.t t ≡ b
+    → holds_in rest u k ≡ (not (nat_eq u t) && holds_in ls u k)
+    → holds_in (cond (not b) (l ∷ rest) rest) u k ≡ (not (nat_eq u t) && holds_in (l ∷ ls) u k)
 holds_head t l ls rest u k true is later = later ∙ dropped (nat_eq u t) (is_at l u k) (holds_in ls u k) (λ at. grind (arith, nat_tests))
 holds_head t l ls rest u k false is later = ap (λ b. is_at l u k || b) later ∙ kept (nat_eq u t) (is_at l u k) (holds_in ls u k) (λ at. grind (arith, nat_tests))
 
-pub holds_in-filter : (t : ℕ) (ls : List Lock) (u : ℕ) (k : List ℕ) → holds_in (filter (is_other t) ls) u k ≡ (not (nat_eq u t) && holds_in ls u k)
+pub holds_in-filter : (t : ℕ) (ls : List Lock) (u : ℕ) (k : List ℕ)
+    → holds_in (filter (is_other t) ls) u k ≡ (not (nat_eq u t) && holds_in ls u k)
 holds_in-filter t [] u k = nothing_of (not (nat_eq u t))
 holds_in-filter t (l ∷ ls) u k = holds_head t l ls (filter (is_other t) ls) u k (nat_eq l.t t) refl (holds_in-filter t ls u k)
 
-writes_head : (t : ℕ) (l : Lock) (ls rest : List Lock) (u : ℕ) (k : List ℕ) (b : Bool) → nat_eq l.t t ≡ b → writes_in rest u k ≡ (not (nat_eq u t) && writes_in ls u k) → writes_in (cond (not b) (l ∷ rest) rest) u k ≡ (not (nat_eq u t) && writes_in (l ∷ ls) u k)
+writes_head : (t : ℕ) (l : Lock) (ls rest : List Lock) (u : ℕ) (k : List ℕ) (b : Bool) → nat_eq l.t t ≡ b
+    → writes_in rest u k ≡ (not (nat_eq u t) && writes_in ls u k)
+    → writes_in (cond (not b) (l ∷ rest) rest) u k ≡ (not (nat_eq u t) && writes_in (l ∷ ls) u k)
 writes_head t l ls rest u k true is later = later ∙ dropped (nat_eq u t) (is_at l u k && l.writes) (writes_in ls u k) (λ at. grind (arith, nat_tests))
 writes_head t l ls rest u k false is later = ap (λ b. (is_at l u k && l.writes) || b) later ∙ kept (nat_eq u t) (is_at l u k && l.writes) (writes_in ls u k) (λ at. grind (arith, nat_tests))
 
-pub writes_in-filter : (t : ℕ) (ls : List Lock) (u : ℕ) (k : List ℕ) → writes_in (filter (is_other t) ls) u k ≡ (not (nat_eq u t) && writes_in ls u k)
+pub writes_in-filter : (t : ℕ) (ls : List Lock) (u : ℕ) (k : List ℕ)
+    → writes_in (filter (is_other t) ls) u k ≡ (not (nat_eq u t) && writes_in ls u k)
 writes_in-filter t [] u k = nothing_of (not (nat_eq u t))
 writes_in-filter t (l ∷ ls) u k = writes_head t l ls (filter (is_other t) ls) u k (nat_eq l.t t) refl (writes_in-filter t ls u k)
 

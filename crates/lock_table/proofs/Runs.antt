@@ -11,6 +11,7 @@ use Rattle.std.proofs.lemmas.List.{drop_more, drop_all}
 use Rattle.std.proofs.lemmas.Bool.{cases_lt, eqb-true}
 use Rattle.std.proofs.lemmas.Bool.Decides.{nat_tests}
 use Rattle.score_base.specs.Tables.{IsRising, IsGap}
+use Rattle.score_base.proofs.TableMerge.{less_tied}
 use Rattle.lock_table.specs.Table.{is_at, holds_in, blocks_in, lock_of, locks_of, by_key, AreNumbered, IsStart, IsLeastOther}
 use Rattle.lock_table.proofs.Least.{one_of, both_of, or_first, same_key}
 use Rattle.lock_table.proofs.Places.{and_true, written_held}
@@ -55,14 +56,10 @@ start_at_gap ps k i numbered gap =
     (λ j d from inside. greater_not_less _ (gap.above j d from inside))
 
 module _ {K : Type 0} {cmp : K → K → Ordering} (o : IsTotalOrder cmp) where
-  less_tied : (x y z : K) → cmp x y ≡ Less → cmp y z ≡ Equal → cmp x z ≡ Less
-  less_tied x y z less ties = o.antisymm x z
-      ∙ ap ordering_reverse (sym (o.congr y z x ties) ∙ o.antisymm y x ∙ ap ordering_reverse less)
-
   more_tied : (x y z : K) → cmp y x ≡ Less → cmp y z ≡ Equal → cmp x z ≡ Greater
   more_tied x y z less ties = o.antisymm x z ∙ ap ordering_reverse (sym (o.congr y z x ties) ∙ less)
 
-  same_ties : (x : K) → cmp x x ≡ Equal
+  pub same_ties : (x : K) → cmp x x ≡ Equal
   same_ties x = reversed (cmp x x) (o.antisymm x x)
     where
       reversed : (r : Ordering) → r ≡ ordering_reverse r → r ≡ Equal

@@ -19,19 +19,21 @@ swapped true false = refl
 swapped false true = refl
 swapped false false = refl
 
-tied_key : (p : (List ℕ × ℕ) × Bool) (u : ℕ) (k : List ℕ) → eq_by_cmp by_key (k, u) p.0 ≡ is_at (lock_of p) u k
+pub tied_key : (p : (List ℕ × ℕ) × Bool) (u : ℕ) (k : List ℕ) → eq_by_cmp by_key (k, u) p.0 ≡ is_at (lock_of p) u k
 tied_key p u k =
     sym (both_tied _ _ (slice_cmp nat_cmp k p.0.0) (nat_cmp u p.0.1) (nat_list_eq_equiv.symm p.0.0 k ∙ texts_ties k p.0.0) (sym (unsigned_tied u p.0.1)))
     ∙ swapped (pointwise nat_eq p.0.0 k) (nat_eq u p.0.1)
 
-absent_holds : (ps : List ((List ℕ × ℕ) × Bool)) (u : ℕ) (k : List ℕ) → IsAbsent by_key ps (k, u) → holds_in (locks_of ps) u k ≡ false
+pub absent_holds : (ps : List ((List ℕ × ℕ) × Bool)) (u : ℕ) (k : List ℕ) → IsAbsent by_key ps (k, u)
+    → holds_in (locks_of ps) u k ≡ false
 absent_holds [] u k none = refl
 absent_holds (p ∷ ps) u k none =
     ap (λ b. b || holds_in (locks_of ps) u k) (sym (tied_key p u k) ∙ none 0 p (omega arith))
     ∙ absent_holds ps u k (λ j d within. none (suc j) d (omega (arith, within)))
 
 -- where the table has a gap for it, the key is not held
-pub gap_holds : (ps : List ((List ℕ × ℕ) × Bool)) (i u : ℕ) (k : List ℕ) → IsGap by_key ps (k, u) i → holds_in (locks_of ps) u k ≡ false
+pub gap_holds : (ps : List ((List ℕ × ℕ) × Bool)) (i u : ℕ) (k : List ℕ) → IsGap by_key ps (k, u) i
+    → holds_in (locks_of ps) u k ≡ false
 gap_holds ps i u k gap = absent_holds ps u k (gap_absent by_key_total ps (k, u) i gap)
 
 -- where the table has it, the key is held
@@ -45,7 +47,8 @@ found_holds (p ∷ ps) (suc i) d u k within ties =
     or_later (is_at (lock_of p) u k) (holds_in (locks_of ps) u k) (found_holds ps i d u k (omega (arith, within)) ties)
 
 -- what holds of a transaction and a key holds wherever they are named
-named : (f : ℕ → List ℕ → Bool) (t : ℕ) (key : List ℕ) (u : ℕ) (k : List ℕ) → (nat_eq u t && pointwise nat_eq key k) ≡ true → f u k ≡ f t key
+named : (f : ℕ → List ℕ → Bool) (t : ℕ) (key : List ℕ) (u : ℕ) (k : List ℕ)
+    → (nat_eq u t && pointwise nat_eq key k) ≡ true → f u k ≡ f t key
 named f t key u k is =
     let h = both_of (nat_eq u t) (pointwise nat_eq key k) is in
     ap (λ v. f v k) (eqb-true u t h.0) ∙ ap (f t) (sym (same_key key k h.1))
@@ -56,7 +59,8 @@ already false true here = here refl
 already false false here = refl
 
 -- a key that is held already
-pub held_already : (ls : List Lock) (t : ℕ) (key : List ℕ) (u : ℕ) (k : List ℕ) → holds_in ls t key ≡ true → holds_in ls u k ≡ (holds_in ls u k || (nat_eq u t && pointwise nat_eq key k))
+pub held_already : (ls : List Lock) (t : ℕ) (key : List ℕ) (u : ℕ) (k : List ℕ) → holds_in ls t key ≡ true
+    → holds_in ls u k ≡ (holds_in ls u k || (nat_eq u t && pointwise nat_eq key k))
 held_already ls t key u k held = already (holds_in ls u k) (nat_eq u t && pointwise nat_eq key k) (λ is. named (holds_in ls) t key u k is ∙ held)
 
 no_more : (w h x y : Bool) → h ≡ true → w ≡ (w || ((x && not h) && y))
@@ -67,7 +71,8 @@ no_more false true false y is = refl
 
 -- is not written where it is held already
 pub written_already : (ls : List Lock) (t : ℕ) (key : List ℕ) (x : Bool) (u : ℕ) (k : List ℕ) → holds_in ls t key ≡ true
-    → writes_in ls u k ≡ (writes_in ls u k || ((x && not (holds_in ls t key)) && (nat_eq u t && pointwise nat_eq key k)))
+    → writes_in ls u k
+    ≡ (writes_in ls u k || ((x && not (holds_in ls t key)) && (nat_eq u t && pointwise nat_eq key k)))
 written_already ls t key x u k held = no_more (writes_in ls u k) (holds_in ls t key) x (nat_eq u t && pointwise nat_eq key k) held
 
 one_more : (w h x y : Bool) → h ≡ false → (w || (y && x)) ≡ (w || ((x && not h) && y))
@@ -79,7 +84,8 @@ one_more w false false false is = refl
 
 -- is written where it was not held
 pub written_anew : (ls : List Lock) (t : ℕ) (key : List ℕ) (x : Bool) (u : ℕ) (k : List ℕ) → holds_in ls t key ≡ false
-    → (writes_in ls u k || ((nat_eq u t && pointwise nat_eq key k) && x)) ≡ (writes_in ls u k || ((x && not (holds_in ls t key)) && (nat_eq u t && pointwise nat_eq key k)))
+    → (writes_in ls u k || ((nat_eq u t && pointwise nat_eq key k) && x))
+    ≡ (writes_in ls u k || ((x && not (holds_in ls t key)) && (nat_eq u t && pointwise nat_eq key k)))
 written_anew ls t key x u k free = one_more (writes_in ls u k) (holds_in ls t key) x (nat_eq u t && pointwise nat_eq key k) free
 
 all_there : (w h y : Bool) → (y ≡ true → h ≡ w) → (w || ((true && not h) && y)) ≡ (w || y)
@@ -90,8 +96,10 @@ all_there false false true is = refl
 all_there false false false is = refl
 
 -- where t writes all that it holds, a key that it takes to write is written
-pub written_too : (ls : List Lock) (t : ℕ) (key : List ℕ) (u : ℕ) (k : List ℕ) → ((q : List ℕ) → holds_in ls t q ≡ writes_in ls t q)
-    → (writes_in ls u k || ((true && not (holds_in ls t key)) && (nat_eq u t && pointwise nat_eq key k))) ≡ (writes_in ls u k || (nat_eq u t && pointwise nat_eq key k))
+pub written_too : (ls : List Lock) (t : ℕ) (key : List ℕ) (u : ℕ) (k : List ℕ)
+    → ((q : List ℕ) → holds_in ls t q ≡ writes_in ls t q)
+    → (writes_in ls u k || ((true && not (holds_in ls t key)) && (nat_eq u t && pointwise nat_eq key k)))
+    ≡ (writes_in ls u k || (nat_eq u t && pointwise nat_eq key k))
 written_too ls t key u k idle =
     all_there (writes_in ls u k) (holds_in ls t key) (nat_eq u t && pointwise nat_eq key k) (λ is. idle key ∙ sym (named (writes_in ls) t key u k is))
 
@@ -118,10 +126,11 @@ writes_holds : (ls : List Lock) (u : ℕ) (k : List ℕ) → holds_in ls u k ≡
 writes_holds [] u k none = refl
 writes_holds (l ∷ ls) u k none = not_written (is_at l u k) l.writes (holds_in ls u k) (writes_in ls u k) (λ later. writes_holds ls u k later) none
 
-not_held : (b : Bool) → ¬ IsTrue b → b ≡ false
+pub not_held : (b : Bool) → ¬ IsTrue b → b ≡ false
 not_held true idle = absurd (idle refl)
 not_held false idle = refl
 
 -- who holds no key writes all that it holds
-pub none_is_idle : (ls : List Lock) (u : ℕ) (k : List ℕ) → ¬ IsTrue (holds_in ls u k) → holds_in ls u k ≡ writes_in ls u k
+pub none_is_idle : (ls : List Lock) (u : ℕ) (k : List ℕ) → ¬ IsTrue (holds_in ls u k)
+    → holds_in ls u k ≡ writes_in ls u k
 none_is_idle ls u k idle = let free = not_held (holds_in ls u k) idle in free ∙ sym (writes_holds ls u k free)

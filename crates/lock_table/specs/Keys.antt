@@ -33,7 +33,8 @@ pub record Held : Type 0 where
 abbrev pub held_code : Coded Held
 held_code =
     let pairs : Coded Pairs = set.code (coded× coded_ℕ (coded_list coded_ℕ)) in
-    code_by (Pairs × (Pairs × ℕ)) (coded× pairs (coded× pairs coded_ℕ)) (λ h. (h.keys, (h.written, h.spare))) (λ p. record { keys = p.0; written = p.1.0; spare = p.1.1 }) (λ _. refl)
+    code_by (Pairs × (Pairs × ℕ)) (coded× pairs (coded× pairs coded_ℕ))
+    (λ h. (h.keys, (h.written, h.spare))) (λ p. record { keys = p.0; written = p.1.0; spare = p.1.1 }) (λ _. refl)
 
 -- whether t holds a key
 abbrev pub holds_lock : Held → ℕ → List ℕ → Bool

@@ -7,9 +7,10 @@
 //! number of keys for which there is room.
 //!
 //! The locks stand in a table in the order of their keys, those on one key in the order of their
-//! transactions. `holder` finds the locks on a key by halving and goes over these alone. `take` looks
-//! the place of each key up by halving and moves the locks behind it by one; `free` goes over the table
-//! once. The contracts say what is answered, not what it costs.
+//! transactions. `holder` finds the locks on a key by halving and goes over these alone. `take` puts the
+//! keys of its transaction in order and merges them into the table in one pass from its end, which moves
+//! each lock behind the least of them once; `free` goes over the table once. The contracts say what is
+//! answered, not what it costs.
 //!
 //! Only `reserve` takes memory.
 #![tactic(auto)]
@@ -30,9 +31,12 @@ use std::marker::Model;
 #[derive(Drop, Debug)]
 pub struct Locks {
     locks: Ordered<(Key, TxId), bool>,
+    // The keys that are being taken, and else none.
+    taken: Ordered<(Key, TxId), bool>,
 }
 
 impl Model for Locks {
+    ghost use Rattle.std.specs.Prelude.{◌≡◌, [], min};
     ghost use Rattle.std.specs.FinSet as set;
     ghost use Rattle.lock_table.specs.Keys.{Held, held_code};
     ghost use Rattle.lock_table.specs.Table.{locks_of, places, written_places, AreNumbered};
@@ -41,9 +45,13 @@ impl Model for Locks {
 
     ghost coded = { held_code };
 
-    ghost view = { λ h. record { keys = set.from_list (places (locks_of h.locks.pairs)); written = set.from_list (written_places (locks_of h.locks.pairs)); spare = h.locks.spare } };
+    ghost view = { λ h. record {
+      keys = set.from_list (places (locks_of h.locks.pairs));
+      written = set.from_list (written_places (locks_of h.locks.pairs));
+      spare = min h.locks.spare h.taken.spare;
+    } };
 
-    ghost invariant = { λ h. AreNumbered h.locks.pairs };
+    ghost invariant = { λ h. (AreNumbered h.locks.pairs) × (h.taken.pairs ≡ []) };
 }
 
 impl Locks {
@@ -54,6 +62,7 @@ impl Locks {
     {
         Locks {
             locks: Ordered::new(alloc),
+            taken: Ordered::new(alloc),
         }
     }
 
@@ -65,7 +74,8 @@ impl Locks {
         ensures keys { self.new.keys ≡ self.old.keys }
         ensures written { self.new.written ≡ self.old.written }
     {
-        self.locks.reserve(n)
+        self.locks.reserve(n)?;
+        self.taken.reserve(n)
     }
 
     /// The least transaction other than `t` that holds a key of these lists, where it writes the key
@@ -80,20 +90,24 @@ impl Locks {
         )
     }
 
-    /// `t` takes the keys of these lists.
+    /// `t` takes the keys of these lists, in one pass from the end of the table.
     pub fn take(&mut self, reads: &[Key], writes: &[(Key, Value)], t: TxId)
         requires free { (u : ℕ) → u ≢ t → ¬ Conflicts self.old reads.now writes.now u }
         requires idle { (k : List ℕ) → ¬ IsTrue (holds_lock self.old t k) }
         requires room { length reads.now + length writes.now ≤ self.old.spare }
-        ensures keys { (u : ℕ) (k : List ℕ) → holds_lock self.new u k ≡ (holds_lock self.old u k || (u == t && (is_read reads.now k || is_written writes.now k))) }
-        ensures written { (u : ℕ) (k : List ℕ) → writes_key self.new u k ≡ (writes_key self.old u k || (u == t && is_written writes.now k)) }
+        ensures keys { (u : ℕ) (k : List ℕ) → holds_lock self.new u k
+            ≡ (holds_lock self.old u k || (u == t && (is_read reads.now k || is_written writes.now k))) }
+        ensures written { (u : ℕ) (k : List ℕ)
+            → writes_key self.new u k ≡ (writes_key self.old u k || (u == t && is_written writes.now k)) }
         ensures spare { self.old.spare ≤ self.new.spare + length reads.now + length writes.now }
     {
-        take_writes(&mut self.locks, writes, t);
-        take_reads(&mut self.locks, reads, t);
+        take_writes(&mut self.taken, writes, t);
+        take_reads(&mut self.taken, reads, t);
+        self.locks.merge(&self.taken);
+        self.taken.clear();
     }
 
-    /// `t` holds no key any more, and all others hold what they held.
+    /// `t` holds no key any more, and all others hold what they held. One pass over the table.
     pub fn free(&mut self, t: TxId)
         ensures keys { (u : ℕ) (k : List ℕ) → holds_lock self.new u k ≡ (not (u == t) && holds_lock self.old u k) }
         ensures written { (u : ℕ) (k : List ℕ) → writes_key self.new u k ≡ (not (u == t) && writes_key self.old u k) }
@@ -183,9 +197,11 @@ fn lesser(first: Option<TxId>, second: Option<TxId>) -> Option<TxId>
 /// `t` takes these keys as keys that it reads.
 fn take_reads(locks: &mut Ordered<(Key, TxId), bool>, reads: &[Key], t: TxId)
     requires { length reads.now ≤ locks.old.spare }
-    ensures keys { (u : ℕ) (k : List ℕ) → holds_in (locks_of locks.new.pairs) u k ≡ (holds_in (locks_of locks.old.pairs) u k || (u == t && is_read reads.now k)) }
+    ensures keys { (u : ℕ) (k : List ℕ) → holds_in (locks_of locks.new.pairs) u k
+        ≡ (holds_in (locks_of locks.old.pairs) u k || (u == t && is_read reads.now k)) }
     ensures written { (u : ℕ) (k : List ℕ) → writes_in (locks_of locks.new.pairs) u k ≡ writes_in (locks_of locks.old.pairs) u k }
     ensures spare { locks.old.spare ≤ locks.new.spare + length reads.now }
+    ensures count { length locks.new.pairs ≤ length locks.old.pairs + length reads.now }
     ensures numbered { AreNumbered locks.old.pairs → AreNumbered locks.new.pairs }
 {
     for key in reads {
@@ -197,9 +213,12 @@ fn take_reads(locks: &mut Ordered<(Key, TxId), bool>, reads: &[Key], t: TxId)
 fn take_writes(locks: &mut Ordered<(Key, TxId), bool>, writes: &[(Key, Value)], t: TxId)
     requires room { length writes.now ≤ locks.old.spare }
     requires idle { (k : List ℕ) → holds_in (locks_of locks.old.pairs) t k ≡ writes_in (locks_of locks.old.pairs) t k }
-    ensures keys { (u : ℕ) (k : List ℕ) → holds_in (locks_of locks.new.pairs) u k ≡ (holds_in (locks_of locks.old.pairs) u k || (u == t && is_written writes.now k)) }
-    ensures written { (u : ℕ) (k : List ℕ) → writes_in (locks_of locks.new.pairs) u k ≡ (writes_in (locks_of locks.old.pairs) u k || (u == t && is_written writes.now k)) }
+    ensures keys { (u : ℕ) (k : List ℕ) → holds_in (locks_of locks.new.pairs) u k
+        ≡ (holds_in (locks_of locks.old.pairs) u k || (u == t && is_written writes.now k)) }
+    ensures written { (u : ℕ) (k : List ℕ) → writes_in (locks_of locks.new.pairs) u k
+        ≡ (writes_in (locks_of locks.old.pairs) u k || (u == t && is_written writes.now k)) }
     ensures spare { locks.old.spare ≤ locks.new.spare + length writes.now }
+    ensures count { length locks.new.pairs ≤ length locks.old.pairs + length writes.now }
     ensures numbered { AreNumbered locks.old.pairs → AreNumbered locks.new.pairs }
 {
     for write in writes {
@@ -210,9 +229,13 @@ fn take_writes(locks: &mut Ordered<(Key, TxId), bool>, writes: &[(Key, Value)], 
 /// `t` takes this key, if it does not hold it.
 fn take_key(locks: &mut Ordered<(Key, TxId), bool>, key: &Key, t: TxId, writes: bool)
     requires { 1 ≤ locks.old.spare }
-    ensures keys { (u : ℕ) (k : List ℕ) → holds_in (locks_of locks.new.pairs) u k ≡ (holds_in (locks_of locks.old.pairs) u k || (u == t && pointwise nat_eq key.now k)) }
-    ensures written { (u : ℕ) (k : List ℕ) → writes_in (locks_of locks.new.pairs) u k ≡ (writes_in (locks_of locks.old.pairs) u k || ((writes && not (holds_in (locks_of locks.old.pairs) t key.now)) && (u == t && pointwise nat_eq key.now k))) }
+    ensures keys { (u : ℕ) (k : List ℕ) → holds_in (locks_of locks.new.pairs) u k
+        ≡ (holds_in (locks_of locks.old.pairs) u k || (u == t && pointwise nat_eq key.now k)) }
+    ensures written { (u : ℕ) (k : List ℕ) → writes_in (locks_of locks.new.pairs) u k
+        ≡ (writes_in (locks_of locks.old.pairs) u k || ((writes && not (holds_in (locks_of locks.old.pairs) t key.now))
+        && (u == t && pointwise nat_eq key.now k))) }
     ensures spare { locks.old.spare ≤ locks.new.spare + 1 }
+    ensures count { length locks.new.pairs ≤ length locks.old.pairs + 1 }
     ensures numbered { AreNumbered locks.old.pairs → AreNumbered locks.new.pairs }
 {
     if let Err(i) = locks.place(&(*key, t)) {

@@ -13,7 +13,9 @@ use Rattle.score_base.specs.Pieces.{pieces, but_empty_last, lines, places, LieIn
 -- the spans that a walk finds from a place on, in a piece that began at an earlier one
 abbrev pub walk : ℕ → ℕ → ℕ → List ℕ → List Span
 walk separator start at [] = record { start = start; end = at } ∷ []
-walk separator start at (b ∷ bs) = cond (b == separator) (record { start = start; end = at } ∷ walk separator (at + 1) (at + 1) bs) (walk separator start (at + 1) bs)
+walk separator start at (b ∷ bs) =
+    cond (b == separator) (record { start = start; end = at } ∷ walk separator (at + 1) (at + 1) bs)
+    (walk separator start (at + 1) bs)
 
 -- the places of pieces, the first of which began earlier
 abbrev begun : ℕ → ℕ → List (List ℕ) → List Span
@@ -40,13 +42,16 @@ walk_begun separator start at (b ∷ bs) = elim (eqb_tells b separator) [
 pub walk_places : (separator : ℕ) (bs : List ℕ) → walk separator 0 0 bs ≡ places 0 (pieces separator bs)
 walk_places separator bs = walk_begun separator 0 0 bs ∙ begun_here 0 (pieces separator bs) (omega (arith, length-slice_split (λ c. c == separator) bs))
 
-pub walk_ends : (separator start at : ℕ) (text : List ℕ) (spans : List Span) → at ≡ length text → spans ++ walk separator start at (drop at text) ≡ walk separator 0 0 text → spans ++ (record { start = start; end = length text }) ∷ [] ≡ places 0 (pieces separator text)
+pub walk_ends : (separator start at : ℕ) (text : List ℕ) (spans : List Span) → at ≡ length text
+    → spans ++ walk separator start at (drop at text) ≡ walk separator 0 0 text
+    → spans ++ (record { start = start; end = length text }) ∷ [] ≡ places 0 (pieces separator text)
 walk_ends separator start at text spans e found =
     let none : drop at text ≡ [] = drop_all at text (omega arith) in
     rw (none, e) at found ∙ walk_places separator text
 
 -- a last piece that isn't empty stays
-pub last_stays : (at s e : ℕ) (xs : List Span) (ps : List (List ℕ)) → s < e → xs ++ (record { start = s; end = e }) ∷ [] ≡ places at ps → but_empty_last ps ≡ ps
+pub last_stays : (at s e : ℕ) (xs : List Span) (ps : List (List ℕ)) → s < e
+    → xs ++ (record { start = s; end = e }) ∷ [] ≡ places at ps → but_empty_last ps ≡ ps
 last_stays at s e xs [] h p = refl
 last_stays at s e xs (piece ∷ []) h p =
     let same = same_from_push xs [] (record { start = s; end = e }) (record { start = at; end = at + length piece }) p in
@@ -59,7 +64,8 @@ last_stays at s e (x ∷ xs) (piece ∷ next ∷ rest) h p =
     ap (λ l. piece ∷ l) (last_stays (at + length piece + 1) s e xs (next ∷ rest) h tail)
 
 -- an empty last piece goes
-pub last_goes : (at s e : ℕ) (xs : List Span) (ps : List (List ℕ)) → e ≤ s → xs ++ (record { start = s; end = e }) ∷ [] ≡ places at ps → xs ≡ places at (but_empty_last ps)
+pub last_goes : (at s e : ℕ) (xs : List Span) (ps : List (List ℕ)) → e ≤ s
+    → xs ++ (record { start = s; end = e }) ∷ [] ≡ places at ps → xs ≡ places at (but_empty_last ps)
 last_goes at s e [] [] h p = refl
 last_goes at s e (x ∷ xs) [] h p = cc
 last_goes at s e xs (piece ∷ []) h p =
@@ -77,9 +83,12 @@ last_goes at s e (x ∷ xs) (piece ∷ next ∷ rest) h p =
 -- pieces stand in a text from a place on
 abbrev pub Stand : List ℕ → ℕ → List (List ℕ) → Type 0
 Stand text at [] = Unit {0}
-Stand text at (piece ∷ rest) = (take (length piece) (drop at text) ≡ piece) × (at + length piece ≤ length text) × Stand text (at + length piece + 1) rest
+Stand text at (piece ∷ rest) =
+    (take (length piece) (drop at text) ≡ piece) × (at + length piece ≤ length text)
+    × Stand text (at + length piece + 1) rest
 
-stand_joined : (c : ℕ) (front : List ℕ) (ps : List (List ℕ)) (at : ℕ) → length front ≡ at → Stand (front ++ join_with_byte c ps) at ps
+stand_joined : (c : ℕ) (front : List ℕ) (ps : List (List ℕ)) (at : ℕ) → length front ≡ at
+    → Stand (front ++ join_with_byte c ps) at ps
 stand_joined c front [] at h = tt
 stand_joined c front (piece ∷ []) at h =
     let here : take (length piece) piece ≡ piece = take_all (length piece) piece (omega arith) in
@@ -108,7 +117,8 @@ stand_but text at (piece ∷ next ∷ rest) h = (h.0, h.1, stand_but text (at + 
 pub stand_lines : (text : List ℕ) → Stand text 0 (lines text)
 stand_lines text = stand_but text 0 (pieces 10 text) (stand_pieces 10 text)
 
-pub stand_slices : (text : List ℕ) (at : ℕ) (ps : List (List ℕ)) → Stand text at ps → map (λ (s : Span). slice_range text s.start s.end) (places at ps) ≡ ps
+pub stand_slices : (text : List ℕ) (at : ℕ) (ps : List (List ℕ)) → Stand text at ps
+    → map (λ (s : Span). slice_range text s.start s.end) (places at ps) ≡ ps
 stand_slices text at [] h = refl
 stand_slices text at (piece ∷ rest) h =
     let long : at + length piece - at ≡ length piece = omega arith in
@@ -116,12 +126,14 @@ stand_slices text at (piece ∷ rest) h =
     let below = stand_slices text (at + length piece + 1) rest h.2 in
     cc
 
-pub stand_within : (text : List ℕ) (at : ℕ) (ps : List (List ℕ)) → Stand text at ps → All (λ (s : Span). (s.start ≤ s.end) × (s.end ≤ length text)) (places at ps)
+pub stand_within : (text : List ℕ) (at : ℕ) (ps : List (List ℕ)) → Stand text at ps
+    → All (λ (s : Span). (s.start ≤ s.end) × (s.end ≤ length text)) (places at ps)
 stand_within text at [] h = All-nil _
 stand_within text at (piece ∷ rest) h =
     let here : (at ≤ at + length piece) × (at + length piece ≤ length text) = (omega arith, h.1) in
     All-cons (λ (s : Span). (s.start ≤ s.end) × (s.end ≤ length text)) (record { start = at; end = at + length piece }) _ here (stand_within text (at + length piece + 1) rest h.2)
 
-pub stand_order : (text : List ℕ) (at : ℕ) (ps : List (List ℕ)) → Stand text at ps → LieInOrder at (length text) (places at ps)
+pub stand_order : (text : List ℕ) (at : ℕ) (ps : List (List ℕ)) → Stand text at ps
+    → LieInOrder at (length text) (places at ps)
 stand_order text at [] h = tt
 stand_order text at (piece ∷ rest) h = (omega arith, omega arith, h.1, stand_order text (at + length piece + 1) rest h.2)

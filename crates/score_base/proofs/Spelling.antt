@@ -30,7 +30,8 @@ parts : (a b : Bool) → (a && b) ≡ true → (a ≡ true) × (b ≡ true)
 parts true b e = (refl, e)
 parts false b e = cc
 
-pub said : (n : ℕ) (ds : List ℕ) (m : ℕ) → n < 2 ^ 64 → digits_from n ds ≡ Some m → (all_ascii_digits ds ≡ true) × (read_on n ds ≡ m) × (m < 2 ^ 64)
+pub said : (n : ℕ) (ds : List ℕ) (m : ℕ) → n < 2 ^ 64 → digits_from n ds ≡ Some m
+    → (all_ascii_digits ds ≡ true) × (read_on n ds ≡ m) × (m < 2 ^ 64)
 said n [] m h e = let same : n ≡ m = cc in (refl, same, omega (arith, same, h))
 said n (c ∷ cs) m h e =
     let one = chosen (is_ascii_digit c && nat_lt (10 * n + (c - 48)) (2 ^ 64)) (digits_from (10 * n + (c - 48)) cs) m e in
@@ -38,7 +39,8 @@ said n (c ∷ cs) m h e =
     let rest = said (10 * n + (c - 48)) cs m (grind (arith, common_steps, two.1)) one.1 in
     (rw two.0 rest.0, rest.1, rest.2)
 
-pub told : (n : ℕ) (ds : List ℕ) → all_ascii_digits ds ≡ true → read_on n ds < 2 ^ 64 → digits_from n ds ≡ Some (read_on n ds)
+pub told : (n : ℕ) (ds : List ℕ) → all_ascii_digits ds ≡ true → read_on n ds < 2 ^ 64
+    → digits_from n ds ≡ Some (read_on n ds)
 told n [] d h = refl
 told n (c ∷ cs) d h =
     let two = parts (is_ascii_digit c) (all_ascii_digits cs) d in
@@ -46,7 +48,8 @@ told n (c ∷ cs) d h =
     rw (two.0, small) (told (10 * n + (c - 48)) cs two.1 h)
 
 -- no zero in front of others
-pub plain : (b : ℕ) (bs : List ℕ) (x : Option ℕ) (n : ℕ) → cond ((b == 48) && not (length bs == 0)) None x ≡ Some n → (x ≡ Some n) × (b ≡ 48 → length bs ≡ 0)
+pub plain : (b : ℕ) (bs : List ℕ) (x : Option ℕ) (n : ℕ) → cond ((b == 48) && not (length bs == 0)) None x ≡ Some n
+    → (x ≡ Some n) × (b ≡ 48 → length bs ≡ 0)
 plain b bs x n e = elim (eqb_tells b 48) [
   | inl p ↦ elim (eqb_tells (length bs) 0) [
     | inl q ↦ (rw (p.0, q.0) at e, λ _. q.1)
@@ -62,7 +65,8 @@ decimal-number (b ∷ bs) n e =
     let s = said 0 (b ∷ bs) n (lit< tt) p.0 in
     sym (decimal-digits_value own (b ∷ bs) s.0 (omega arith) (λ zero_first. omega (arith, p.1 zero_first)) (omega (arith, s.1, s.2))) ∙ ap decimal s.1
 
-again : (w : List ℕ) (n : ℕ) → all_ascii_digits w ≡ true → 0 < length w → read_on 0 w ≡ n → n < 2 ^ 64 → (get_or w 0 0 ≡ 48 → length w ≡ 1) → number w ≡ Some n
+again : (w : List ℕ) (n : ℕ) → all_ascii_digits w ≡ true → 0 < length w → read_on 0 w ≡ n → n < 2 ^ 64
+    → (get_or w 0 0 ≡ 48 → length w ≡ 1) → number w ≡ Some n
 again [] n d some v h lead = absurd (omega (arith, some))
 again (b ∷ bs) n d some v h lead =
     let read : digits_from 0 (b ∷ bs) ≡ Some n = told 0 (b ∷ bs) d (omega (arith, v, h)) ∙ ap Some v in

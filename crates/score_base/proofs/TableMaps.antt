@@ -28,7 +28,9 @@ gone : {A : Type 0} (b : Bool) (x y : Option A) → (b ≡ true → y ≡ None) 
 gone true x y none = none refl
 gone false x y none = refl
 
-rising_rest : {K V : Type 0} (cmp : K → K → Ordering) (p : K × V) (ps : List (K × V)) → IsRising cmp (p ∷ ps) → IsRising cmp ps
+-- a table without its first pair is in rising order
+pub rising_rest : {K V : Type 0} (cmp : K → K → Ordering) (p : K × V) (ps : List (K × V)) → IsRising cmp (p ∷ ps)
+    → IsRising cmp ps
 rising_rest cmp p ps rising = λ i j d before within. rising (suc i) (suc j) d (omega (arith, before)) (omega (arith, within))
 
 module _ {K : Type 0} {cmp : K → K → Ordering} (o : IsTotalOrder cmp) where
@@ -57,7 +59,8 @@ module _ {K V : Type 0} {cmp : K → K → Ordering} (o : IsTotalOrder cmp) wher
   find_absent (p ∷ ps) key none =
       ap (λ b. cond b (Some p.1) (map.find cmp key ps)) (none 0 p (omega arith)) ∙ find_absent ps key (λ j d within. none (suc j) d (omega (arith, within)))
 
-  pub find_at : (pairs : List (K × V)) (i : ℕ) (d : K × V) (key : K) → IsRising cmp pairs → i < length pairs → cmp (slice_index_or pairs i d).0 key ≡ Equal → map.find cmp key pairs ≡ Some (slice_index_or pairs i d).1
+  pub find_at : (pairs : List (K × V)) (i : ℕ) (d : K × V) (key : K) → IsRising cmp pairs → i < length pairs
+      → cmp (slice_index_or pairs i d).0 key ≡ Equal → map.find cmp key pairs ≡ Some (slice_index_or pairs i d).1
   find_at [] i d key rising within ties = absurd (omega (arith, within))
   find_at (p ∷ ps) zero d key rising within ties =
       ap (λ b. cond b (Some p.1) (map.find cmp key ps)) (ap is_eq (o.antisymm key p.0 ∙ ap ordering_reverse ties))
@@ -75,7 +78,8 @@ module _ {K V : Type 0} {cmp : K → K → Ordering} (o : IsTotalOrder cmp) wher
       ∙ sym (either (eq_by_cmp cmp q k) (eq_by_cmp cmp q p.0) (Some v) (Some p.1) (map.find cmp q ps) (not_both o q k p.0 (none 0 p (omega arith))))
 
   pub find_remove : (pairs : List (K × V)) (i : ℕ) (d : K × V) (q : K) → IsRising cmp pairs → i < length pairs
-      → map.find cmp q (remove pairs i) ≡ cond (eq_by_cmp cmp q (slice_index_or pairs i d).0) None (map.find cmp q pairs)
+      → map.find cmp q (remove pairs i)
+      ≡ cond (eq_by_cmp cmp q (slice_index_or pairs i d).0) None (map.find cmp q pairs)
   find_remove [] i d q rising within = absurd (omega (arith, within))
   find_remove (p ∷ ps) zero d q rising within =
       gone (eq_by_cmp cmp q p.0) (Some p.1) (map.find cmp q ps)
@@ -86,14 +90,17 @@ module _ {K V : Type 0} {cmp : K → K → Ordering} (o : IsTotalOrder cmp) wher
       (not_both o q p.0 (slice_index_or ps i d).0 (ap is_eq (rising 0 (suc i) d (omega arith) within)))
 
 module _ {K V : Type 0} {cmp : K → K → Ordering} (o : IsTotalOrder cmp) (same : map.IsAntisymmetric cmp) where
-  pub map_found : (pairs : List (K × V)) (i : ℕ) (d : K × V) (key : K) → IsRising cmp pairs → i < length pairs → cmp (slice_index_or pairs i d).0 key ≡ Equal
+  pub map_found : (pairs : List (K × V)) (i : ℕ) (d : K × V) (key : K) → IsRising cmp pairs → i < length pairs
+      → cmp (slice_index_or pairs i d).0 key ≡ Equal
       → map.get {R = cmp} (map.from_entries pairs) key ≡ Some (slice_index_or pairs i d).1
   map_found pairs i d key rising within ties = map.get-from_entries o pairs key ∙ find_at o pairs i d key rising within ties
 
-  pub map_absent : (pairs : List (K × V)) (key : K) (i : ℕ) → IsGap cmp pairs key i → map.get {R = cmp} (map.from_entries pairs) key ≡ None
+  pub map_absent : (pairs : List (K × V)) (key : K) (i : ℕ) → IsGap cmp pairs key i
+      → map.get {R = cmp} (map.from_entries pairs) key ≡ None
   map_absent pairs key i gap = map.get-from_entries o pairs key ∙ find_absent o pairs key (gap_absent o pairs key i gap)
 
-  pub map_insert : (pairs : List (K × V)) (i : ℕ) (k : K) (v : V) → IsGap cmp pairs k i → map.from_entries {R = cmp} (insert pairs i (k, v)) ≡ map.insert (map.from_entries pairs) k v
+  pub map_insert : (pairs : List (K × V)) (i : ℕ) (k : K) (v : V) → IsGap cmp pairs k i
+      → map.from_entries {R = cmp} (insert pairs i (k, v)) ≡ map.insert (map.from_entries pairs) k v
   map_insert pairs i k v gap =
       map.same_map o same _ _
       (λ q. map.get-from_entries o _ q ∙ find_insert o pairs i k v q gap.within (gap_absent o pairs k i gap)

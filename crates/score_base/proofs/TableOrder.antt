@@ -16,7 +16,8 @@ use Rattle.std.proofs.lemmas.List.Kept.{AllPairs-cons}
 use Rattle.std.proofs.lemmas.List.Edits.{get_or-insert_at, get_or-insert_below, get_or-insert_above, length-insert}
 use Rattle.score_base.specs.Tables.{IsRising, Narrows}
 
-pub narrow_less : {K V : Type 0} {cmp : K → K → Ordering} (o : IsTotalOrder cmp) (pairs : List (K × V)) (key : K) (low high mid : ℕ) → IsRising cmp pairs → Narrows cmp pairs key low high → mid < high
+pub narrow_less : {K V : Type 0} {cmp : K → K → Ordering} (o : IsTotalOrder cmp) (pairs : List (K × V)) (key : K)
+    (low high mid : ℕ) → IsRising cmp pairs → Narrows cmp pairs key low high → mid < high
     → ((d : K × V) → cmp (slice_index_or pairs mid d).0 key ≡ Less) → Narrows cmp pairs key (mid + 1) high
 narrow_less {cmp = cmp} o pairs key low high mid rising n h here = record {
   order = omega arith;
@@ -28,7 +29,8 @@ narrow_less {cmp = cmp} o pairs key low high mid rising n h here = record {
   above = n.above;
 }
 
-pub narrow_greater : {K V : Type 0} {cmp : K → K → Ordering} (o : IsTotalOrder cmp) (pairs : List (K × V)) (key : K) (low high mid : ℕ) → IsRising cmp pairs → Narrows cmp pairs key low high → low ≤ mid → mid < high
+pub narrow_greater : {K V : Type 0} {cmp : K → K → Ordering} (o : IsTotalOrder cmp) (pairs : List (K × V)) (key : K)
+    (low high mid : ℕ) → IsRising cmp pairs → Narrows cmp pairs key low high → low ≤ mid → mid < high
     → ((d : K × V) → cmp (slice_index_or pairs mid d).0 key ≡ Greater) → Narrows cmp pairs key low mid
 narrow_greater {cmp = cmp} o pairs key low high mid rising n low_mid h here = record {
   order = low_mid;
@@ -59,7 +61,8 @@ few_steps t n cost small = elim (cases_lt 66 t) [
   | inr few ↦ few
 ]
 
-pub rising_insert : {K V : Type 0} {cmp : K → K → Ordering} (o : IsTotalOrder cmp) (pairs : List (K × V)) (key : K) (value : V) (i : ℕ) → IsRising cmp pairs → Narrows cmp pairs key i i → IsRising cmp (insert pairs i (key, value))
+pub rising_insert : {K V : Type 0} {cmp : K → K → Ordering} (o : IsTotalOrder cmp) (pairs : List (K × V)) (key : K)
+    (value : V) (i : ℕ) → IsRising cmp pairs → Narrows cmp pairs key i i → IsRising cmp (insert pairs i (key, value))
 rising_insert {cmp = cmp} o pairs key value i rising n = λ a b d h long.
     let new = insert pairs i (key, value) in
     let size : b < length pairs + 1 = omega (arith, long, length-insert pairs i (key, value) n.within) in
@@ -88,7 +91,8 @@ rising_insert {cmp = cmp} o pairs key value i rising n = λ a b d h long.
     ]
 
 -- a table without the pair at a place is in rising order
-pub rising_remove : {K V : Type 0} (cmp : K → K → Ordering) (pairs : List (K × V)) (i : ℕ) → i < length pairs → IsRising cmp pairs → IsRising cmp (remove pairs i)
+pub rising_remove : {K V : Type 0} (cmp : K → K → Ordering) (pairs : List (K × V)) (i : ℕ) → i < length pairs
+    → IsRising cmp pairs → IsRising cmp (remove pairs i)
 rising_remove cmp pairs i within rising = all_pairs_remove (λ p q. cmp p.0 q.0 ≡ Less) pairs i within rising
 
 -- what holds of each element holds of those at which a test gave true
@@ -99,12 +103,14 @@ all_picked P (true ∷ bs) (x ∷ xs) h = All-cons P x (items_where_true bs xs) 
 all_picked P (false ∷ bs) (x ∷ xs) h = all_picked P bs xs (λ k d within. h (suc k) d (omega (arith, within)))
 
 -- of a list whose pairs stand so, the elements at which a test gave true stand so
-pairs_picked : {X : Type 0} (R : X → X → Type 0) (bs : List Bool) (xs : List X) → AllPairs R xs → AllPairs R (items_where_true bs xs)
+pairs_picked : {X : Type 0} (R : X → X → Type 0) (bs : List Bool) (xs : List X) → AllPairs R xs
+    → AllPairs R (items_where_true bs xs)
 pairs_picked R [] xs h = λ i j d before within. absurd (omega (arith, within))
 pairs_picked R (b ∷ bs) [] h = λ i j d before within. absurd (omega (arith, within))
 pairs_picked R (true ∷ bs) (x ∷ xs) h = AllPairs-cons R x (items_where_true bs xs) (all_picked (R x) bs xs (λ k d within. h 0 (suc k) d (omega arith) (omega (arith, within)))) (pairs_picked R bs xs (λ i j d before within. h (suc i) (suc j) d (omega (arith, before)) (omega (arith, within))))
 pairs_picked R (false ∷ bs) (x ∷ xs) h = pairs_picked R bs xs (λ i j d before within. h (suc i) (suc j) d (omega (arith, before)) (omega (arith, within)))
 
 -- a table without the pairs that a test drops is in rising order
-pub rising_retain : {K V P : Type 0} (cmp : K → K → Ordering) (R : P → K × V → Bool → P → Type 0) (f : P) (xs ys : List (K × V)) → IsFiltered R f xs ys → IsRising cmp xs → IsRising cmp ys
+pub rising_retain : {K V P : Type 0} (cmp : K → K → Ordering) (R : P → K × V → Bool → P → Type 0) (f : P)
+    (xs ys : List (K × V)) → IsFiltered R f xs ys → IsRising cmp xs → IsRising cmp ys
 rising_retain cmp R f xs ys filtered rising = rw filtered.4 (pairs_picked (λ p q. cmp p.0 q.0 ≡ Less) filtered.0 xs rising)

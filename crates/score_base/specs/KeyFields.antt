@@ -24,14 +24,19 @@ padded bs = record { text = bs ++ replicate (32 - length bs) 0; used = length bs
 pub padded-key_text : (k : Inside) → IsPadded k → padded (take k.used k.text) ≡ k
 padded-key_text k h =
     let long : length (take k.used k.text) ≡ k.used = length-take-le k.used k.text (omega arith) in
-    let whole : take k.used k.text ++ replicate (32 - k.used) 0 ≡ k.text = ap (λ l. take k.used k.text ++ l) (sym h.padding) ∙ take-append-drop k.used k.text in
-    let both : padded (take k.used k.text) ≡ record { text = take k.used k.text ++ replicate (32 - k.used) 0; used = k.used } = ap (λ (n : ℕ). record { text = take k.used k.text ++ replicate (32 - n) 0; used = n }) long in
+    let whole : take k.used k.text ++ replicate (32 - k.used) 0 ≡ k.text =
+    ap (λ l. take k.used k.text ++ l) (sym h.padding) ∙ take-append-drop k.used k.text in
+    let both : padded (take k.used k.text) ≡ record { text = take k.used k.text ++ replicate (32 - k.used) 0; used = k.used } =
+    ap (λ (n : ℕ). record { text = take k.used k.text ++ replicate (32 - n) 0; used = n }) long in
     both ∙ ap (λ (bs : List ℕ). record { text = bs; used = k.used }) whole
 
-pub padded_bytes : (xs zeros : List ℕ) → zeros ≡ replicate 32 0 → length xs ≤ 32 → IsTrue (is_key xs) → IsPadded (record { text = xs ++ drop (length xs) zeros; used = length xs })
+pub padded_bytes : (xs zeros : List ℕ) → zeros ≡ replicate 32 0 → length xs ≤ 32 → IsTrue (is_key xs)
+    → IsPadded (record { text = xs ++ drop (length xs) zeros; used = length xs })
 padded_bytes xs zeros e short key =
-    let rest : drop (length xs) zeros ≡ replicate (32 - length xs) 0 = ap (drop (length xs)) e ∙ drop-replicate (length xs) 32 0 in
-    let long : length (xs ++ drop (length xs) zeros) ≡ 32 = rw rest (rw length-append (rw length-replicate (omega arith))) in
+    let rest : drop (length xs) zeros ≡ replicate (32 - length xs) 0 =
+    ap (drop (length xs)) e ∙ drop-replicate (length xs) 32 0 in
+    let long : length (xs ++ drop (length xs) zeros) ≡ 32 =
+    rw rest (rw length-append (rw length-replicate (omega arith))) in
     record {
       array = long;
       within = short;

@@ -15,7 +15,8 @@ pub struct Span {
 
 /// The pieces that end at a separator, and where the last piece begins.
 fn ended_pieces(alloc: Global, text: &[u8], separator: u8) -> Result<(Vec<Span>, usize), Memory>
-    ensures pieces { IfOk result (λ r. r.0.items ++ (record { start = r.1; end = length text.now }) ∷ [] ≡ places 0 (pieces separator text.now)) }
+    ensures pieces { IfOk result (λ r. r.0.items ++ (record { start = r.1; end = length text.now }) ∷ []
+        ≡ places 0 (pieces separator text.now)) }
     ensures within { IfOk result (λ r. r.1 ≤ length text.now) }
 {
     let mut spans = Vec::new(alloc);

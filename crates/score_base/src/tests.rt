@@ -104,3 +104,26 @@ fn tables_are_in_order(rt: HostRuntime) {
     assert_eq!(rt; table.len(), 1);
     assert_eq!(rt; table.pair(0), (9, 90));
 }
+
+// A table takes another in: a new key at either end, one in between, and one in place of an old value.
+#[test]
+fn tables_are_merged(rt: HostRuntime) {
+    let mut table = Ordered::<u64, u64>::new(rt.alloc());
+    assert!(rt; table.reserve(6).is_ok());
+    table.insert(0, 4, 40);
+    table.insert(1, 8, 80);
+    let mut more = Ordered::<u64, u64>::new(rt.alloc());
+    assert!(rt; more.reserve(4).is_ok());
+    more.insert(0, 2, 21);
+    more.insert(1, 6, 61);
+    more.insert(2, 8, 81);
+    more.insert(3, 9, 91);
+    table.merge(&more);
+    more.clear();
+    assert_eq!(rt; more.len(), 0);
+    assert_eq!(rt; table.len(), 5);
+    assert_eq!(rt; table.pair(1), (4, 40));
+    assert_eq!(rt; table.pair(2), (6, 61));
+    assert_eq!(rt; table.pair(3), (8, 81));
+    assert_eq!(rt; place(&table, 9), 4);
+}

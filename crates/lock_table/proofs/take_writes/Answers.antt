@@ -31,5 +31,6 @@ loop-write-preserved c =
           ∙ ap (λ xs. writes_in ls u k || (nat_eq u c.args.t && is_written xs k)) (sym more)
           ∙ c.loop-write.invariant.written u k;
       spare = omega (arith, c.take_key.ensures.spare, c.loop-write.invariant.spare);
+      count = omega (arith, c.take_key.ensures.count, c.loop-write.invariant.count);
       numbered = λ old. c.take_key.ensures.numbered (c.loop-write.invariant.numbered old);
     }

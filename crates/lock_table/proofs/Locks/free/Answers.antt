@@ -26,4 +26,4 @@ invariant_of-self c =
     let ls = c.self.inside.locks.pairs in
     let test : (List ℕ × ℕ) × Bool → Bool = λ p. not (nat_eq p.0.1 c.args.t) in
     let rest : c.retain.new.self.pairs ≡ filter test ls = filter_same _ test _ (λ x b f r. search rules) _ _ c.retain.ensures.filtered in
-    subst AreNumbered (sym rest) (All-filter test (λ p. 1 ≤ p.0.1) ls c.self.invariant)
+    (subst AreNumbered (sym rest) (All-filter test (λ p. 1 ≤ p.0.1) ls c.self.invariant.0), c.self.invariant.1)

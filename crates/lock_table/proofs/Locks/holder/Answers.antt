@@ -1,4 +1,4 @@
-use Rattle.std.proofs.Common.{refl}
+use Rattle.std.proofs.Common.{min, refl}
 use Rattle.lock_table.specs.Table.{locks_of, holds_in, writes_in, meets_in, IsLeastOther}
 use Rattle.std.specs.List.{list_any}
 use Rattle.lock_table.proofs.Least.{least_of_both}
@@ -16,7 +16,7 @@ returns-clause-none c =
     (meets_in ls reads writes) c.args.t
     c.least_on_writes.result c.least_on_reads.result c.lesser.result
     (λ u. refl) c.lesser.ensures c.least_on_writes.ensures c.least_on_reads.ensures in
-    rw (← c.self.view_is) (no_holder c.lesser.result ls locks.spare c.args.t reads writes least)
+    rw (← c.self.view_is) (no_holder c.lesser.result ls (min locks.spare c.self.inside.taken.spare) c.args.t reads writes least)
 
 pub returns-clause-holder : goal.returns-clause-holder
 returns-clause-holder c =
@@ -29,4 +29,4 @@ returns-clause-holder c =
     (meets_in ls reads writes) c.args.t
     c.least_on_writes.result c.least_on_reads.result c.lesser.result
     (λ u. refl) c.lesser.ensures c.least_on_writes.ensures c.least_on_reads.ensures in
-    rw (← c.self.view_is) (the_holder c.lesser.result ls locks.spare c.args.t reads writes least)
+    rw (← c.self.view_is) (the_holder c.lesser.result ls (min locks.spare c.self.inside.taken.spare) c.args.t reads writes least)
