@@ -4,5 +4,13 @@ pub mod ClearSteps
 pub mod LockReads
 pub mod LockSteps
 pub mod PlaceSteps
+pub mod TableSteps
+pub mod OpenSteps
+pub mod NumberSteps
 pub mod StableSteps
+pub mod ChainReads
+pub mod ChainCounts
+pub mod ChainSteps
+pub mod ChainPuts
+pub mod Applying
 pub mod Fronts

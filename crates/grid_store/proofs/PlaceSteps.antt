@@ -16,10 +16,10 @@ use Rattle.score_base.specs.declared.records.Record.{Record}
 use Rattle.score_base.specs.declared.records.Record.TheVariants as record'
 use Rattle.score_base.specs.Tables.{Table}
 use Rattle.placement.specs.Clusters.{ClusterData}
-use Rattle.journal_words.specs.Journals.{Prepared, older, prepared_of, fits, all_fit}
+use Rattle.journal_words.specs.Journals.{Prepared, older, prepared_of, names_part, fits, all_fit}
 use Rattle.journal_words.proofs.Fits.{prepared-fits}
 use Rattle.journal_words.proofs.Once.{ended-first}
-use Rattle.grid_store.specs.Keeping.{said_by, said_at, KeepsPlaces, CanPlace, KeepsOutcomes, CanEnd}
+use Rattle.grid_store.specs.Keeping.{said_by, said_at, has_part, has_part_at, KeepsPlaces, CanPlace, KeepsOutcomes, CanEnd}
 
 -- ---- places
 
@@ -28,15 +28,20 @@ said-more : (rs : List Record) (x : Record) (o : Option ℕ) → ((i : ℕ) → 
 said-more rs x None inside = refl
 said-more rs x (Some i) inside = ap said_by (get_or_append_left rs (x ∷ []) (record'.Ceiling 0) i (inside i refl))
 
+parts-more : (m : NodeId) (rs : List Record) (x : Record) (o : Option ℕ) → ((i : ℕ) → o ≡ Some i → i < length rs) → has_part_at m (rs ++ x ∷ []) o ≡ has_part_at m rs o
+parts-more m rs x None inside = refl
+parts-more m rs x (Some i) inside = ap (has_part m) (get_or_append_left rs (x ∷ []) (record'.Ceiling 0) i (inside i refl))
+
 longer : (rs : List Record) (x : Record) → length (rs ++ x ∷ []) ≡ length rs + 1
 longer rs x = length-append rs (x ∷ [])
 
 -- a record that is no Prepared takes no place
-pub places-other : (ps : List (TxId × ℕ)) (rs : List Record) (x : Record) → ((t : TxId) → prepared_of t (x ∷ reverse rs) ≡ prepared_of t (reverse rs)) → KeepsPlaces ps rs → KeepsPlaces ps (rs ++ x ∷ [])
-places-other ps rs x same k = record {
+pub places-other : (ps : List (TxId × ℕ)) (rs : List Record) (x : Record) → ((t : TxId) → prepared_of t (x ∷ reverse rs) ≡ prepared_of t (reverse rs)) → ((t : TxId) (m : NodeId) → names_part t m (x ∷ reverse rs) ≡ names_part t m (reverse rs)) → KeepsPlaces ps rs → KeepsPlaces ps (rs ++ x ∷ [])
+places-other ps rs x same alike k = record {
   inside = λ t i at. (let within = k.inside t i at in let long = longer rs x in omega (arith, within, long));
   known = λ t. k.known t ∙ sym (ap (λ l. is_some (prepared_of t l)) (reverse-append rs (x ∷ [])) ∙ ap is_some (same t));
   said = λ t. said-more rs x (map.find nat_cmp t ps) (k.inside t) ∙ k.said t ∙ sym (ap (prepared_of t) (reverse-append rs (x ∷ [])) ∙ same t);
+  part = λ t m. parts-more m rs x (map.find nat_cmp t ps) (k.inside t) ∙ k.part t m ∙ sym (ap (names_part t m) (reverse-append rs (x ∷ [])) ∙ alike t m);
 }
 
 -- a Prepared takes the last one
@@ -45,6 +50,7 @@ places-prepared old new rs at t home parts sid p reads writes last none found k 
   inside = λ u i is. within u i (u == t) refl (sym (found u) ∙ is);
   known = λ u. ap is_some (found u) ∙ known u (u == t) refl ∙ sym (ap (λ l. is_some (prepared_of u l)) (reverse-append rs (x ∷ [])));
   said = λ u. ap (said_at (rs ++ x ∷ [])) (found u) ∙ said u (u == t) refl ∙ sym (ap (prepared_of u) (reverse-append rs (x ∷ [])));
+  part = λ u m. ap (has_part_at m (rs ++ x ∷ [])) (found u) ∙ part u m (u == t) refl ∙ sym (ap (names_part u m) (reverse-append rs (x ∷ [])));
 }
   where
     x : Record
@@ -75,6 +81,15 @@ places-prepared old new rs at t home parts sid p reads writes last none found k 
     said u false e =
         let other : t == u ≡ false = grind (arith, nat_tests, e) in
         said-more rs x (map.find nat_cmp u old) (k.inside u) ∙ k.said u ∙ sym (rw other refl)
+
+    part : (u : TxId) (m : NodeId) (b : Bool) → u == t ≡ b → has_part_at m (rs ++ x ∷ []) (if b then Some at else map.find nat_cmp u old) ≡ names_part u m (x ∷ reverse rs)
+    part u m true e =
+        let self : t == u ≡ true = grind (arith, nat_tests, e) in
+        ap (has_part m) (ap (λ i. slice_index_or (rs ++ x ∷ []) i (record'.Ceiling 0)) last ∙ get_or-append_seam rs x [] (record'.Ceiling 0))
+        ∙ sym (rw self refl)
+    part u m false e =
+        let other : t == u ≡ false = grind (arith, nat_tests, e) in
+        parts-more m rs x (map.find nat_cmp u old) (k.inside u) ∙ k.part u m ∙ sym (rw other refl)
 
 -- a Prepared that fits has no place yet
 pub can-place : (c : ClusterData) (n : NodeId) (rs : List Record) (places : Table TxId ℕ) (x : Record) → KeepsPlaces places.pairs rs → fits c n (reverse rs) x ≡ true → 1 ≤ places.spare → CanPlace places x

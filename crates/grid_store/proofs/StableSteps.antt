@@ -34,10 +34,10 @@ use Rattle.grid_store.specs.Keeping.{names, writes_to, is_final, is_waiting, is_
 same_commit : (m n : ℕ × ℕ) → eq_by_cmp by_final m n ≡ (nat_eq m.0 n.0 && nat_eq m.1 n.1)
 same_commit m n = sym (both_tied _ _ (nat_cmp m.0 n.0) (nat_cmp m.1 n.1) (sym (unsigned_tied m.0 n.0)) (sym (unsigned_tied m.1 n.1)))
 
-has-added : (s : Commits) (f g : Ident) (t u : TxId) → set.contains (set.insert s (f, t)) (g, u) ≡ ((nat_eq g f && nat_eq u t) || set.contains s (g, u))
+pub has-added : (s : Commits) (f g : Ident) (t u : TxId) → set.contains (set.insert s (f, t)) (g, u) ≡ ((nat_eq g f && nat_eq u t) || set.contains s (g, u))
 has-added s f g t u = set.contains-insert by_final_total s (f, t) (g, u) ∙ ap (λ b. b || set.contains s (g, u)) (same_commit (g, u) (f, t))
 
-has-left : (s : Commits) (f g : Ident) (t u : TxId) → set.contains (set.remove s (f, t)) (g, u) ≡ (not (nat_eq g f && nat_eq u t) && set.contains s (g, u))
+pub has-left : (s : Commits) (f g : Ident) (t u : TxId) → set.contains (set.remove s (f, t)) (g, u) ≡ (not (nat_eq g f && nat_eq u t) && set.contains s (g, u))
 has-left s f g t u = set.contains-remove by_final_total s (f, t) (g, u) ∙ ap (λ b. not b && set.contains s (g, u)) (same_commit (g, u) (f, t))
 
 -- ---- where the queue has what is not applied
@@ -47,7 +47,7 @@ final-is f None h = absurd (grind (arith, h))
 final-is f (Some outcome.Abort) h = absurd (grind (arith, h))
 final-is f (Some (outcome.Commit g)) h = (let is : g ≡ f = grind (arith, nat_tests, h) in ap (λ x. Some (outcome.Commit x)) is)
 
-is-final : (f : Ident) → is_final f (Some (outcome.Commit f)) ≡ true
+pub is-final : (f : Ident) → is_final f (Some (outcome.Commit f)) ≡ true
 is-final f = grind (arith, nat_tests)
 
 -- who waits is who is not applied
@@ -60,7 +60,7 @@ waiting-is s r u k = go (ended u r) refl
     go (Some (outcome.Commit f)) e = k f u ∙ rw (e, is-final f) refl
 
 -- who is pending or waits is who locks
-holding-is : (s : Commits) (r : List Record) (u : TxId) → KeepsStable s r → is_holding s u r ≡ is_locking u r
+pub holding-is : (s : Commits) (r : List Record) (u : TxId) → KeepsStable s r → is_holding s u r ≡ is_locking u r
 holding-is s r u k = ap (λ b. is_some (pending u r) || b) (waiting-is s r u k)
 
 pub keeps-settles : (s : Commits) (held : Held) (top : Ident) (r : List Record) → KeepsApplied s top r → KeepsStable s r → KeepsLocks held r → Settles s held top r
@@ -82,7 +82,7 @@ greatest-most t f (x ∷ xs) h = elim (or_cases (x.0 == t && x.1 == f) (has_pair
 ]
 
 -- who ended with commit and does not wait is applied
-not-waiting : (s : Commits) (r : List Record) (t : TxId) (f : Ident) → KeepsStable s r → ended t r ≡ Some (outcome.Commit f) → set.contains s (f, t) ≡ false → is_clear f r ≡ true
+pub not-waiting : (s : Commits) (r : List Record) (t : TxId) (f : Ident) → KeepsStable s r → ended t r ≡ Some (outcome.Commit f) → set.contains s (f, t) ≡ false → is_clear f r ≡ true
 not-waiting s r t f k e h = go (is_clear f r) refl
   where
     go : (b : Bool) → is_clear f r ≡ b → b ≡ true
@@ -90,7 +90,7 @@ not-waiting s r t f k e h = go (is_clear f r) refl
     go false x = absurd (let w : set.contains s (f, t) ≡ true = k f t ∙ rw (e, is-final f, x) refl in grind (arith, w, h))
 
 -- and who is applied does not wait
-applied-not : (s : Commits) (r : List Record) (t : TxId) (f : Ident) → KeepsStable s r → ended t r ≡ Some (outcome.Commit f) → is_clear f r ≡ true → set.contains s (f, t) ≡ false
+pub applied-not : (s : Commits) (r : List Record) (t : TxId) (f : Ident) → KeepsStable s r → ended t r ≡ Some (outcome.Commit f) → is_clear f r ≡ true → set.contains s (f, t) ≡ false
 applied-not s r t f k e clear = k f t ∙ rw (e, is-final f, clear) refl
 
 pub top-applied : (c : ClusterData) (n : NodeId) (s : Commits) (top : Ident) (r : List Record) → all_fit c n r ≡ true → KeepsStable s r → top ≡ commit_id r → KeepsApplied s top r

@@ -1,5 +1,9 @@
 -- What contracts see of a store.
-use Rattle.std.specs.Prelude.{◌≡◌, ℕ, ◌+◌, ◌≤◌, List, length, Some}
+use Rattle.std.specs.Prelude.{◌≡◌, ℕ, ◌+◌, ◌≤◌, nat_le, Bool, true, List, [], ◌∷◌, length, Some, is_some, if◌then◌else◌}
+use Rattle.std.specs.List.{list_all}
+use Rattle.score_base.specs.declared.ids.Value.{Value}
+use Rattle.score_base.specs.declared.keys.Key.{Key}
+use Rattle.score_base.specs.Keys.{same_key}
 use Rattle.score_base.specs.declared.ids.TxId.{TxId}
 use Rattle.score_base.specs.declared.ids.NodeId.{NodeId}
 use Rattle.score_base.specs.declared.ids.Ident.{Ident}
@@ -8,10 +12,11 @@ use Rattle.score_base.specs.declared.records.Record.TheVariants as record'
 use Rattle.placement.specs.Clusters.{ClusterData}
 use Rattle.journal_words.specs.Journals as words
 
--- how many records may be admitted, and how many keys they may lock
+-- how many records may be admitted, how many keys they may lock, and of which keys how many versions they may write
 pub record Room : Type 0 where
   pub records : ℕ
   pub keys : ℕ
+  pub versions : List (Key × ℕ)
 
 -- a store: its node and cluster; the records that it was given, the newest first; its clock; its room
 pub record Given : Type 0 where
@@ -26,10 +31,25 @@ abbrev pub keys_for : Record → ℕ
 keys_for (record'.Prepared t home parts sid p reads writes) = length reads + length writes
 keys_for x = 0
 
+-- of how many versions of a key there is room
+abbrev pub room_for : Key → List (Key × ℕ) → ℕ
+room_for k [] = 0
+room_for k (x ∷ xs) = if same_key k x.0 then x.1 else room_for k xs
+
+-- there is room for a version of each of these keys
+abbrev pub has_room_for : List (Key × Value) → List (Key × ℕ) → Bool
+has_room_for writes versions = list_all (λ w. nat_le 1 (room_for w.0 versions)) writes
+
+-- what a record writes
+abbrev pub writes_of : Record → List (Key × Value)
+writes_of (record'.Prepared t home parts sid p reads writes) = writes
+writes_of x = []
+
 -- there is room for a record
 pub record HasRoom (x : Record) (room : Room) : Type 0 where
   pub one : 1 ≤ room.records
   pub locks : keys_for x ≤ room.keys
+  pub writes : has_room_for (writes_of x) room.versions ≡ true
 
 -- all but the room is as before
 pub record IsSame (old new : Given) : Type 0 where
@@ -42,3 +62,13 @@ pub record IsSame (old new : Given) : Type 0 where
 pub record IsLeastPending (r : List Record) (p : Ident) : Type 0 where
   pub pending : (t : TxId) × (words.pending t r ≡ Some p)
   pub least : (t : TxId) (q : Ident) → words.pending t r ≡ Some q → p ≤ q
+
+-- those of these commits that wrote k
+abbrev pub writers_among : List Record → Key → List (TxId × Ident) → List (TxId × Ident)
+writers_among r k [] = []
+writers_among r k (x ∷ xs) =
+    if is_some (words.wrote_in (words.prepared_of x.0 r) k) then x ∷ writers_among r k xs else writers_among r k xs
+
+-- how many applied commits wrote k
+abbrev pub times_written : List Record → Key → ℕ
+times_written r k = length (writers_among r k (words.applied r))

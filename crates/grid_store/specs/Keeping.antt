@@ -1,5 +1,5 @@
 -- What ties a store's keepers to the words over the records that it was given, the newest first.
-use Rattle.std.specs.Prelude.{◌≡◌, ◌≢◌, ◌⊎◌, ℕ, ◌+◌, ◌≤◌, ◌<◌, ◌==◌, Bool, true, false, not, ◌&&◌, ◌||◌, IsTrue, List, length, reverse, slice_index_or, Option, Some, None, is_some}
+use Rattle.std.specs.Prelude.{◌≡◌, ◌≢◌, ◌⊎◌, ℕ, ◌+◌, ◌≤◌, ◌<◌, ◌==◌, max, Bool, true, false, not, ◌&&◌, ◌||◌, IsTrue, List, [], ◌∷◌, length, reverse, slice_index_or, Option, Some, None, is_some}
 use Rattle.std.specs.Ordering.{nat_cmp}
 use Rattle.std.specs.FinMap as map
 use Rattle.std.specs.FinSet as set
@@ -12,13 +12,13 @@ use Rattle.score_base.specs.declared.records.Record.{Record}
 use Rattle.score_base.specs.declared.records.Record.TheVariants as record'
 use Rattle.score_base.specs.declared.keys.Key.{Key}
 use Rattle.score_base.specs.Tables.{Table}
-use Rattle.placement.specs.Clusters.{ClusterData}
+use Rattle.placement.specs.Places.{is_among}
 use Rattle.node_clock.specs.Clock.{Clock}
 use Rattle.pending_queue.specs.Proposals.{Proposals, Queue}
 use Rattle.stable_queue.specs.Commits.{Commits}
 use Rattle.stable_queue.specs.Commits as stable_queue
 use Rattle.lock_table.specs.Keys.{Held, holds_lock, writes_key, is_read, is_written, Conflicts}
-use Rattle.journal_words.specs.Journals.{Prepared, prepared_of, pending, ended, floor, is_above, is_clear, commit_id, is_locking, all_fit}
+use Rattle.journal_words.specs.Journals.{Prepared, prepared_of, pending, names_part, ended, floor, is_above, is_clear, is_locking, undone}
 
 -- the queue has the proposal of each pending transaction
 abbrev pub KeepsPending : Proposals → List Record → Type 0
@@ -34,6 +34,13 @@ CanPend queue x = Unit {0}
 pub record KeepsClock (clock : Clock) (r : List Record) : Type 0 where
   pub floor : clock.floor ≡ floor r
   pub above : is_above (1 + clock.next) r ≡ true
+
+-- the greatest proposal and final identifier, or 0
+abbrev pub highest : List Record → Ident
+highest [] = 0
+highest (record'.Prepared t home parts sid p reads writes ∷ r) = max p (highest r)
+highest (record'.Ended t (outcome.Commit f) ∷ r) = max f (highest r)
+highest (x ∷ r) = highest r
 
 -- a Prepared, where there is one, names a key
 abbrev pub names : Option Prepared → Key → Bool
@@ -118,11 +125,22 @@ abbrev pub said_at : List Record → Option ℕ → Option Prepared
 said_at rs None = None
 said_at rs (Some i) = said_by (slice_index_or rs i (record'.Ceiling 0))
 
+-- m is among the parts of a record, where it is a Prepared
+abbrev pub has_part : NodeId → Record → Bool
+has_part m (record'.Prepared t home parts sid p reads writes) = is_among m parts
+has_part m x = false
+
+-- m is among the parts of the record at a place, where there is a place
+abbrev pub has_part_at : NodeId → List Record → Option ℕ → Bool
+has_part_at m rs None = false
+has_part_at m rs (Some i) = has_part m (slice_index_or rs i (record'.Ceiling 0))
+
 -- the table has the place of the Prepared of each transaction
 pub record KeepsPlaces (places : List (TxId × ℕ)) (rs : List Record) : Type 0 where
   pub inside : (t : TxId) (i : ℕ) → map.find nat_cmp t places ≡ Some i → i < length rs
   pub known : (t : TxId) → is_some (map.find nat_cmp t places) ≡ is_some (prepared_of t (reverse rs))
   pub said : (t : TxId) → said_at rs (map.find nat_cmp t places) ≡ prepared_of t (reverse rs)
+  pub part : (t : TxId) (m : NodeId) → has_part_at m rs (map.find nat_cmp t places) ≡ names_part t m (reverse rs)
 
 -- a Prepared is of a transaction that has no place, and there is room for one
 abbrev pub CanPlace : Table TxId ℕ → Record → Type 0
@@ -139,17 +157,11 @@ abbrev pub CanEnd : Table TxId Outcome → Record → Type 0
 CanEnd outcomes (record'.Ended t o) = (map.find nat_cmp t outcomes.pairs ≡ None) × (1 ≤ outcomes.spare)
 CanEnd outcomes x = Unit {0}
 
--- ---- all of them
+-- the table has each transaction that is decided and not closed
+abbrev pub KeepsOpen : List (TxId × Unit {0}) → List Record → Type 0
+KeepsOpen open' r = (t : TxId) → is_some (map.find nat_cmp t open') ≡ is_some (undone t r)
 
--- each record fits those before it, and each keeper answers for them; here the oldest record is the first
-pub record Keeps (c : ClusterData) (n : NodeId) (rs : List Record) (places : List (TxId × ℕ))
-    (outcomes : List (TxId × Outcome)) (proposals : Proposals)
-    (clock : Clock) (commits : Commits) (top : Ident) (held : Held) : Type 0 where
-  pub fit : all_fit c n (reverse rs) ≡ true
-  pub placed : KeepsPlaces places rs
-  pub over : KeepsOutcomes outcomes (reverse rs)
-  pub queue : KeepsPending proposals (reverse rs)
-  pub numbers : KeepsClock clock (reverse rs)
-  pub stable : KeepsStable commits (reverse rs)
-  pub applied : top ≡ commit_id (reverse rs)
-  pub locks : KeepsLocks held (reverse rs)
+-- a Decided is of a transaction that is not open, and there is room for one
+abbrev pub CanOpen : Table TxId (Unit {0}) → Record → Type 0
+CanOpen open' (record'.Decided t f parts) = (map.find nat_cmp t open'.pairs ≡ None) × (1 ≤ open'.spare)
+CanOpen open' x = Unit {0}

@@ -1,3 +1,4 @@
 pub mod Given
 pub mod Keeping
+pub mod Chained
 pub mod Replay

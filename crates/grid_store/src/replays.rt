@@ -20,7 +20,7 @@ pub enum ReplayEnd {
 
 impl Store {
     /// Takes in a copy of a record, where it fits; tells whether it does.
-    fn take_next(&mut self, alloc: Global, rec: &Record) -> Result<bool, Memory>
+    fn take_next(&mut self, rec: &Record) -> Result<bool, Memory>
         ensures fits { IfOk result (λ fit. fit ≡ fits self.old.cluster self.old.node self.old.journal rec.now) }
         ensures journal { IfOk result (λ fit. fit ≡ true → self.new.journal ≡ rec.now ∷ self.old.journal) }
         ensures before { IfOk result (λ fit. fit ≡ false → self.new.journal ≡ self.old.journal) }
@@ -28,7 +28,7 @@ impl Store {
         ensures node { self.new.node ≡ self.old.node }
         ensures cluster { self.new.cluster ≡ self.old.cluster }
     {
-        if !self.fits(alloc, rec)? {
+        if !self.fits(rec) {
             return Ok(false);
         }
         self.reserve(rec)?;
@@ -52,7 +52,7 @@ impl Store {
         };
         let mut store = Store::new(alloc, copy, me);
         for rec in records {
-            match store.take_next(alloc, rec) {
+            match store.take_next(rec) {
                 Ok(true) => {}
                 Ok(false) => return Err(ReplayEnd::Strange(store.len())),
                 Err(_) => return Err(ReplayEnd::Memory),

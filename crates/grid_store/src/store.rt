@@ -1,50 +1,60 @@
 //! A store: its fields, what it answers, and how it takes in a record.
 
-ghost use Rattle.std.specs.Prelude.{◌≡◌, ◌+◌, ◌≤◌, ◌<◌, ◌↔◌, ◌∷◌, ◌^◌, [], true, max, length, Some, IsTrue, IsNone, IfSome, IfOk, OnOk};
+ghost use Rattle.std.specs.Prelude.{◌≡◌, ◌+◌, ◌-◌, ◌≤◌, ◌<◌, ◌↔◌, ◌∷◌, ◌^◌, ◌&&◌, [], true, max, is_some, length, Some, IsTrue, IsNone, IfSome, IfOk, OnOk};
 ghost use Rattle.score_base.specs.declared.ids.Ident.{Ident};
 ghost use Rattle.score_base.specs.declared.ids.TxId.{TxId};
 ghost use Rattle.placement.specs.Clusters.{init};
 ghost use Rattle.node_clock.specs.Clock.{IsCeiling};
 ghost use Rattle.stable_queue.specs.Commits.{is_below};
-ghost use Rattle.journal_words.specs.Journals.{home_in, home_of, pending, is_clear, ended, commit_id, version_at, holder, newer, floor, learnt, is_above, fits, all_fit};
-ghost use Rattle.grid_store.specs.Given.{HasRoom, IsSame, IsLeastPending};
-ghost use Rattle.grid_store.specs.Keeping.{said_by};
+ghost use Rattle.version_chain.specs.Kept.{AreTwoLookups};
+ghost use Rattle.journal_words.specs.Journals.{home_in, home_of, pending, names_part, is_clear, ended, commit_id, version_at, newest, holder, newer, floor, learnt, is_above, fits, all_fit};
+ghost use Rattle.grid_store.specs.Given.{HasRoom, IsSame, IsLeastPending, times_written};
+ghost use Rattle.grid_store.specs.Keeping.{said_by, has_part};
 
+use crate::chained::widen;
 use crate::clocks::learn;
+use crate::fitness::fits_outcome;
 use crate::locks::{make_room, settle, take};
+use crate::numbers::rise;
+use crate::opens::mark;
 use crate::outcomes::end;
 use crate::pends::pend;
 use crate::places::place;
 use crate::tables::had;
-use journal_words::records;
+use journal_words::records::is_among;
 use lock_table::Locks;
 use node_clock::NodeClock;
 use pending_queue::Pending;
 use placement::Cluster;
-use score_base::{Ident, Key, Memory, NodeId, Ordered, Outcome, Record, TxId, Value};
+use score_base::{Ident, Key, Memory, NodeId, Ordered, Outcome, Record, Steps, TxId, Value};
 use stable_queue::Stable;
 use std::alloc::Global;
 use std::marker::Model;
+use std::sync::ledger::Ledger;
+use version_chain::Chains;
 
 /// What a node knows by its records.
 #[derive(Drop)]
 pub struct Store {
-    node: NodeId,
-    cluster: Cluster,
+    pub(crate) node: NodeId,
+    pub(crate) cluster: Cluster,
     records: Vec<Record>,
-    places: Ordered<TxId, usize>,
+    pub(crate) places: Ordered<TxId, usize>,
     outcomes: Ordered<TxId, Outcome>,
+    pub(crate) opened: Ordered<TxId, ()>,
     pending: Pending,
     clock: NodeClock<64>,
+    pub(crate) highest: Ident,
     stable: Stable,
     applied: Ident,
     locks: Locks,
+    chains: Chains,
 }
 
 impl Model for Store {
     ghost use Rattle.std.specs.Prelude.{◌-◌, min, reverse, vec_len, vec_capacity};
     ghost use Rattle.grid_store.specs.Given.{Given};
-    ghost use Rattle.grid_store.specs.Keeping.{Keeps};
+    ghost use Rattle.grid_store.specs.Chained.{Keeps, versions_room};
 
     ghost Value = { Given };
 
@@ -55,13 +65,14 @@ impl Model for Store {
       next = s.clock.next;
       room = record {
         records = min (vec_capacity s.records - vec_len s.records)
-            (min s.places.spare (min s.outcomes.spare (min s.pending.spare s.stable.spare)));
+            (min s.places.spare (min s.outcomes.spare (min s.opened.spare (min s.pending.spare s.stable.spare))));
         keys = s.locks.spare;
+        versions = versions_room s.chains;
       };
     } };
 
     ghost invariant = { λ s. Keeps s.cluster s.node s.records.items s.places.pairs s.outcomes.pairs
-        s.pending.proposals s.clock s.stable.commits s.applied s.locks };
+        s.opened.pairs s.pending.proposals s.clock s.highest s.stable.commits s.applied s.locks s.chains };
 }
 
 impl Store {
@@ -78,11 +89,14 @@ impl Store {
             records: Vec::new(alloc),
             places: Ordered::new(alloc),
             outcomes: Ordered::new(alloc),
+            opened: Ordered::new(alloc),
             pending: Pending::new(alloc),
             clock: NodeClock::new(),
+            highest: Ident(0),
             stable: Stable::new(alloc),
             applied: Ident(0),
             locks: Locks::new(alloc),
+            chains: Chains::new(alloc),
         }
     }
 
@@ -128,6 +142,16 @@ impl Store {
         match had(&self.places, t) {
             Some(i) => home_in(&self.records[i]),
             None => None,
+        }
+    }
+
+    /// Whether t is pending and m is among the parts that its Prepared names.
+    pub fn part(&self, t: TxId, m: NodeId) -> bool
+        ensures { result ≡ (is_some (pending t self.now.journal) && names_part t m self.now.journal) }
+    {
+        match had(&self.places, t) {
+            Some(i) => self.pending(t).is_some() && has_part(&self.records[i], m),
+            None => false,
         }
     }
 
@@ -192,38 +216,73 @@ impl Store {
 
     /// The applied version of the key with the greatest identifier at most `sid`, or the initial one:
     /// its identifier and its value.
-    pub fn at(&self, alloc: Global, key: &Key, sid: Ident) -> Result<(Ident, Value), Memory>
+    pub fn at(&self, key: &Key, sid: Ident) -> (Ident, Value)
         ensures { let seen = version_at self.now.journal key.now (init self.now.cluster key.now) sid in
-            IfOk result (λ v. v ≡ (seen.ident, seen.value)) }
+            result ≡ (seen.ident, seen.value) }
     {
-        let start = self.cluster.init(key);
-        let found = records::version_at(alloc, self.records.as_slice(), key, start, sid)?;
-        Ok((found.ident, found.value))
+        self.chains.at(key, self.cluster.init(key), sid)
+    }
+
+    /// As [`Store::at`], and counts its comparisons: a look-up by halving among the keys that have a
+    /// chain, and one among the versions of this key.
+    pub fn at_counted<L: Ledger>(
+        &self,
+        key: &Key,
+        sid: Ident,
+        steps: &mut Steps<L>,
+    ) -> (Ident, Value)
+        requires { steps.old < 2 ^ 61 }
+        ensures version { let seen = version_at self.now.journal key.now (init self.now.cluster key.now) sid in
+            result ≡ (seen.ident, seen.value) }
+        ensures count { steps.old ≤ steps.new }
+        ensures cost { AreTwoLookups (length self.now.room.versions) (times_written self.now.journal key.now)
+            (steps.new - steps.old) }
+    {
+        self.chains
+            .at_counted(key, self.cluster.init(key), sid, steps)
+    }
+
+    /// The identifier of the newest applied version of the key, or 0.
+    fn newest(&self, key: &Key) -> Ident
+        ensures { result ≡ newest self.now.journal key.now }
+    {
+        self.chains.newest(key)
     }
 
     /// The first of these keys that has an applied version above `sid`, and its identifier.
-    pub fn newer(
-        &self,
-        alloc: Global,
-        reads: &[Key],
-        sid: Ident,
-    ) -> Result<Option<(Key, Ident)>, Memory>
-        ensures { IfOk result (λ found. found ≡ newer self.now.journal reads.now sid) }
+    pub fn newer(&self, reads: &[Key], sid: Ident) -> Option<(Key, Ident)>
+        ensures { result ≡ newer self.now.journal reads.now sid }
     {
-        records::newer(alloc, self.records.as_slice(), reads, sid)
+        for key in reads {
+            let ident = self.newest(key);
+            if sid < ident {
+                return Some((*key, ident));
+            }
+        }
+        None
     }
 
     /// Whether a record fits those that the store has.
-    pub fn fits(&self, alloc: Global, rec: &Record) -> Result<bool, Memory>
-        ensures { IfOk result (λ fit. fit ≡ fits self.now.cluster self.now.node self.now.journal rec.now) }
+    pub fn fits(&self, rec: &Record) -> bool
+        ensures { result ≡ fits self.now.cluster self.now.node self.now.journal rec.now }
     {
-        records::fits(
-            alloc,
-            &self.cluster,
-            self.node,
-            self.records.as_slice(),
-            rec,
-        )
+        match rec {
+            Record::Prepared {
+                t,
+                parts,
+                sid,
+                p,
+                reads,
+                writes,
+                ..
+            } => self.is_new(*t, *sid, *p)
+                && self.are_sound(parts.as_slice(), reads.as_slice(), writes.as_slice())
+                && self.are_free(*t, *sid, reads.as_slice(), writes.as_slice()),
+            Record::Ended { t, outcome } => fits_outcome(self.pending(*t), outcome),
+            Record::Ceiling { c } => c.0 % 64 == 0 && self.floor() < *c,
+            Record::Decided { t, f, .. } => !self.is_open(*t) && f.0 >= 1,
+            Record::Closed { t } => self.is_open(*t),
+        }
     }
 
     /// Makes room for a record. All else is as before, also after [`Memory`].
@@ -234,8 +293,10 @@ impl Store {
         self.records.reserve(1)?;
         self.places.reserve(1)?;
         self.outcomes.reserve(1)?;
+        self.opened.reserve(1)?;
         self.pending.reserve(1)?;
         self.stable.reserve(1)?;
+        widen(&mut self.chains, &self.cluster, rec)?;
         make_room(&mut self.locks, rec)
     }
 
@@ -250,16 +311,21 @@ impl Store {
     {
         place(&mut self.places, self.records.len(), &rec);
         end(&mut self.outcomes, &rec);
+        mark(&mut self.opened, &rec);
         pend(&mut self.pending, &rec);
         learn(&mut self.clock, &rec);
+        rise(&mut self.highest, &rec);
         take(&mut self.stable, &mut self.locks, &rec);
+        self.records.push_reserved(rec);
         settle(
             &mut self.stable,
             &mut self.locks,
             &mut self.applied,
+            &mut self.chains,
             &self.pending,
+            &self.places,
+            self.records.as_slice(),
         );
-        self.records.push_reserved(rec);
     }
 
     /// Raises `next` to `sid`, where it is below; tells whether it rose. All else is as before.
@@ -278,5 +344,15 @@ fn home_in(rec: &Record) -> Option<NodeId>
     match rec {
         Record::Prepared { home, .. } => Some(*home),
         _ => None,
+    }
+}
+
+/// Whether m is among the parts of a Prepared record.
+fn has_part(rec: &Record, m: NodeId) -> bool
+    ensures { result ≡ has_part m rec.now }
+{
+    match rec {
+        Record::Prepared { parts, .. } => is_among(m, parts.as_slice()),
+        _ => false,
     }
 }

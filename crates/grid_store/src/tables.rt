@@ -1,4 +1,4 @@
-//! A table by transaction: what a transaction has, and what it has from now on.
+//! A table by transaction: what a transaction has, what it has from now on, and what it loses.
 
 ghost use Rattle.std.specs.Prelude.{◌≡◌, ◌≤◌, ◌+◌, ◌==◌, Some, None, if◌then◌else◌};
 ghost use Rattle.std.specs.Ordering.{nat_cmp};
@@ -39,4 +39,18 @@ pub(crate) fn give<V: Copy>(table: &mut Ordered<TxId, V>, t: TxId, value: V)
 {
     let i = place_of_new(table, t);
     table.insert(i, t, value);
+}
+
+/// A transaction has nothing any more.
+pub(crate) fn lose<V: Copy>(table: &mut Ordered<TxId, V>, t: TxId)
+    ensures pairs { (u : TxId) →
+        map.find nat_cmp u table.new.pairs ≡ (if u == t then None else map.find nat_cmp u table.old.pairs) }
+    ensures spare { table.old.spare ≤ table.new.spare }
+{
+    match table.place(&t) {
+        Ok(i) => {
+            table.remove(i);
+        }
+        Err(_) => {}
+    }
 }

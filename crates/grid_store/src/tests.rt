@@ -57,16 +57,17 @@ fn cluster(alloc: Global) -> Result<Cluster, Memory> {
     })
 }
 
-/// The Prepared record at n2 of a transaction of n1, with its snapshot and its proposal.
-fn prepared(
+/// The Prepared record of a transaction of n1 with one part, its snapshot and its proposal.
+fn prepared_of(
     alloc: Global,
+    part: NodeId,
     t: TxId,
     idents: (u64, u64),
     reads: &[Key],
     writes: &[(Key, Value)],
 ) -> Result<Record, Memory> {
     let mut parts = NodeList::new(alloc);
-    parts.push(node(2))?;
+    parts.push(part)?;
     Ok(Record::Prepared {
         t,
         home: node(1),
@@ -76,6 +77,17 @@ fn prepared(
         reads: KeyList::from_vec(Vec::from_slice(alloc, reads)?),
         writes: WriteList::from_vec(Vec::from_slice(alloc, writes)?),
     })
+}
+
+/// As [`prepared_of`], at n2.
+fn prepared(
+    alloc: Global,
+    t: TxId,
+    idents: (u64, u64),
+    reads: &[Key],
+    writes: &[(Key, Value)],
+) -> Result<Record, Memory> {
+    prepared_of(alloc, node(2), t, idents, reads, writes)
 }
 
 fn committed(t: TxId, f: u64) -> Record {
@@ -158,6 +170,18 @@ fn are_pending(store: &Store) -> bool {
         && store.home(tx(3)) == None
 }
 
+/// Who is pending has its part, and nothing else.
+fn has_parts(store: &Store) -> bool {
+    store.part(tx(1), node(2)) && !store.part(tx(1), node(1)) && !store.part(tx(3), node(2))
+}
+
+/// Nothing is applied: each key has its initial value.
+fn are_initial(store: &Store) -> bool {
+    store.at(&key(b"a"), Ident(9)) == (Ident(0), Value(10))
+        && store.at(&key(b"c"), Ident(9)) == (Ident(0), Value(0))
+        && store.newer(&[key(b"a"), key(b"c")], Ident(0)).is_none()
+}
+
 /// A key that both read is held against a write alone, and one that t1 writes against a read.
 fn are_locked(store: &Store) -> bool {
     store.holder(&[key(b"a")], &[], tx(3)) == None
@@ -169,7 +193,7 @@ fn are_locked(store: &Store) -> bool {
 fn votes_stand(alloc: Global) -> Result<bool, Fail> {
     let records = two_votes(alloc)?;
     let store = store_of(alloc, records.as_slice())?;
-    Ok(are_pending(&store) && are_locked(&store))
+    Ok(are_pending(&store) && are_locked(&store) && has_parts(&store) && are_initial(&store))
 }
 
 // What two votes leave: they are pending, and hold their keys.
@@ -205,16 +229,29 @@ fn is_over(store: &Store) -> bool {
         && store.holder(&[key(b"c")], &[], tx(3)) == None
 }
 
+/// What t1 wrote to `c` is seen from 6 on, and is newer than 5.
+fn is_written(store: &Store) -> bool {
+    let newer = match store.newer(&[key(b"a"), key(b"c")], Ident(5)) {
+        Some(found) => found.0 == key(b"c") && found.1 == Ident(6),
+        None => false,
+    };
+    newer
+        && store.at(&key(b"c"), Ident(5)) == (Ident(0), Value(0))
+        && store.at(&key(b"c"), Ident(6)) == (Ident(6), Value(11))
+        && store.newer(&[key(b"c")], Ident(6)).is_none()
+        && !store.part(tx(1), node(2))
+}
+
 fn commit_waits(alloc: Global) -> Result<bool, Fail> {
     let records = one_commit(alloc)?;
     let store = store_of(alloc, records.as_slice())?;
-    Ok(is_waiting(&store))
+    Ok(is_waiting(&store) && are_initial(&store))
 }
 
 fn commits_are_over(alloc: Global) -> Result<bool, Fail> {
     let records = two_commits(alloc)?;
     let store = store_of(alloc, records.as_slice())?;
-    Ok(is_over(&store))
+    Ok(is_over(&store) && is_written(&store))
 }
 
 // A commit keeps its keys until every pending proposal is above its final identifier.
@@ -248,17 +285,23 @@ fn ceiling_after_crash(rt: HostRuntime) -> Result<(), Fail> {
     Ok(())
 }
 
-/// Whether this record is the first that does not fit, behind the two commits.
-fn is_strange(alloc: Global, last: Record) -> Result<bool, Fail> {
+/// Whether this record is the first that does not fit, behind these.
+fn is_strange_behind(alloc: Global, before: Vec<Record>, last: Record) -> Result<bool, Fail> {
     let cluster = cluster(alloc)?;
-    let records = with(two_commits(alloc)?, last)?;
+    let place = before.len();
+    let records = with(before, last)?;
     match Store::replay(alloc, &cluster, node(2), records.as_slice()) {
-        Err(ReplayEnd::Strange(i)) => Ok(i == 4),
+        Err(ReplayEnd::Strange(i)) => Ok(i == place),
         _ => Ok(false),
     }
 }
 
-/// Whether a Prepared of t3 is.
+/// Behind the two commits.
+fn is_strange(alloc: Global, last: Record) -> Result<bool, Fail> {
+    is_strange_behind(alloc, two_commits(alloc)?, last)
+}
+
+/// A Prepared of t3 behind the two commits.
 fn is_strange_vote(
     alloc: Global,
     idents: (u64, u64),
@@ -268,31 +311,130 @@ fn is_strange_vote(
     is_strange(alloc, prepared(alloc, tx(3), idents, reads, writes)?)
 }
 
-// A Prepared: what fits; a proposal at its snapshot, and one at a final identifier; no key; a key
-// twice in a list; a key of another node; a newer version.
+// A Prepared: what fits; a proposal at its snapshot, and one at a final identifier.
 #[test]
-fn votes_that_do_not_fit(rt: HostRuntime) -> Result<(), Fail> {
+fn votes_with_numbers_that_do_not_fit(rt: HostRuntime) -> Result<(), Fail> {
     let a = key(b"a");
     let c = key(b"c");
     assert!(rt; !is_strange_vote(rt.alloc(), (6, 7), &[a, c], &[(a, Value(1))])?);
     assert!(rt; is_strange_vote(rt.alloc(), (7, 7), &[a], &[])?);
     assert!(rt; is_strange_vote(rt.alloc(), (5, 6), &[a], &[])?);
-    assert!(rt; is_strange_vote(rt.alloc(), (6, 7), &[], &[])?);
-    assert!(rt; is_strange_vote(rt.alloc(), (6, 7), &[a, a], &[])?);
-    assert!(rt; is_strange_vote(rt.alloc(), (6, 7), &[key(b"b")], &[])?);
-    assert!(rt; is_strange_vote(rt.alloc(), (5, 7), &[c], &[])?);
     Ok(())
 }
 
-// An Ended of who ended, or never voted; a ceiling that is no multiple of 64, and one at or below the
-// floor; a Closed of what was not decided.
+// A Prepared: no key; a key twice in a list, read or written; a key of another node, read or written.
 #[test]
-fn others_that_do_not_fit(rt: HostRuntime) -> Result<(), Fail> {
+fn votes_with_keys_that_do_not_fit(rt: HostRuntime) -> Result<(), Fail> {
+    let a = key(b"a");
+    let b = key(b"b");
+    assert!(rt; is_strange_vote(rt.alloc(), (6, 7), &[], &[])?);
+    assert!(rt; is_strange_vote(rt.alloc(), (6, 7), &[a, a], &[])?);
+    assert!(rt; is_strange_vote(rt.alloc(), (6, 7), &[], &[(a, Value(1)), (a, Value(2))])?);
+    assert!(rt; is_strange_vote(rt.alloc(), (6, 7), &[b], &[])?);
+    assert!(rt; is_strange_vote(rt.alloc(), (6, 7), &[], &[(b, Value(1))])?);
+    assert!(rt; is_strange_vote(rt.alloc(), (5, 7), &[key(b"c")], &[])?);
+    Ok(())
+}
+
+/// A Prepared of t1 again.
+fn voted_twice(alloc: Global) -> Result<bool, Fail> {
+    is_strange(alloc, prepared(alloc, tx(1), (6, 7), &[key(b"a")], &[])?)
+}
+
+/// A Prepared of which n2 is no part.
+fn voted_elsewhere(alloc: Global) -> Result<bool, Fail> {
+    is_strange(
+        alloc,
+        prepared_of(alloc, node(1), tx(3), (6, 7), &[key(b"a")], &[])?,
+    )
+}
+
+/// A proposal that a pending transaction has.
+fn voted_alike(alloc: Global) -> Result<bool, Fail> {
+    is_strange_behind(
+        alloc,
+        two_votes(alloc)?,
+        prepared(alloc, tx(3), (1, 2), &[key(b"a")], &[])?,
+    )
+}
+
+/// A write of a key that a pending transaction read.
+fn voted_against(alloc: Global) -> Result<bool, Fail> {
+    is_strange_behind(
+        alloc,
+        two_votes(alloc)?,
+        prepared(alloc, tx(3), (2, 3), &[], &[(key(b"a"), Value(1))])?,
+    )
+}
+
+// A Prepared: of who voted; where this node is no part; a proposal of another; a held key.
+#[test]
+fn votes_beside_others_that_do_not_fit(rt: HostRuntime) -> Result<(), Fail> {
+    assert!(rt; voted_twice(rt.alloc())?);
+    assert!(rt; voted_elsewhere(rt.alloc())?);
+    assert!(rt; voted_alike(rt.alloc())?);
+    assert!(rt; voted_against(rt.alloc())?);
+    Ok(())
+}
+
+/// A commit below its proposal.
+fn committed_low(alloc: Global) -> Result<bool, Fail> {
+    is_strange_behind(alloc, two_votes(alloc)?, committed(tx(2), 1))
+}
+
+// An Ended of who ended, or never voted, and a commit below its proposal; a ceiling that is no
+// multiple of 64, and one at the floor.
+#[test]
+fn ends_and_ceilings_that_do_not_fit(rt: HostRuntime) -> Result<(), Fail> {
     assert!(rt; is_strange(rt.alloc(), committed(tx(1), 6))?);
     assert!(rt; is_strange(rt.alloc(), aborted(tx(3)))?);
+    assert!(rt; committed_low(rt.alloc())?);
     assert!(rt; is_strange(rt.alloc(), Record::Ceiling { c: Ident(65) })?);
-    assert!(rt; is_strange(rt.alloc(), Record::Ceiling { c: Ident(0) })?);
-    assert!(rt; is_strange(rt.alloc(), Record::Closed { t: tx(1) })?);
+    assert!(rt;
+        is_strange_behind(
+            rt.alloc(),
+            with_ceiling(rt.alloc())?,
+            Record::Ceiling { c: Ident(64) }
+        )?
+    );
     assert!(rt; !is_strange(rt.alloc(), Record::Ceiling { c: Ident(64) })?);
+    Ok(())
+}
+
+/// t1 decided, at this identifier.
+fn decided(alloc: Global, f: u64) -> Result<Record, Memory> {
+    let mut parts = NodeList::new(alloc);
+    parts.push(node(2))?;
+    Ok(Record::Decided {
+        t: tx(1),
+        f: Ident(f),
+        parts,
+    })
+}
+
+fn one_decision(alloc: Global) -> Result<Vec<Record>, Memory> {
+    with(Vec::new(alloc), decided(alloc, 6)?)
+}
+
+fn one_closed(alloc: Global) -> Result<Vec<Record>, Memory> {
+    with(one_decision(alloc)?, Record::Closed { t: tx(1) })
+}
+
+// A Decided at 0, and one of who is decided; a Closed of who is not, and of who is closed. Who is
+// closed may be decided again.
+#[test]
+fn decisions_that_do_not_fit(rt: HostRuntime) -> Result<(), Fail> {
+    let closed = Record::Closed { t: tx(1) };
+    assert!(rt; is_strange_behind(rt.alloc(), Vec::new(rt.alloc()), decided(rt.alloc(), 0)?)?);
+    assert!(rt;
+        is_strange_behind(
+            rt.alloc(),
+            one_decision(rt.alloc())?,
+            decided(rt.alloc(), 7)?
+        )?
+    );
+    assert!(rt; is_strange(rt.alloc(), Record::Closed { t: tx(1) })?);
+    assert!(rt; is_strange_behind(rt.alloc(), one_closed(rt.alloc())?, closed)?);
+    assert!(rt; !is_strange_behind(rt.alloc(), one_closed(rt.alloc())?, decided(rt.alloc(), 7)?)?);
     Ok(())
 }

@@ -19,7 +19,8 @@ gap_at_end vs vn above = record {
 
 -- a version that has the identifier is seen
 pub seen_found : (initial : ℕ) (vs : List (ℕ × ℕ)) (sid i : ℕ) (d : ℕ × ℕ)
-    → RisesFrom 0 vs → i < length vs → nat_cmp (get_or vs i d).0 sid ≡ Equal → version_in_chain initial vs sid ≡ get_or vs i d
+    → RisesFrom 0 vs → i < length vs → nat_cmp (get_or vs i d).0 sid ≡ Equal
+    → version_in_chain initial vs sid ≡ get_or vs i d
 seen_found initial vs sid i d up within is =
     let same : (get_or vs i d).0 ≡ sid = ranked (get_or vs i d).0 sid Equal (sym is) in
     seen_at initial 0 vs sid i d up within (omega (arith, same)) (λ more. omega (arith, same, rises 0 vs i d up more))

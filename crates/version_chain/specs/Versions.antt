@@ -24,4 +24,5 @@ greater v w = if nat_lt v.0 w.0 then w else v
 -- the greatest version at or below sid, where version 0 has the initial value
 abbrev pub version_in_chain : ℕ → List (ℕ × ℕ) → ℕ → ℕ × ℕ
 version_in_chain initial [] sid = (0, initial)
-version_in_chain initial (v ∷ vs) sid = if nat_le v.0 sid then greater v (version_in_chain initial vs sid) else version_in_chain initial vs sid
+version_in_chain initial (v ∷ vs) sid =
+    if nat_le v.0 sid then greater v (version_in_chain initial vs sid) else version_in_chain initial vs sid

@@ -1,4 +1,4 @@
-//! The versions of one key at one node.
+//! The versions of one key at one node, and of all its keys.
 //!
 //! A version has an identifier and a value. Version 0 is the initial value, so every version that is
 //! put has an identifier above 0, and above all that were put before it. In contracts a chain is the
@@ -7,6 +7,8 @@
 //!
 //! A read halves what is left: in a chain of n versions it compares p identifiers, where 2^p is at
 //! most 2n + 1. A put goes at the end and moves no version.
+//!
+//! [`Chains`] keeps a chain for each key that it made room for, and finds it by the key.
 //!
 //! Only `reserve` takes memory.
 #![tactic(auto)]
@@ -21,6 +23,10 @@ use std::alloc::Global;
 use std::cmp::Ordering;
 use std::marker::Model;
 use std::sync::ledger::Ledger;
+
+mod chains;
+
+pub use chains::Chains;
 
 /// The versions of one key, the newest last.
 #[derive(Drop, Debug)]
@@ -75,7 +81,8 @@ impl Chain {
 
     /// The version that a read at `sid` sees: the greatest at or below it.
     pub fn at(&self, sid: Ident) -> (Ident, Value)
-        ensures { result ≡ version_in_chain self.now.initial self.now.versions sid }
+        ensures version { result ≡ version_in_chain self.now.initial self.now.versions sid }
+        ensures rising { RisesFrom 0 self.now.versions }
     {
         self.seen(self.versions.place(&sid), sid)
     }
@@ -84,6 +91,7 @@ impl Chain {
     pub fn at_counted<L: Ledger>(&self, sid: Ident, steps: &mut Steps<L>) -> (Ident, Value)
         requires { steps.old < 2 ^ 62 }
         ensures version { result ≡ version_in_chain self.now.initial self.now.versions sid }
+        ensures rising { RisesFrom 0 self.now.versions }
         ensures count { steps.old ≤ steps.new }
         ensures cost { 2 ^ (steps.new - steps.old) ≤ 2 * length self.now.versions + 1 }
     {

@@ -1,7 +1,9 @@
 //! Reads of a chain, and what a read of 50,000 versions costs.
-ghost use Rattle.std.specs.Prelude.{◌≡◌, ◌<◌, ◌≤◌, length, IfOk};
+ghost use Rattle.std.specs.Prelude.{◌≡◌, ◌<◌, ◌≤◌, length, IfOk, IsTrue};
+ghost use Rattle.score_base.specs.Keys.{is_key};
 
 use super::*;
+use score_base::Key;
 use std::marker::Brand;
 use std::sync::ledger::Blank;
 use std::test::Fail;
@@ -21,6 +23,40 @@ fn reads_between_versions(rt: HostRuntime) {
     assert_eq!(rt; chain.at(Ident(2)), (Ident(2), Value(3)));
     assert_eq!(rt; chain.at(Ident(4)), (Ident(2), Value(3)));
     assert_eq!(rt; chain.at(Ident(5)), (Ident(5), Value(7)));
+}
+
+fn key(bytes: &[u8]) -> Key
+    requires { IsTrue (is_key bytes.now) }
+    ensures { result ≡ bytes.now }
+{
+    Key::new(bytes).unwrap()
+}
+
+/// `a`, with the initial value 10, has the value 3 from 2 on; `b` has room, and the initial value 20.
+fn two_chains(alloc: Global) -> Result<Chains, Memory> {
+    let a = key(b"a");
+    let mut chains = Chains::new(alloc);
+    chains.reserve(&a, Value(10))?;
+    chains.reserve(&key(b"b"), Value(20))?;
+    chains.put(&a, Ident(2), Value(3));
+    Ok(chains)
+}
+
+/// Each key has its own versions, and one without a chain has the value that is handed in.
+fn are_apart(chains: &Chains) -> bool {
+    chains.at(&key(b"a"), Value(10), Ident(1)) == (Ident(0), Value(10))
+        && chains.at(&key(b"a"), Value(10), Ident(2)) == (Ident(2), Value(3))
+        && chains.at(&key(b"b"), Value(20), Ident(9)) == (Ident(0), Value(20))
+        && chains.at(&key(b"c"), Value(7), Ident(9)) == (Ident(0), Value(7))
+        && chains.newest(&key(b"a")) == Ident(2)
+        && chains.newest(&key(b"b")) == Ident(0)
+        && chains.newest(&key(b"c")) == Ident(0)
+}
+
+#[test]
+fn chains_of_three_keys(rt: HostRuntime) -> Result<(), Fail> {
+    assert!(rt; are_apart(&two_chains(rt.alloc())?));
+    Ok(())
 }
 
 /// A chain of `n` versions, dated from 1 on, whose values count from 0 on.

@@ -1,15 +1,17 @@
-use Rattle.std.proofs.Common.{◌≡◌, true, List}
 use Rattle.std.specs.FinSet as set
 use Rattle.score_base.specs.declared.ids.NodeId.{NodeId}
-use Rattle.score_base.specs.declared.records.Record.{Record}
+use Rattle.score_base.specs.declared.ids.Value.{Value}
+use Rattle.score_base.specs.declared.keys.Key.{Key}
 use Rattle.placement.specs.Clusters.{ClusterData}
-use Rattle.journal_words.specs.Journals.{all_fit}
-use Rattle.grid_store.specs.Keeping.{KeepsPending, Settles}
+use Rattle.version_chain.specs.Kept.{StartsBy}
+use Rattle.grid_store.specs.Chained.{Applies}
 use Rattle.grid_store.proofs.locks.settle.Given as goal
 
 abbrev pub invariant-loop-first : goal.invariant-loop-first
-invariant-loop-first l =
-    (c : ClusterData) (n : NodeId) (r : List Record) → all_fit c n r ≡ true → KeepsPending l.fn.pending.proposals r → Settles l.fn.stable.commits l.fn.locks l.fn.applied r → Settles l.stable.commits l.locks l.applied r
+invariant-loop-first l = record {
+  applies : (c : ClusterData) × (n : NodeId) × Applies c n l.records l.places.pairs l.pending.proposals l.stable.commits l.locks l.applied l.chains;
+  initial : (init : Key → Value) → StartsBy init l.fn.chains → StartsBy init l.chains;
+}
 
 abbrev pub decreases-loop-first : goal.decreases-loop-first
 decreases-loop-first l = set.len l.stable.commits

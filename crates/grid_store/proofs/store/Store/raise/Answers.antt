@@ -10,12 +10,17 @@ invariant_of-self c =
       fit = i.fit;
       placed = i.placed;
       over = i.over;
+      undone = i.undone;
       queue = i.queue;
       numbers = record {
         floor = rw c.raise.ensures.floor i.numbers.floor;
         above = above-higher (1 + s.clock.next) (1 + c.raise.new.self.next) (reverse s.records.items) (omega (arith, c.raise.ensures.next)) i.numbers.above;
       };
+      high = i.high;
       stable = i.stable;
       applied = i.applied;
       locks = i.locks;
+      versions = i.versions;
+      open' = i.open';
+      start = i.start;
     }

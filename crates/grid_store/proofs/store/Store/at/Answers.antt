@@ -1,0 +1,15 @@
+use Rattle.std.proofs.Common.{reverse, ap, ◌∙◌}
+use Rattle.placement.specs.Clusters.{init}
+use Rattle.version_chain.specs.Versions.{version_in_chain}
+use Rattle.version_chain.specs.Kept.{versions_of}
+use Rattle.grid_store.proofs.ChainReads.{chain-reads}
+use Rattle.grid_store.proofs.store.Store.at.Goals as goal
+
+pub returns : goal.returns
+returns c =
+    let s = c.self.inside in
+    let k = c.args.key.now in
+    let i = c.self.invariant in
+    let start = ap (λ v. version_in_chain v (versions_of k s.chains) c.args.sid) (i.start k) in
+    rw (← c.self.view_is) (c.at.ensures.version ∙ rw c.init.ensures start
+    ∙ chain-reads s.cluster s.node s.stable.commits s.chains (reverse s.records.items) k (init s.cluster k) c.args.sid i.fit i.stable i.versions c.at.ensures.rising)
