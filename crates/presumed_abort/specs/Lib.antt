@@ -1,0 +1,11 @@
+pub mod Parts
+pub mod States
+pub mod Stands
+pub mod Turns
+pub mod Tallies
+pub mod Dues
+pub mod Replies
+pub mod Retries
+pub mod Becoming
+pub mod Replays
+pub mod Views
