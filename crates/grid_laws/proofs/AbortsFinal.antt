@@ -82,11 +82,13 @@ abbrev AsksOf : DocumentData → List Act → NodeId → NodeId → Message → 
 AsksOf d past x y (message.Ask t) = Asks d past x y t
 AsksOf d past x y said = Unit {0}
 
-asks-more : (d : DocumentData) (past : List Act) (a : Act) (x y : NodeId) (said : Message) → AllDue d (a ∷ past) → AsksOf d past x y said → AsksOf d (a ∷ past) x y said
+asks-more : (d : DocumentData) (past : List Act) (a : Act) (x y : NodeId) (said : Message) → AllDue d (a ∷ past)
+    → AsksOf d past x y said → AsksOf d (a ∷ past) x y said
 asks-more d past a x y (message.Ask t) due s = record { prepare = s.prepare; says = prepare-more d past a y x s.prepare due s.says; t = s.t }
 asks-more d past a x y said due s = tt
 
-asks-home : (d : DocumentData) (past : List Act) (x y : NodeId) (t : TxId) (o : Option Prepared) → AllDue d past → prepared_of t (journal d past x) ≡ o → home_in o ≡ Some y → Asks d past x y t
+asks-home : (d : DocumentData) (past : List Act) (x y : NodeId) (t : TxId) (o : Option Prepared) → AllDue d past
+    → prepared_of t (journal d past x) ≡ o → home_in o ≡ Some y → Asks d past x y t
 asks-home d past x y t None all is home = cc
 asks-home d past x y t (Some w) all is home =
     let first = first-prepared d past x t w (journal d past x) (prepared-say d past all x).journal is in
@@ -94,16 +96,19 @@ asks-home d past x y t (Some w) all is home =
     let P : NodeId → Type 0 = λ k. PrepareSays d past k x first.prepare in
     record { prepare = first.prepare; says = subst P same first.says; t = first.t }
 
-asks-due : (d : DocumentData) (past : List Act) (x y : NodeId) (said : Message) → AllDue d past → SendDue d past x y said → AsksOf d past x y said
+asks-due : (d : DocumentData) (past : List Act) (x y : NodeId) (said : Message) → AllDue d past
+    → SendDue d past x y said → AsksOf d past x y said
 asks-due d past x y (message.Ask t) all due = asks-home d past x y t (prepared_of t (journal d past x)) all refl due.1
 asks-due d past x y said all due = tt
 
-asked-last : (d : DocumentData) (past : List Act) (n y : NodeId) (t : TxId) → AllDue d past → IsGot past n y (message.Ask t) → Asks d past y n t
+asked-last : (d : DocumentData) (past : List Act) (n y : NodeId) (t : TxId) → AllDue d past
+    → IsGot past n y (message.Ask t) → Asks d past y n t
 asked-last d past n y t all is = got-hold (AsksOf d) d past (λ now a m k said due h. asks-more d now a m k said due h) (λ now m k said due h. asks-due d now m k said due h) all (record { from = y; to = n; message = message.Ask t }) is
 
 -- ---- a home that knows no more of a transaction
 
-apart-undone : (u : Option Decision) (o : Option Open) (acks : List NodeId) → stage_by u o acks ≡ Apart → (u ≡ None) × (o ≡ None)
+apart-undone : (u : Option Decision) (o : Option Open) (acks : List NodeId) → stage_by u o acks ≡ Apart
+    → (u ≡ None) × (o ≡ None)
 apart-undone (Some y) o acks e = cc
 apart-undone None None acks e = (refl, refl)
 apart-undone None (Some x) acks e = absurd (other (waiting x.script.ops x.progress.values) e)
@@ -112,7 +117,9 @@ apart-undone None (Some x) acks e = absurd (other (waiting x.script.ops x.progre
     other None i = cc
     other (Some j) i = cc
 
-not-open : (n : NodeId) (h : Node) (s : ScriptData) (x : Story) (b : Bool) → s.home ≡ n → is_open (phase_at s (Some x) h) ≡ b → open_at n h (Some s) (Some x) ≡ None → is_open (phase_at s (Some x) h) ≡ false
+not-open : (n : NodeId) (h : Node) (s : ScriptData) (x : Story) (b : Bool) → s.home ≡ n
+    → is_open (phase_at s (Some x) h) ≡ b → open_at n h (Some s) (Some x) ≡ None
+    → is_open (phase_at s (Some x) h) ≡ false
 not-open n h s x false home e is = e
 not-open n h s x true home e is = absurd (none-some (open_of s x) (sym opens ∙ is))
   where
@@ -126,14 +133,19 @@ undone-none : (t : TxId) (r : List Record) → is_closed t r ≡ false → undon
 undone-none t r e is = rw e at is
 
 -- a full update that is neither lost, closed nor aborted, and has no Decided, is open
-still-open : (s : ScriptData) (x : Story) (h : Node) → x.lost ≡ false → is_closed s.number h.journal ≡ false → decision s.number h.journal ≡ None → x.aborted ≡ false → is_update s.ops ≡ true → waiting s.ops x.progress.values ≡ None → is_open (phase_at s (Some x) h) ≡ true
+still-open : (s : ScriptData) (x : Story) (h : Node) → x.lost ≡ false → is_closed s.number h.journal ≡ false
+    → decision s.number h.journal ≡ None → x.aborted ≡ false → is_update s.ops ≡ true
+    → waiting s.ops x.progress.values ≡ None → is_open (phase_at s (Some x) h) ≡ true
 still-open s x h a b c e u w = rw (undecided-later x.skipped s.number h.journal c) (grind (arith, a, e, u, w))
 
 -- it was given up, or n has closed it
 abbrev pub IsGone : DocumentData → List Act → NodeId → TxId → Type 0
 IsGone d past n t = (is_given_up t past ≡ true) ⊎ (is_closed t (journal d past n) ≡ true)
 
-gone : (d : DocumentData) (past : List Act) (n : NodeId) (t : TxId) (s : ScriptData) (x : Story) (l c a : Bool) → s.number ≡ t → Meant past t (Some x) → undone t (journal d past n) ≡ None → is_update s.ops ≡ true → waiting s.ops x.progress.values ≡ None → is_open (phase_at s (Some x) (node d past n)) ≡ false → x.lost ≡ l → is_closed t (journal d past n) ≡ c → x.aborted ≡ a → IsGone d past n t
+gone : (d : DocumentData) (past : List Act) (n : NodeId) (t : TxId) (s : ScriptData) (x : Story) (l c a : Bool)
+    → s.number ≡ t → Meant past t (Some x) → undone t (journal d past n) ≡ None → is_update s.ops ≡ true
+    → waiting s.ops x.progress.values ≡ None → is_open (phase_at s (Some x) (node d past n)) ≡ false → x.lost ≡ l
+    → is_closed t (journal d past n) ≡ c → x.aborted ≡ a → IsGone d past n t
 gone d past n t s x true c a number meant undone update full closes e1 e2 e3 = inl (meant.0 e1)
 gone d past n t s x false true a number meant undone update full closes e1 e2 e3 = inr e2
 gone d past n t s x false false true number meant undone update full closes e1 e2 e3 = inl (meant.1 e3)
@@ -143,7 +155,8 @@ gone d past n t s x false false false number meant undone update full closes e1 
     absurd (both_ways (is_open (phase_at s (Some x) (node d past n))) closes (still-open s x (node d past n) e1 (subst P (sym number) e2) (subst Q (sym number) (undone-none t (journal d past n) e2 undone)) e3 update full))
 
 -- the home that was asked knows no more of it
-pub apart-gone : (d : DocumentData) (past : List Act) (n y : NodeId) (t : TxId) → AllDue d past → IsGot past n y (message.Ask t) → stage (view d past n) t ≡ Apart → IsGone d past n t
+pub apart-gone : (d : DocumentData) (past : List Act) (n y : NodeId) (t : TxId) → AllDue d past
+    → IsGot past n y (message.Ask t) → stage (view d past n) t ≡ Apart → IsGone d past n t
 apart-gone d past n y t all got is =
     let asks : Asks d past y n t = asked-last d past n y t all got in
     let f = asks.says.full in
@@ -158,7 +171,8 @@ apart-gone d past n y t all got is =
     let R : Option Story → Type 0 = λ o. Meant past t o in
     gone d past n t s x x.lost (is_closed t (journal d past n)) x.aborted (script-number t d.scripts s script) (subst R told (flags-meant d past t)) parts.0 asks.says.update (ap (waiting s.ops) f.told ∙ f.full) (not-open n (node d past n) s x (is_open (phase_at s (Some x) (node d past n))) f.at.home refl closes) refl refl refl
 
-apart-never : (d : DocumentData) (past : List Act) (n y : NodeId) (t : TxId) → AllDue d past → IsGot past n y (message.Ask t) → stage (view d past n) t ≡ Apart → (is_given_up t past || is_over d past t) ≡ true
+apart-never : (d : DocumentData) (past : List Act) (n y : NodeId) (t : TxId) → AllDue d past
+    → IsGot past n y (message.Ask t) → stage (view d past n) t ≡ Apart → (is_given_up t past || is_over d past t) ≡ true
 apart-never d past n y t all got is = elim (apart-gone d past n y t all got is) [
   | inl given ↦ or_left (is_given_up t past) (is_over d past t) given
   | inr closed ↦ or_right (is_given_up t past) (is_over d past t) (closed-stands d past n t (journal d past n) (closed-say d past all n).journal closed)
@@ -166,21 +180,27 @@ apart-never d past n y t all got is = elim (apart-gone d past n y t all got is) 
 
 -- ---- each abort that was told
 
-never-more : (d : DocumentData) (past : List Act) (a : Act) (t : TxId) (b c : Bool) → is_given_up t past ≡ b → is_over d past t ≡ c → (b || c) ≡ true → (is_given_up t (a ∷ past) || is_over d (a ∷ past) t) ≡ true
+never-more : (d : DocumentData) (past : List Act) (a : Act) (t : TxId) (b c : Bool) → is_given_up t past ≡ b
+    → is_over d past t ≡ c → (b || c) ≡ true → (is_given_up t (a ∷ past) || is_over d (a ∷ past) t) ≡ true
 never-more d past a t true c g o h = or_left (is_given_up t (a ∷ past)) (is_over d (a ∷ past) t) (given-more a past t g)
 never-more d past a t false true g o h = or_right (is_given_up t (a ∷ past)) (is_over d (a ∷ past) t) (over-more d past a t o)
 never-more d past a t false false g o h = cc
 
-pub means-more : (d : DocumentData) (past : List Act) (a : Act) (n : NodeId) (said : Message) → MeansNever d past n said → MeansNever d (a ∷ past) n said
+pub means-more : (d : DocumentData) (past : List Act) (a : Act) (n : NodeId) (said : Message) → MeansNever d past n said
+    → MeansNever d (a ∷ past) n said
 means-more d past a n (message.Tell t outcome.Abort) h = never-more d past a t (is_given_up t past) (is_over d past t) refl refl h
 means-more d past a n said h = tt
 
-abort-never : (d : DocumentData) (past : List Act) (n y : NodeId) (t : TxId) → AllDue d past → (ended t (journal d past n) ≡ Some outcome.Abort → is_given_up t past ≡ true) → AbortDue d past n y t → (is_given_up t past || is_over d past t) ≡ true
+abort-never : (d : DocumentData) (past : List Act) (n y : NodeId) (t : TxId) → AllDue d past
+    → (ended t (journal d past n) ≡ Some outcome.Abort → is_given_up t past ≡ true) → AbortDue d past n y t
+    → (is_given_up t past || is_over d past t) ≡ true
 abort-never d past n y t all ends (ended_so got is) = or_left (is_given_up t past) (is_over d past t) (ends is)
 abort-never d past n y t all ends (given_up h) = or_left (is_given_up t past) (is_over d past t) h
 abort-never d past n y t all ends (apart got is) = apart-never d past n y t all got is
 
 -- where what a node ended with abort was given up, each abort that it tells is final
-pub means-due : (d : DocumentData) (past : List Act) (n y : NodeId) (said : Message) → AllDue d past → ((t : TxId) → ended t (journal d past n) ≡ Some outcome.Abort → is_given_up t past ≡ true) → SendDue d past n y said → MeansNever d past n said
+pub means-due : (d : DocumentData) (past : List Act) (n y : NodeId) (said : Message) → AllDue d past
+    → ((t : TxId) → ended t (journal d past n) ≡ Some outcome.Abort → is_given_up t past ≡ true)
+    → SendDue d past n y said → MeansNever d past n said
 means-due d past n y (message.Tell t outcome.Abort) all ends due = abort-never d past n y t all (ends t) due
 means-due d past n y said all ends due = tt

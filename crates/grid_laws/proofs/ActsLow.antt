@@ -64,15 +64,18 @@ up_to-low : (s : Ident) (xs : List (TxId × Ident)) → greatest (up_to s xs) �
 up_to-low s [] = omega arith
 up_to-low s (x ∷ xs) = go (nat_le x.1 s) refl (up_to-low s xs)
   where
-    go : (b : Bool) → nat_le x.1 s ≡ b → greatest (up_to s xs) ≤ s → greatest (if b then x ∷ up_to s xs else up_to s xs) ≤ s
+    go : (b : Bool) → nat_le x.1 s ≡ b → greatest (up_to s xs) ≤ s
+        → greatest (if b then x ∷ up_to s xs else up_to s xs) ≤ s
     go true e h = let le : x.1 ≤ s = grind (arith, nat_tests) in omega arith
     go false e h = h
 
-newer-low : (r : List Record) (ks : List Key) (sid : Ident) (y : Key × Ident) → newer r ks sid ≡ Some y → y.1 ≤ commit_id r
+newer-low : (r : List Record) (ks : List Key) (sid : Ident) (y : Key × Ident) → newer r ks sid ≡ Some y
+    → y.1 ≤ commit_id r
 newer-low r [] sid y e = cc
 newer-low r (k ∷ ks) sid y e = go (nat_lt sid (newest r k)) e (λ i. newer-low r ks sid y i)
   where
-    go : (b : Bool) → (if b then Some (k, newest r k) else newer r ks sid) ≡ Some y → (newer r ks sid ≡ Some y → y.1 ≤ commit_id r) → y.1 ≤ commit_id r
+    go : (b : Bool) → (if b then Some (k, newest r k) else newer r ks sid) ≡ Some y
+        → (newer r ks sid ≡ Some y → y.1 ≤ commit_id r) → y.1 ≤ commit_id r
     go true i rest =
         let z : (let w : Key × Ident = (k, newest r k) in w ≡ y) = cc in
         let P : Key × Ident → Type 0 = λ w. w.1 ≤ commit_id r in
@@ -81,44 +84,53 @@ newer-low r (k ∷ ks) sid y e = go (nat_lt sid (newest r k)) e (λ i. newer-low
 
 -- ---- words
 
-node-floor : (m : ℕ) (d : DocumentData) (past : List Act) (n : NodeId) → EachAct (IsAtMost m) past → floor (journal d past n) ≤ m
+node-floor : (m : ℕ) (d : DocumentData) (past : List Act) (n : NodeId) → EachAct (IsAtMost m) past
+    → floor (journal d past n) ≤ m
 node-floor m d past n low = floor-low m (journal d past n) (nodes-low m d past low n).journal
 
-node-commit : (m : ℕ) (d : DocumentData) (past : List Act) (n : NodeId) → EachAct (IsAtMost m) past → commit_id (journal d past n) ≤ m
+node-commit : (m : ℕ) (d : DocumentData) (past : List Act) (n : NodeId) → EachAct (IsAtMost m) past
+    → commit_id (journal d past n) ≤ m
 node-commit m d past n low = omega (arith, commit_id-floor (journal d past n), node-floor m d past n low)
 
 dated-low : (m : ℕ) (q : Date) (c : Ident) → date_ident q ≤ m → c ≤ m → dated q c ≤ m
 dated-low m (date.First sid0) c h k = omega arith
 dated-low m (date.At sid) c h k = h
 
-read-low : (m : ℕ) (d : DocumentData) (past : List Act) (n : NodeId) (h : HeldRead) → EachAct (IsAtMost m) past → Requested d past n h → h.sid ≤ m
+read-low : (m : ℕ) (d : DocumentData) (past : List Act) (n : NodeId) (h : HeldRead) → EachAct (IsAtMost m) past
+    → Requested d past n h → h.sid ≤ m
 read-low m d past n h low asked =
     let is = asked.sid in
     rw is (dated-low m asked.request.date (commit_id (journal d past n)) (got-low m past low (record { from = h.from; to = n; message = message.ReadReq asked.request }) asked.got) (node-commit m d past n low))
 
-may-low : (m : ℕ) (d : DocumentData) (past : List Act) (n : NodeId) (h : HeldRead) → AllDue d past → EachAct (IsAtMost m) past → MayServe d past n h → h.sid ≤ m
+may-low : (m : ℕ) (d : DocumentData) (past : List Act) (n : NodeId) (h : HeldRead) → AllDue d past
+    → EachAct (IsAtMost m) past → MayServe d past n h → h.sid ≤ m
 may-low m d past n h all low (at_once asked cover) = read-low m d past n h low asked
 may-low m d past n h all low (held i) = (let f = (ever-covered d past all n h i).floor in omega (arith, f, node-floor m d past n low))
 
-date-low : (m : ℕ) (x : Story) (q : Date) → IsLowStory m (Some x) → q ≡ date_by x.progress.sid0 x.progress.sid → date_ident q ≤ m
+date-low : (m : ℕ) (x : Story) (q : Date) → IsLowStory m (Some x) → q ≡ date_by x.progress.sid0 x.progress.sid
+    → date_ident q ≤ m
 date-low m x q low is = rw is (by x.progress.sid low)
   where
-    by : (o : Option Ident) → IsLowStory m (Some (record x { progress = record x.progress { sid = o } })) → date_ident (date_by x.progress.sid0 o) ≤ m
+    by : (o : Option Ident) → IsLowStory m (Some (record x { progress = record x.progress { sid = o } }))
+        → date_ident (date_by x.progress.sid0 o) ≤ m
     by None h = h.0
     by (Some sid) h = h.1
 
-story-low : (m : ℕ) (d : DocumentData) (past : List Act) (t : TxId) (x : Story) → EachAct (IsAtMost m) past → story d past t ≡ Some x → IsLowStory m (Some x)
+story-low : (m : ℕ) (d : DocumentData) (past : List Act) (t : TxId) (x : Story) → EachAct (IsAtMost m) past
+    → story d past t ≡ Some x → IsLowStory m (Some x)
 story-low m d past t x low is = let P : Option Story → Type 0 = λ o. IsLowStory m o in subst P is (stories-low m d past low t)
 
 -- ---- messages
 
-commit-low : (m : ℕ) (d : DocumentData) (past : List Act) (n y : NodeId) (t : TxId) (f : Ident) → EachAct (IsAtMost m) past → CommitDue d past n y t f → f ≤ m
+commit-low : (m : ℕ) (d : DocumentData) (past : List Act) (n y : NodeId) (t : TxId) (f : Ident)
+    → EachAct (IsAtMost m) past → CommitDue d past n y t f → f ≤ m
 commit-low m d past n y t f low (by_home x is final) =
     let P : Ident → Type 0 = λ g. g ≤ m in
     subst P final (decision-low m t x (journal d past n) (nodes-low m d past low n).journal (undone-decision t x (journal d past n) is))
 commit-low m d past n y t f low (by_part got is) = ended-holds (IsLowRecord m) t (outcome.Commit f) (journal d past n) (nodes-low m d past low n).journal is
 
-send-low : (m : ℕ) (d : DocumentData) (past : List Act) (n y : NodeId) (said : Message) → EachAct (IsAtMost m) past → SendDue d past n y said → message_ident said ≤ m
+send-low : (m : ℕ) (d : DocumentData) (past : List Act) (n y : NodeId) (said : Message) → EachAct (IsAtMost m) past
+    → SendDue d past n y said → message_ident said ≤ m
 send-low m d past n y (message.ReadReq q) low due = date-low m due.story q.date (story-low m d past q.t due.story low due.at.story) due.date
 send-low m d past n y (message.ReadRep q) low due =
     let P : List Act → Type 0 = λ p. EachAct (IsAtMost m) p in
@@ -150,7 +162,8 @@ proposals (a ∷ past) = weight a + proposals past
 ceiling-low : (k : ℕ) (sid : Ident) → sid ≤ 64 * k → ceiling_of sid ≤ 64 * k
 ceiling-low k sid h = omega arith
 
-record-low : (k : ℕ) (d : DocumentData) (past : List Act) (n : NodeId) (h : Head) → EachAct (IsAtMost (64 * k)) past → RecordDue d past n h → head_ident (Some h) ≤ 64 * (head_weight h + k)
+record-low : (k : ℕ) (d : DocumentData) (past : List Act) (n : NodeId) (h : Head) → EachAct (IsAtMost (64 * k)) past
+    → RecordDue d past n h → head_ident (Some h) ≤ 64 * (head_weight h + k)
 record-low k d past n (head.Prepared t p) low due =
     let q : Prepare = due.1.asked.prepare in
     let sid : q.sid ≤ 64 * k = got-low (64 * k) past low (record { from = due.1.from; to = n; message = message.Prepare q }) due.1.asked.got in
@@ -171,15 +184,18 @@ record-low k d past n (head.Decided t f) low due =
 record-low k d past n (head.Closed t) low due = omega arith
 record-low k d past n head.Compact low due = omega arith
 
-stop-low : (k : ℕ) (d : DocumentData) (past : List Act) (n : NodeId) (h : Option Head) → EachAct (IsAtMost (64 * k)) past → StopDue d past n h → head_ident h ≤ 64 * (weight (act.Down n h) + k)
+stop-low : (k : ℕ) (d : DocumentData) (past : List Act) (n : NodeId) (h : Option Head)
+    → EachAct (IsAtMost (64 * k)) past → StopDue d past n h → head_ident h ≤ 64 * (weight (act.Down n h) + k)
 stop-low k d past n None low due = omega arith
 stop-low k d past n (Some h) low due = record-low k d past n h low due
 
-refused-low : (m : ℕ) (d : DocumentData) (past : List Act) (n : NodeId) (t : TxId) (q : Prepare) (why : Cause) → EachAct (IsAtMost m) past → RefusedFor (journal d past n) t q why → cause_ident why ≤ m
+refused-low : (m : ℕ) (d : DocumentData) (past : List Act) (n : NodeId) (t : TxId) (q : Prepare) (why : Cause)
+    → EachAct (IsAtMost m) past → RefusedFor (journal d past n) t q why → cause_ident why ≤ m
 refused-low m d past n t q (cause.Holder u) low due = omega arith
 refused-low m d past n t q (cause.Newer key f) low due = (let h : f ≤ commit_id (journal d past n) = newer-low (journal d past n) q.reads q.sid (key, f) due.1 in omega (arith, node-commit m d past n low))
 
-ident-due : (k : ℕ) (d : DocumentData) (past : List Act) (a : Act) → AllDue d past → EachAct (IsAtMost (64 * k)) past → IsDue d past a → act_ident a ≤ 64 * (weight a + k)
+ident-due : (k : ℕ) (d : DocumentData) (past : List Act) (a : Act) → AllDue d past → EachAct (IsAtMost (64 * k)) past
+    → IsDue d past a → act_ident a ≤ 64 * (weight a + k)
 ident-due k d past (act.Began t n sid0) all low due = (let is : sid0 ≡ first_at d past due.script = due.ident in omega (arith, node-commit (64 * k) d past due.script.home low, floor_at-low (64 * k) d past due.script low))
 ident-due k d past (act.Sent m x y said) all low due = omega (arith, send-low (64 * k) d past x y said low due)
 ident-due k d past (act.Raised n sid) all low due = (let h : sid ≤ floor (journal d past n) = due.1 in omega (arith, node-floor (64 * k) d past n low))

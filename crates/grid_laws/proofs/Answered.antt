@@ -47,13 +47,17 @@ pub untaking-told : (s : ScriptData) (d : DocumentData) (past : List Act) (a : A
 untaking-told s d past a t free h = untaking-claim (λ o. is_told s o ≡ true) (told-stays s) d past a t free h
 
 -- an act of another transaction
-pub other-told : (s : ScriptData) (d : DocumentData) (past : List Act) (a : Act) (u t : TxId) (n : NodeId) (sid0 : Ident) → u ≢ t → is_told s (story d past t) ≡ true → is_told s (story d (act.Began u n sid0 ∷ past) t) ≡ true
+pub other-told : (s : ScriptData) (d : DocumentData) (past : List Act) (a : Act) (u t : TxId) (n : NodeId)
+    (sid0 : Ident) → u ≢ t → is_told s (story d past t) ≡ true
+    → is_told s (story d (act.Began u n sid0 ∷ past) t) ≡ true
 other-told s d past a u t n sid0 other h = grind (arith, nat_tests, h)
 
-pub other-taken : (s : ScriptData) (d : DocumentData) (past : List Act) (u t : TxId) (op : ℕ) (sid : Ident) (v : Value) → u ≢ t → is_told s (story d past t) ≡ true → is_told s (story d (act.Taken u op sid v ∷ past) t) ≡ true
+pub other-taken : (s : ScriptData) (d : DocumentData) (past : List Act) (u t : TxId) (op : ℕ) (sid : Ident) (v : Value)
+    → u ≢ t → is_told s (story d past t) ≡ true → is_told s (story d (act.Taken u op sid v ∷ past) t) ≡ true
 other-taken s d past u t op sid v other h = if-told-none s (u == t) _ (story d past t) (grind (arith, nat_tests)) h
   where
-    if-told-none : (s : ScriptData) (b : Bool) (f : Story → Story) (o : Option Story) → b ≡ false → is_told s o ≡ true → is_told s (if_told b f o) ≡ true
+    if-told-none : (s : ScriptData) (b : Bool) (f : Story → Story) (o : Option Story) → b ≡ false → is_told s o ≡ true
+        → is_told s (if_told b f o) ≡ true
     if-told-none s b f None e h = h
     if-told-none s true f (Some x) e h = cc
     if-told-none s false f (Some x) e h = h
@@ -66,7 +70,8 @@ AllTold d past = (t : TxId) (s : ScriptData) → script_of t d.scripts ≡ Some 
 
 -- each but u
 abbrev pub OthersTold : DocumentData → List Act → TxId → Type 0
-OthersTold d past u = (t : TxId) (s : ScriptData) → u ≢ t → script_of t d.scripts ≡ Some s → is_told s (story d past t) ≡ true
+OthersTold d past u =
+    (t : TxId) (s : ScriptData) → u ≢ t → script_of t d.scripts ≡ Some s → is_told s (story d past t) ≡ true
 
 pub untaking-all : (d : DocumentData) (past acts : List Act) → list_all is_untaking acts ≡ true → AllTold d past
     → AllTold d (after past acts)
@@ -79,7 +84,8 @@ pub untaking-others : (d : DocumentData) (past : List Act) (a : Act) (u : TxId) 
     → OthersTold d past u → OthersTold d (a ∷ past) u
 untaking-others d past a u free others t s other e = untaking-told s d past a t free (others t s other e)
 
-pub all-from : (d : DocumentData) (past : List Act) (u : TxId) (s : ScriptData) → script_of u d.scripts ≡ Some s → is_told s (story d past u) ≡ true → OthersTold d past u → AllTold d past
+pub all-from : (d : DocumentData) (past : List Act) (u : TxId) (s : ScriptData) → script_of u d.scripts ≡ Some s
+    → is_told s (story d past u) ≡ true → OthersTold d past u → AllTold d past
 all-from d past u s e told others t w f = elim (cases_eq u t) [
   | inl same ↦ (let P : TxId → Type 0 = λ v. script_of v d.scripts ≡ Some w → is_told w (story d past v) ≡ true in subst P same (λ g. mine g) f)
   | inr other ↦ others t w other f

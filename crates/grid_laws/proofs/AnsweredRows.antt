@@ -54,31 +54,42 @@ advance-kept c x i false n =
 
 -- ---- what stands at the end
 
-told-reading : (s : ScriptData) (x : Story) (j : ℕ) → waiting s.ops x.progress.values ≡ Some j → is_told s (Some x) ≡ true
+told-reading : (s : ScriptData) (x : Story) (j : ℕ) → waiting s.ops x.progress.values ≡ Some j
+    → is_told s (Some x) ≡ true
 told-reading s x j e = rw e refl
 
 told-update : (s : ScriptData) (x : Story) → is_update s.ops ≡ true → is_told s (Some x) ≡ true
 told-update s x e = grind (arith, e)
 
-story-finished : (d : DocumentData) (now : List Act) (u : TxId) (x : Story) → story d now u ≡ Some x → story d (act.Finished u ∷ now) u ≡ Some (record x { finished = true })
+story-finished : (d : DocumentData) (now : List Act) (u : TxId) (x : Story) → story d now u ≡ Some x
+    → story d (act.Finished u ∷ now) u ≡ Some (record x { finished = true })
 story-finished d now u x e = rw (e, same-number u) refl
 
 told-finished : (s : ScriptData) (x : Story) → is_told s (Some (record x { finished = true })) ≡ true
 told-finished s x = or-true (is_some (waiting s.ops x.progress.values)) (is_update s.ops)
 
-told-end : (d : DocumentData) (now : List Act) (m : ℕ) (n : NodeId) (s : ScriptData) (x : Story) (w : Option ℕ) (b : Bool) → script_of s.number d.scripts ≡ Some s → story d now s.number ≡ Some x → OthersTold d now s.number → waiting s.ops x.progress.values ≡ w → is_update s.ops ≡ b → AllTold d (after now (numbered m n (advance_end d.cluster (open_of s x) w)))
+told-end : (d : DocumentData) (now : List Act) (m : ℕ) (n : NodeId) (s : ScriptData) (x : Story) (w : Option ℕ)
+    (b : Bool) → script_of s.number d.scripts ≡ Some s → story d now s.number ≡ Some x → OthersTold d now s.number
+    → waiting s.ops x.progress.values ≡ w → is_update s.ops ≡ b
+    → AllTold d (after now (numbered m n (advance_end d.cluster (open_of s x) w)))
 told-end d now m n s x (Some j) b is at others e u = untaking-all d now (numbered m n (request_of d.cluster (open_of s x) j 0 (op_at s.ops j))) (pass-numbered is_untaking n (λ k y said. refl) m (request_of d.cluster (open_of s x) j 0 (op_at s.ops j)) (pass-end is_untaking (λ t. refl) d.cluster (open_of s x) (Some j))) (all-from d now s.number s is (rw at (told-reading s x j e)) others)
 told-end d now m n s x None true is at others e u = rw u (untaking-all d now (numbered m n (prepares d.cluster (open_of s x) (parts_of d s))) (pass-numbered is_untaking n (λ k y said. refl) m (prepares d.cluster (open_of s x) (parts_of d s)) (pass-prepares is_untaking d.cluster (open_of s x) (parts_of d s))) (all-from d now s.number s is (rw at (told-update s x u)) others))
 told-end d now m n s x None false is at others e u =
     rw u (all-from d (act.Finished s.number ∷ now) s.number s is (let P : Option Story → Type 0 = λ o. is_told s o ≡ true in subst P (sym (story-finished d now s.number x at)) (told-finished s x)) (untaking-others d now (act.Finished s.number) s.number refl others))
 
-told-owns : (d : DocumentData) (now : List Act) (m : ℕ) (n : NodeId) (s : ScriptData) (x : Story) (ys : List (ℕ × Value)) (rest : List Out) → story d now s.number ≡ Some x → OthersTold d now s.number → ((now : List Act) → story d now s.number ≡ Some x → OthersTold d now s.number → AllTold d (after now (numbered m n rest))) → AllTold d (after now (numbered m n (map (λ y. out.Act (act.Own s.number y.0 y.1)) ys ++ rest)))
+told-owns : (d : DocumentData) (now : List Act) (m : ℕ) (n : NodeId) (s : ScriptData) (x : Story)
+    (ys : List (ℕ × Value)) (rest : List Out) → story d now s.number ≡ Some x → OthersTold d now s.number
+    → ((now : List Act) → story d now s.number ≡ Some x → OthersTold d now s.number
+    → AllTold d (after now (numbered m n rest)))
+    → AllTold d (after now (numbered m n (map (λ y. out.Act (act.Own s.number y.0 y.1)) ys ++ rest)))
 told-owns d now m n s x [] rest at others go = go now at others
 told-owns d now m n s x (y ∷ ys) rest at others go =
     told-owns d (act.Own s.number y.0 y.1 ∷ now) m n s x ys rest at
     (untaking-others d now (act.Own s.number y.0 y.1) s.number refl others) go
 
-pub told-advance : (d : DocumentData) (now : List Act) (m : ℕ) (n : NodeId) (b : Bool) (s : ScriptData) (x : Story) (i : ℕ) → script_of s.number d.scripts ≡ Some s → story d now s.number ≡ Some x → OthersTold d now s.number → AllTold d (after now (numbered m n (kept b n (advance d.cluster (open_of s x) i))))
+pub told-advance : (d : DocumentData) (now : List Act) (m : ℕ) (n : NodeId) (b : Bool) (s : ScriptData) (x : Story)
+    (i : ℕ) → script_of s.number d.scripts ≡ Some s → story d now s.number ≡ Some x → OthersTold d now s.number
+    → AllTold d (after now (numbered m n (kept b n (advance d.cluster (open_of s x) i))))
 told-advance d now m n b s x i is at others =
     rw (advance-kept d.cluster (open_of s x) i b n)
     (told-owns d now m n s x (filter (λ y. nat_lt i y.0) (own_reads 1 [] unread x.progress.values s.ops)) (advance_end d.cluster (open_of s x) (waiting s.ops x.progress.values)) at others

@@ -39,10 +39,13 @@ use Rattle.grid_laws.proofs.UntakingActs.{untaking-acts, untaking-answer, untaki
 
 -- ---- a reply
 
-others-taken : (d : DocumentData) (past : List Act) (q : ReadRep) → AllTold d past → OthersTold d (act.Taken q.t q.op q.sid q.value ∷ past) q.t
+others-taken : (d : DocumentData) (past : List Act) (q : ReadRep) → AllTold d past
+    → OthersTold d (act.Taken q.t q.op q.sid q.value ∷ past) q.t
 others-taken d past q all t s other e = other-taken s d past q.t t q.op q.sid q.value other (all t s e)
 
-told-taken : (d : DocumentData) (past : List Act) (m : ℕ) (n : NodeId) (b : Bool) (q : ReadRep) (x : Open) (w : Option ℕ) → Opens d past n q.t x w → AllTold d past → AllTold d (after past (numbered m n (kept b n (out.Act (act.Taken q.t q.op q.sid q.value) ∷ advance d.cluster (with_reply q x) q.op))))
+told-taken : (d : DocumentData) (past : List Act) (m : ℕ) (n : NodeId) (b : Bool) (q : ReadRep) (x : Open)
+    (w : Option ℕ) → Opens d past n q.t x w → AllTold d past → AllTold d (after past
+    (numbered m n (kept b n (out.Act (act.Taken q.t q.op q.sid q.value) ∷ advance d.cluster (with_reply q x) q.op))))
 told-taken d past m n b q x w o all =
     let now : List Act = act.Taken q.t q.op q.sid q.value ∷ past in
     let number : o.script.number ≡ q.t = script-number q.t d.scripts o.script o.at.script in
@@ -56,7 +59,8 @@ told-taken d past m n b q x w o all =
     (subst S (sym o.is) (told-advance d now m n b o.script (progressed (with_value q.op q.sid q.value) o.story) q.op (subst P (sym number) o.at.script) (subst Q (sym number) at) (subst R (sym number) (others-taken d past q all))))
 
 reply-outs : (P : List Act → Type 0) (c : ClusterData) (m : ℕ) (n : NodeId) (b : Bool) (q : ReadRep) (g : Stage) → P []
-    → ((x : Open) → g ≡ Reads x q.op → P (numbered m n (kept b n (out.Act (act.Taken q.t q.op q.sid q.value) ∷ advance c (with_reply q x) q.op))))
+    → ((x : Open) → g ≡ Reads x q.op
+    → P (numbered m n (kept b n (out.Act (act.Taken q.t q.op q.sid q.value) ∷ advance c (with_reply q x) q.op))))
     → P (numbered m n (kept b n (reply_outs c q g)))
 reply-outs P c m n b q (Reads x j) none go =
     if-outs P m n b (j == q.op) (out.Act (act.Taken q.t q.op q.sid q.value) ∷ advance c (with_reply q x) q.op) none
@@ -65,14 +69,18 @@ reply-outs P c m n b q g none go = rw (kept-none m n b) none
 
 -- a reply that is got is taken where it was waited for, and else nothing is given
 pub answer-reply : (P : List Act → Type 0) (m : ℕ) (n x : NodeId) (b : Bool) (v : View) (q : ReadRep) → P []
-    → ((y : Open) → stage v q.t ≡ Reads y q.op → P (numbered m n (kept b n (out.Act (act.Taken q.t q.op q.sid q.value) ∷ advance v.cluster (with_reply q y) q.op))))
+    → ((y : Open) → stage v q.t ≡ Reads y q.op → P (numbered m n
+    (kept b n (out.Act (act.Taken q.t q.op q.sid q.value) ∷ advance v.cluster (with_reply q y) q.op))))
     → P (numbered m n (kept b n (answer n v x (message.ReadRep q))))
 answer-reply P m n x b v q none go =
     if-outs P m n b (is_fit_at n (participant v) (stage v q.t) x (message.ReadRep q))
     (reply_outs v.cluster q (stage v q.t)) none
     (λ fit. reply-outs P v.cluster m n b q (stage v q.t) none go)
 
-told-answer : (d : DocumentData) (past : List Act) (k m : ℕ) (n x : NodeId) (b : Bool) (said : Message) (c : Bool) → is_reply said ≡ c → sent_at k (sent past) ≡ Some (record { from = x; to = n; message = said }) → AllTold d (act.Got k ∷ past) → AllTold d (after (act.Got k ∷ past) (numbered m n (kept b n (answer n (view d past n) x said))))
+told-answer : (d : DocumentData) (past : List Act) (k m : ℕ) (n x : NodeId) (b : Bool) (said : Message) (c : Bool)
+    → is_reply said ≡ c → sent_at k (sent past) ≡ Some (record { from = x; to = n; message = said })
+    → AllTold d (act.Got k ∷ past)
+    → AllTold d (after (act.Got k ∷ past) (numbered m n (kept b n (answer n (view d past n) x said))))
 told-answer d past k m n x b (message.ReadRep q) c quiet is all =
     let now : List Act = act.Got k ∷ past in
     let same : stage (view d now n) q.t ≡ stage (view d past n) q.t = stage-quiet d past k x n (message.ReadRep q) q.t is refl in
@@ -85,7 +93,9 @@ told-answer d past k m n x b said false quiet is all =
 
 -- ---- a begin
 
-told-begin : (d : DocumentData) (past : List Act) (m : ℕ) (b : Bool) (s : ScriptData) → script_of s.number d.scripts ≡ Some s → AllTold d past → AllTold d (after past (numbered m s.home (kept b s.home (begin_outs s.home (participant (view d past s.home)) s (floor_at d past s)))))
+told-begin : (d : DocumentData) (past : List Act) (m : ℕ) (b : Bool) (s : ScriptData)
+    → script_of s.number d.scripts ≡ Some s → AllTold d past → AllTold d (after past
+    (numbered m s.home (kept b s.home (begin_outs s.home (participant (view d past s.home)) s (floor_at d past s)))))
 told-begin d past m b s is all =
     let sid0 : Ident = first_at d past s in
     let now : List Act = act.Began s.number s.home sid0 ∷ past in
@@ -119,7 +129,8 @@ told-shape d past i c all (again n os up is) =
     (untaking-acts (next_number past) n c.keeps os (pass-again is_untaking (λ m. refl) d past n os is)) all
 
 -- an event leaves all told
-pub told-row : (d : DocumentData) (past : List Act) (e : Item) (c : Choice) → AllTold d past → AllTold d (after past (row d past e c))
+pub told-row : (d : DocumentData) (past : List Act) (e : Item) (c : Choice) → AllTold d past
+    → AllTold d (after past (row d past e c))
 told-row d past e c all = by-shape d past e c (λ acts. AllTold d (after past acts)) (told-shape d past e c all)
 
 pub answered-told : (d : DocumentData) (past : List Act) → AllTold d past → ReadersAnswered d past

@@ -37,22 +37,26 @@ use Rattle.grid_laws.proofs.DecisionsRest.{decisions-rest}
 -- ---- who votes and acknowledges is a part
 
 -- the receiver of a Prepare of t is a part of t
-says-part : (d : DocumentData) (past : List Act) (x n : NodeId) (t : TxId) (q : Prepare) → t ≡ q.t → PrepareSays d past x n q → is_among n (parts_at d t) ≡ true
+says-part : (d : DocumentData) (past : List Act) (x n : NodeId) (t : TxId) (q : Prepare) → t ≡ q.t
+    → PrepareSays d past x n q → is_among n (parts_at d t) ≡ true
 says-part d past x n t q same s =
     let P : TxId → Type 0 = λ u. is_among n (parts_at d u) ≡ true in
     let is : parts_at d q.t ≡ parts_of d s.script = ap (parts_in d) s.full.at.script in
     subst P (sym same) (rw is s.part)
 
-asked-part : (d : DocumentData) (past : List Act) (n x : NodeId) (t : TxId) → AllDue d past → Asked d past n x t → is_among n (parts_at d t) ≡ true
+asked-part : (d : DocumentData) (past : List Act) (n x : NodeId) (t : TxId) → AllDue d past → Asked d past n x t
+    → is_among n (parts_at d t) ≡ true
 asked-part d past n x t all a = says-part d past x n t a.prepare a.is (prepare-got d past n x a.prepare all a.got)
 
 -- a node with a Prepared of t is a part of t
-pub prepared-part : (d : DocumentData) (past : List Act) (n : NodeId) (t : TxId) (x : Prepared) → AllDue d past → prepared_of t (journal d past n) ≡ Some x → is_among n (parts_at d t) ≡ true
+pub prepared-part : (d : DocumentData) (past : List Act) (n : NodeId) (t : TxId) (x : Prepared) → AllDue d past
+    → prepared_of t (journal d past n) ≡ Some x → is_among n (parts_at d t) ≡ true
 prepared-part d past n t x all e =
     let f = first-prepared d past n t x (journal d past n) (prepared-say d past all n).journal e in
     says-part d past x.home n t f.prepare f.t f.says
 
-ended-part : (d : DocumentData) (past : List Act) (n : NodeId) (t : TxId) (o : Option Outcome) → AllDue d past → ended t (journal d past n) ≡ o → is_commit o ≡ true → is_among n (parts_at d t) ≡ true
+ended-part : (d : DocumentData) (past : List Act) (n : NodeId) (t : TxId) (o : Option Outcome) → AllDue d past
+    → ended t (journal d past n) ≡ o → is_commit o ≡ true → is_among n (parts_at d t) ≡ true
 ended-part d past n t None all e c = cc
 ended-part d past n t (Some o) all e c = let x = ended-prepared d.cluster n t o (journal d past n) (nodes-fit d past all n).fits e in prepared-part d past n t x.0 all x.1
 
@@ -62,25 +66,32 @@ AnswersOfParts d n (message.Vote t b) = is_among n (parts_at d t) ≡ true
 AnswersOfParts d n (message.Ack t) = is_among n (parts_at d t) ≡ true
 AnswersOfParts d n said = Unit {0}
 
-answers-due : (d : DocumentData) (past : List Act) (n y : NodeId) (said : Message) → AllDue d past → SendDue d past n y said → AnswersOfParts d n said
+answers-due : (d : DocumentData) (past : List Act) (n y : NodeId) (said : Message) → AllDue d past
+    → SendDue d past n y said → AnswersOfParts d n said
 answers-due d past n y (message.Vote t (ballot.Yes p)) all due = asked-part d past n y t all due.0
 answers-due d past n y (message.Vote t (ballot.No why)) all due = asked-part d past n y t all due.0
 answers-due d past n y (message.Ack t) all due = ended-part d past n t (ended t (journal d past n)) all refl due.0
 answers-due d past n y said all due = tt
 
-answers-sent : (d : DocumentData) (past : List Act) → AllDue d past → (m : ℕ) (x n : NodeId) (said : Message) → sent_at m (sent past) ≡ Some (record { from = x; to = n; message = said }) → AnswersOfParts d x said
+answers-sent : (d : DocumentData) (past : List Act) → AllDue d past → (m : ℕ) (x n : NodeId) (said : Message)
+    → sent_at m (sent past) ≡ Some (record { from = x; to = n; message = said }) → AnswersOfParts d x said
 answers-sent d past due m x n said is = sent-hold (λ now k y a. AnswersOfParts d k a) d past (λ now a k y s all h. h) (λ now k y s all h. answers-due d now k y s all h) due m (record { from = x; to = n; message = said }) is
 
-pub vote-part : (d : DocumentData) (past : List Act) → AllDue d past → (m : ℕ) (x n : NodeId) (t : TxId) (b : Ballot) → sent_at m (sent past) ≡ Some (record { from = x; to = n; message = message.Vote t b }) → is_among x (parts_at d t) ≡ true
+pub vote-part : (d : DocumentData) (past : List Act) → AllDue d past → (m : ℕ) (x n : NodeId) (t : TxId) (b : Ballot)
+    → sent_at m (sent past) ≡ Some (record { from = x; to = n; message = message.Vote t b })
+    → is_among x (parts_at d t) ≡ true
 vote-part d past due m x n t b is = answers-sent d past due m x n (message.Vote t b) is
 
-pub ack-part : (d : DocumentData) (past : List Act) → AllDue d past → (m : ℕ) (x n : NodeId) (t : TxId) → sent_at m (sent past) ≡ Some (record { from = x; to = n; message = message.Ack t }) → is_among x (parts_at d t) ≡ true
+pub ack-part : (d : DocumentData) (past : List Act) → AllDue d past → (m : ℕ) (x n : NodeId) (t : TxId)
+    → sent_at m (sent past) ≡ Some (record { from = x; to = n; message = message.Ack t })
+    → is_among x (parts_at d t) ≡ true
 ack-part d past due m x n t is = answers-sent d past due m x n (message.Ack t) is
 
 -- ---- where it is got
 
 -- a part is one where the transaction is collecting or decided
-pub part-there : (d : DocumentData) (past : List Act) (n x : NodeId) (t : TxId) → AllDue d past → is_among x (parts_at d t) ≡ true → is_part_at d.cluster (stage (view d past n) t) x ≡ true
+pub part-there : (d : DocumentData) (past : List Act) (n x : NodeId) (t : TxId) → AllDue d past
+    → is_among x (parts_at d t) ≡ true → is_part_at d.cluster (stage (view d past n) t) x ≡ true
 part-there d past n x t all part = go (stage (view d past n) t) refl
   where
     go : (s : Stage) → stage (view d past n) t ≡ s → is_part_at d.cluster s x ≡ true
@@ -98,15 +109,21 @@ part-there d past n x t all part = go (stage (view d past n) t) refl
         subst Q (sym here.parts) part
 
 -- a vote that was sent comes from a part
-pub vote-fit : (d : DocumentData) (past : List Act) → AllDue d past → (m : ℕ) (x n : NodeId) (t : TxId) (b : Ballot) → sent_at m (sent past) ≡ Some (record { from = x; to = n; message = message.Vote t b }) → is_part_at d.cluster (stage (view d past n) t) x ≡ true
+pub vote-fit : (d : DocumentData) (past : List Act) → AllDue d past → (m : ℕ) (x n : NodeId) (t : TxId) (b : Ballot)
+    → sent_at m (sent past) ≡ Some (record { from = x; to = n; message = message.Vote t b })
+    → is_part_at d.cluster (stage (view d past n) t) x ≡ true
 vote-fit d past due m x n t b is = part-there d past n x t due (vote-part d past due m x n t b is)
 
 -- and so does an acknowledgement
-pub ack-fit : (d : DocumentData) (past : List Act) → AllDue d past → (m : ℕ) (x n : NodeId) (t : TxId) → sent_at m (sent past) ≡ Some (record { from = x; to = n; message = message.Ack t }) → is_part_at d.cluster (stage (view d past n) t) x ≡ true
+pub ack-fit : (d : DocumentData) (past : List Act) → AllDue d past → (m : ℕ) (x n : NodeId) (t : TxId)
+    → sent_at m (sent past) ≡ Some (record { from = x; to = n; message = message.Ack t })
+    → is_part_at d.cluster (stage (view d past n) t) x ≡ true
 ack-fit d past due m x n t is = part-there d past n x t due (ack-part d past due m x n t is)
 
 -- the proposal of a yes is at least 1
-pub vote-least : (d : DocumentData) (past : List Act) → AllDue d past → (m : ℕ) (x n : NodeId) (t : TxId) (p : Ident) → sent_at m (sent past) ≡ Some (record { from = x; to = n; message = message.Vote t (ballot.Yes p) }) → nat_le 1 p ≡ true
+pub vote-least : (d : DocumentData) (past : List Act) → AllDue d past → (m : ℕ) (x n : NodeId) (t : TxId) (p : Ident)
+    → sent_at m (sent past) ≡ Some (record { from = x; to = n; message = message.Vote t (ballot.Yes p) })
+    → nat_le 1 p ≡ true
 vote-least d past due m x n t p is =
     let fit = (nodes-fit d past due x).fits in
     let w = has_prepared-says d.cluster x t p (journal d past x) fit (says-sent d past due m (record { from = x; to = n; message = message.Vote t (ballot.Yes p) }) is) in
@@ -117,7 +134,8 @@ vote-least d past due m x n t p is =
 -- ---- outcomes
 
 -- a final identifier that was decided is at least each proposal that is pending
-pub decided-least : (d : DocumentData) (past : List Act) (n : NodeId) (t : TxId) (f : Ident) → AllDue d past → IsDecided d past t f → is_at_least (pending t (journal d past n)) f ≡ true
+pub decided-least : (d : DocumentData) (past : List Act) (n : NodeId) (t : TxId) (f : Ident) → AllDue d past
+    → IsDecided d past t f → is_at_least (pending t (journal d past n)) f ≡ true
 decided-least d past n t f all w = go (pending t (journal d past n)) refl
   where
     go : (o : Option Ident) → pending t (journal d past n) ≡ o → is_at_least o f ≡ true
@@ -131,5 +149,7 @@ decided-least d past n t f all w = go (pending t (journal d past n)) refl
         grind (arith, nat_tests, same, le)
 
 -- a commit that was sent has a final identifier of at least the proposal where it is got
-pub commit-fit : (d : DocumentData) (past : List Act) → AllDue d past → (m : ℕ) (x n : NodeId) (t : TxId) (f : Ident) → sent_at m (sent past) ≡ Some (record { from = x; to = n; message = message.Tell t (outcome.Commit f) }) → is_at_least (pending t (journal d past n)) f ≡ true
+pub commit-fit : (d : DocumentData) (past : List Act) → AllDue d past → (m : ℕ) (x n : NodeId) (t : TxId) (f : Ident)
+    → sent_at m (sent past) ≡ Some (record { from = x; to = n; message = message.Tell t (outcome.Commit f) })
+    → is_at_least (pending t (journal d past n)) f ≡ true
 commit-fit d past due m x n t f is = decided-least d past n t f due (says-sent d past due m (record { from = x; to = n; message = message.Tell t (outcome.Commit f) }) is)

@@ -19,7 +19,8 @@ use Rattle.script_lang.specs.Scripts.{ScriptData}
 use Rattle.std.proofs.Common.{List, Option, [], refl, subst, sym, true, ◌∷◌, ◌≡◌}
 
 -- a transaction that is due to begin stands at no desk, and the floor of its session is small
-due-fit : (d : DocumentData) (past : List Act) (t : TxId) (n : NodeId) (sid0 : Ident) → IsLow past → (due : BeganDue d past t n sid0) → is_fit_begin n (view d past n) due.script (floor_at d past due.script) ≡ true
+due-fit : (d : DocumentData) (past : List Act) (t : TxId) (n : NodeId) (sid0 : Ident) → IsLow past
+    → (due : BeganDue d past t n sid0) → is_fit_begin n (view d past n) due.script (floor_at d past due.script) ≡ true
 due-fit d past t n sid0 low due =
     let number : due.script.number ≡ t = script-number t d.scripts due.script due.is in
     let floor : is_small (floor_at d past due.script) ≡ true = small (floor_at d past due.script) (floor_at-low 3200000 d past due.script low) in

@@ -171,11 +171,14 @@ IsDue d past (act.Began t n sid0) = BeganDue d past t n sid0
 IsDue d past (act.Sent m n y said) = SendDue d past n y said
 IsDue d past (act.Got m) = (e : Envelope) × (sent_at m (sent past) ≡ Some e) × IsUp d past e.to
 IsDue d past (act.Raised n sid) = IsUp d past n × (sid ≤ floor (journal d past n))
-IsDue d past (act.Served n t op k sid vn v) = (x : NodeId) × ServeDue d past n (record { t = t; op = op; sid = sid; key = k; from = x }) vn v
-IsDue d past (act.Held n t op sid) = (k : Key) × (x : NodeId) × HeldDue d past n (record { t = t; op = op; sid = sid; key = k; from = x })
+IsDue d past (act.Served n t op k sid vn v) =
+    (x : NodeId) × ServeDue d past n (record { t = t; op = op; sid = sid; key = k; from = x }) vn v
+IsDue d past (act.Held n t op sid) =
+    (k : Key) × (x : NodeId) × HeldDue d past n (record { t = t; op = op; sid = sid; key = k; from = x })
 IsDue d past (act.Taken t op sid v) = TakenDue d past t op sid v
 IsDue d past (act.Prepared n t p) = RecordDue d past n (head.Prepared t p)
-IsDue d past (act.Refused n t why) = (x : NodeId) × (a : Asked d past n x t) × RefusedFor (journal d past n) t a.prepare why
+IsDue d past (act.Refused n t why) =
+    (x : NodeId) × (a : Asked d past n x t) × RefusedFor (journal d past n) t a.prepare why
 IsDue d past (act.Ended n t o) = RecordDue d past n (head.Ended t o)
 IsDue d past (act.Ceiling n c) = RecordDue d past n (head.Ceiling c)
 IsDue d past (act.Decided t f) = (n : NodeId) × RecordDue d past n (head.Decided t f)

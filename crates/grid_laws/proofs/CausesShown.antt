@@ -25,19 +25,22 @@ use Rattle.grid_laws.proofs.RunsDue.{due-run}
 use Rattle.grid_laws.proofs.EndsMeant.{says-got}
 
 -- an abort has its refusal, and is of an update
-aborted-caused : (d : DocumentData) (past : List Act) (t : TxId) (x : NodeId) (why : Cause) → AllDue d past → AbortedDue d past t x why → (is_update_in (script_of t d.scripts) && has_refused x t why past) ≡ true
+aborted-caused : (d : DocumentData) (past : List Act) (t : TxId) (x : NodeId) (why : Cause) → AllDue d past
+    → AbortedDue d past t x why → (is_update_in (script_of t d.scripts) && has_refused x t why past) ≡ true
 aborted-caused d past t x why all due =
     let is = due.at.script in
     let update = due.update in
     let says : has_refused x t why past ≡ true = says-got d past all (record { from = x; to = due.n; message = message.Vote t (ballot.No why) }) due.got in
     rw (is, update) says
 
-refused-by : (r : List Record) (t : TxId) (q : Prepare) (why : Cause) → RefusedFor r t q why → cause_by (holder r t q.reads q.writes) (newer r q.reads q.sid) ≡ Some why
+refused-by : (r : List Record) (t : TxId) (q : Prepare) (why : Cause) → RefusedFor r t q why
+    → cause_by (holder r t q.reads q.writes) (newer r q.reads q.sid) ≡ Some why
 refused-by r t q (cause.Holder u) is = rw is refl
 refused-by r t q (cause.Newer k f) is = (let none = is.0 in let some = is.1 in rw (none, some) refl)
 
 -- a refusal has its holder or its newer version
-refused-caused : (d : DocumentData) (past : List Act) (n x : NodeId) (t : TxId) (why : Cause) (a : Asked d past n x t) → RefusedFor (journal d past n) t a.prepare why → refusal_of (journal d past n) t (said_by (got past)) ≡ Some why
+refused-caused : (d : DocumentData) (past : List Act) (n x : NodeId) (t : TxId) (why : Cause) (a : Asked d past n x t)
+    → RefusedFor (journal d past n) t a.prepare why → refusal_of (journal d past n) t (said_by (got past)) ≡ Some why
 refused-caused d past n x t why a is =
     let q : Prepare = a.prepare in
     let r : List Record = journal d past n in

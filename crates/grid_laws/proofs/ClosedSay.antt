@@ -34,15 +34,18 @@ use Rattle.grid_laws.proofs.NodesFit.{AllHold, HoldsIn}
 
 -- ---- over
 
-all-among : (P : NodeId → Bool) (ns : List NodeId) → ((n : NodeId) → is_among n ns ≡ true → P n ≡ true) → list_all P ns ≡ true
+all-among : (P : NodeId → Bool) (ns : List NodeId) → ((n : NodeId) → is_among n ns ≡ true → P n ≡ true)
+    → list_all P ns ≡ true
 all-among P [] go = refl
 all-among P (n ∷ ns) go = and_from (P n) (list_all P ns) (go n (grind (arith, nat_tests))) (all-among P ns (λ k i. go k (grind (arith, i))))
 
-all-more : (P Q : NodeId → Bool) (ns : List NodeId) → ((n : NodeId) → P n ≡ true → Q n ≡ true) → list_all P ns ≡ true → list_all Q ns ≡ true
+all-more : (P Q : NodeId → Bool) (ns : List NodeId) → ((n : NodeId) → P n ≡ true → Q n ≡ true) → list_all P ns ≡ true
+    → list_all Q ns ≡ true
 all-more P Q [] go h = refl
 all-more P Q (n ∷ ns) go h = and_from (Q n) (list_all Q ns) (go n (and_parts (P n) (list_all P ns) h).0) (all-more P Q ns go (and_parts (P n) (list_all P ns) h).1)
 
-pub over-more : (d : DocumentData) (past : List Act) (a : Act) (t : TxId) → is_over d past t ≡ true → is_over d (a ∷ past) t ≡ true
+pub over-more : (d : DocumentData) (past : List Act) (a : Act) (t : TxId) → is_over d past t ≡ true
+    → is_over d (a ∷ past) t ≡ true
 over-more d past a t h =
     let then' : NodeId → Bool = λ n. has_commit t (journal d past n) in
     let now' : NodeId → Bool = λ n. has_commit t (journal d (a ∷ past) n) in
@@ -55,7 +58,8 @@ home-script : (s : Option ScriptData) (n : NodeId) → is_home_in s n ≡ true �
 home-script None n h = cc
 home-script (Some s) n h = refl
 
-commits-acks : (u : Option Decision) (o : Option Open) (some : List NodeId) (y : Decision) (acks : List NodeId) → stage_by u o some ≡ Commits y acks → some ≡ acks
+commits-acks : (u : Option Decision) (o : Option Open) (some : List NodeId) (y : Decision) (acks : List NodeId)
+    → stage_by u o some ≡ Commits y acks → some ≡ acks
 commits-acks (Some z) o some y acks e = cc
 commits-acks None (Some x) some y acks e = other (waiting x.script.ops x.progress.values) e
   where
@@ -64,7 +68,8 @@ commits-acks None (Some x) some y acks e = other (waiting x.script.ops x.progres
     other (Some j) e = cc
 commits-acks None None some y acks e = cc
 
-backed-acks : (d : DocumentData) (past : List Act) (n : NodeId) (h : Node) (t : TxId) (s : Option ScriptData) (o : Option Story) → StoryBacked d past t o → AllAcks d past t (acks_at n h t s o)
+backed-acks : (d : DocumentData) (past : List Act) (n : NodeId) (h : Node) (t : TxId) (s : Option ScriptData)
+    (o : Option Story) → StoryBacked d past t o → AllAcks d past t (acks_at n h t s o)
 backed-acks d past n h t None o k = tt
 backed-acks d past n h t (Some s) o k = go ((s.home == n) && is_some (undone t h.journal)) o k
   where
@@ -73,7 +78,8 @@ backed-acks d past n h t (Some s) o k = go ((s.home == n) && is_some (undone t h
     go true None k = tt
     go true (Some x) k = k.1
 
-closed-over : (d : DocumentData) (past : List Act) (n : NodeId) (t : TxId) → AllDue d past → ClosedDue d past n t → is_over d past t ≡ true
+closed-over : (d : DocumentData) (past : List Act) (n : NodeId) (t : TxId) → AllDue d past → ClosedDue d past n t
+    → is_over d past t ≡ true
 closed-over d past n t all due =
     let P : List Act → Type 0 = λ p. AllDue d p in
     let Q : List Act → Type 0 = λ p. is_over d p t ≡ true in
@@ -98,26 +104,31 @@ abbrev pub ClosedSays : DocumentData → List Act → NodeId → Record → Type
 ClosedSays d past n (record'.Closed t) = is_over d past t ≡ true
 ClosedSays d past n y = Unit {0}
 
-closed-more : (d : DocumentData) (past : List Act) (a : Act) (n : NodeId) (y : Record) → ClosedSays d past n y → ClosedSays d (a ∷ past) n y
+closed-more : (d : DocumentData) (past : List Act) (a : Act) (n : NodeId) (y : Record) → ClosedSays d past n y
+    → ClosedSays d (a ∷ past) n y
 closed-more d past a n (record'.Closed t) s = over-more d past a t s
 closed-more d past a n y s = tt
 
-closed-due : (d : DocumentData) (past : List Act) (n : NodeId) (h : Head) → AllDue d past → RecordDue d past n h → HoldsIn (ClosedSays d past n) (record_of d (got past) h)
+closed-due : (d : DocumentData) (past : List Act) (n : NodeId) (h : Head) → AllDue d past → RecordDue d past n h
+    → HoldsIn (ClosedSays d past n) (record_of d (got past) h)
 closed-due d past n (head.Closed t) all due = closed-over d past n t all due.1
 closed-due d past n (head.Prepared t p) all due = let P : Option Record → Type 0 = λ o. HoldsIn (ClosedSays d past n) o in subst P (sym (prepared-is d past n t p due.1)) tt
 closed-due d past n h all due = tt
 
-pub closed-say : (d : DocumentData) (past : List Act) → AllDue d past → (n : NodeId) → NodeHolds (ClosedSays d past n) (node d past n)
+pub closed-say : (d : DocumentData) (past : List Act) → AllDue d past → (n : NodeId)
+    → NodeHolds (ClosedSays d past n) (node d past n)
 closed-say d past due n = records-hold (ClosedSays d) d past (λ now a k y all h. closed-more d now a k y h) (λ now k h all r. closed-due d now k h all r) due n
 
-closed-here : (d : DocumentData) (past : List Act) (t u : TxId) (b rest : Bool) → (u == t) ≡ b → is_over d past u ≡ true → (b || rest) ≡ true → (rest ≡ true → is_over d past t ≡ true) → is_over d past t ≡ true
+closed-here : (d : DocumentData) (past : List Act) (t u : TxId) (b rest : Bool) → (u == t) ≡ b → is_over d past u ≡ true
+    → (b || rest) ≡ true → (rest ≡ true → is_over d past t ≡ true) → is_over d past t ≡ true
 closed-here d past t u true rest same over e go =
     let is : u ≡ t = grind (arith, nat_tests) in
     let P : TxId → Type 0 = λ w. is_over d past w ≡ true in
     subst P is over
 closed-here d past t u false rest same over e go = go e
 
-pub closed-stands : (d : DocumentData) (past : List Act) (n : NodeId) (t : TxId) (r : List Record) → AllHold (ClosedSays d past n) r → is_closed t r ≡ true → is_over d past t ≡ true
+pub closed-stands : (d : DocumentData) (past : List Act) (n : NodeId) (t : TxId) (r : List Record)
+    → AllHold (ClosedSays d past n) r → is_closed t r ≡ true → is_over d past t ≡ true
 closed-stands d past n t [] says e = cc
 closed-stands d past n t (record'.Closed u ∷ r) says e = closed-here d past t u (u == t) (is_closed t r) refl says.0 e (λ i. closed-stands d past n t r says.1 i)
 closed-stands d past n t (record'.Decided u f parts ∷ r) says e = closed-stands d past n t r says.1 (not-decided (u == t) (is_closed t r) e)

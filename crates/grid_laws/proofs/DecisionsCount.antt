@@ -15,7 +15,8 @@ use Rattle.grid_model.proofs.Undecided.{begins, skipped-told}
 use Rattle.grid_laws.proofs.Causes.{IsDue, AllDue}
 use Rattle.grid_laws.proofs.OpenPhases.{open-undecided}
 
-begun-counts : (d : DocumentData) (past : List Act) (a : Act) (t : TxId) → IsDue d past a → begins t a ≡ true → over_at (node d past) (script_of t d.scripts) ≡ 0
+begun-counts : (d : DocumentData) (past : List Act) (a : Act) (t : TxId) → IsDue d past a → begins t a ≡ true
+    → over_at (node d past) (script_of t d.scripts) ≡ 0
 begun-counts d past (act.Began u n sid0) t due is =
     let same : u ≡ t = grind (arith, nat_tests) in
     let P : NodeId → Type 0 = λ k. decision due.script.number (journal d past k) ≡ None in
@@ -29,7 +30,8 @@ all-count d [] due t = refl
 all-count d (a ∷ past) due t = skipped-told (λ k. k ≡ 0) d past a t (begun-counts d past a t due.0) (all-count d past due.1 t)
 
 -- what is open was decided nowhere
-pub open-decided-never : (d : DocumentData) (past : List Act) → AllDue d past → (s : ScriptData) → is_open (phase d past s) ≡ true → decision s.number (journal d past s.home) ≡ None
+pub open-decided-never : (d : DocumentData) (past : List Act) → AllDue d past → (s : ScriptData)
+    → is_open (phase d past s) ≡ true → decision s.number (journal d past s.home) ≡ None
 open-decided-never d past due s e =
     let P : ℕ → Type 0 = λ k. later_decision k s.number (journal d past s.home) ≡ None in
     sym (later-all s.number (journal d past s.home)) ∙ subst P (all-count d past due s.number) (open-undecided s (story d past s.number) (node d past s.home) e)

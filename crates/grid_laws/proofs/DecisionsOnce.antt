@@ -35,7 +35,8 @@ AreOnce (x ∷ xs) = (has_tx x.1 xs ≡ false) × AreOnce xs
 abbrev IsNew : Option Record → List Record → Type 0
 IsNew o r = (t : TxId) → is_decided_in t o ≡ true → has_tx t (decisions r) ≡ false
 
-once-written : (o : Option Record) (r : List Record) → IsNew o r → AreOnce (decisions r) → AreOnce (decisions (written o r))
+once-written : (o : Option Record) (r : List Record) → IsNew o r → AreOnce (decisions r)
+    → AreOnce (decisions (written o r))
 once-written None r new once = once
 once-written (Some (record'.Decided u f parts)) r new once = (new u (same-number u), once)
 once-written (Some y) r new once = once
@@ -49,7 +50,9 @@ once-rest (Some y) r once = once
 abbrev AddsNew : Change → Node → Type 0
 AddsNew c x = (t : TxId) → adds c t ≡ true → (x.doubt ≡ None) × (has_tx t (known x) ≡ false)
 
-once-writes : (p o : Option Record) (r : List Record) → ((t : TxId) → is_decided_in t o ≡ true → (p ≡ None) × (has_tx t (decisions (written p r)) ≡ false)) → AreOnce (decisions (written p r)) → AreOnce (decisions (written p (written o r)))
+once-writes : (p o : Option Record) (r : List Record)
+    → ((t : TxId) → is_decided_in t o ≡ true → (p ≡ None) × (has_tx t (decisions (written p r)) ≡ false))
+    → AreOnce (decisions (written p r)) → AreOnce (decisions (written p (written o r)))
 once-writes p None r new once = once
 once-writes None (Some (record'.Decided u f parts)) r new once = ((new u (same-number u)).1, once)
 once-writes (Some y) (Some (record'.Decided u f parts)) r new once = (let none : Some y ≡ None = (new u (same-number u)).0 in cc)
@@ -73,7 +76,8 @@ once-changed w x new once = once
 decides-running : (d : DocumentData) (past : List Act) (n : NodeId) (t : TxId) → Decides d past n t → IsRunning d past t
 decides-running d past n t w = (let r = w.due.1 in let P : NodeId → Type 0 = λ k. IsUp d past k in record { script = r.script; is = r.at.script; unended = r.unended; up = subst P (sym r.at.home) w.due.0 })
 
-decides-new : (d : DocumentData) (past : List Act) (n : NodeId) (t : TxId) → AllDue d past → Decides d past n t → ((node d past n).doubt ≡ None) × (has_tx t (known (node d past n)) ≡ false)
+decides-new : (d : DocumentData) (past : List Act) (n : NodeId) (t : TxId) → AllDue d past → Decides d past n t
+    → ((node d past n).doubt ≡ None) × (has_tx t (known (node d past n)) ≡ false)
 decides-new d past n t all w = (let r = w.due.1 in ((nodes-fit d past all n).quiet w.due.0, running-unknown d past n t all (decides-running d past n t w) (home-is d t n r.script r.at.script r.at.home)))
 
 -- of the decisions that a node knows
@@ -82,12 +86,14 @@ known-once d [] due n = tt
 known-once d (a ∷ past) due n = once-changed (change d (got past) a n) (node d past n) (λ t i. decides-new d past n t due.1 (adds-due d past a n t due.0 i)) (known-once d past due.1 n)
 
 -- of the decisions that stand
-pub decided-once : (d : DocumentData) (past : List Act) → AllDue d past → (n : NodeId) → AreOnce (decisions (journal d past n))
+pub decided-once : (d : DocumentData) (past : List Act) → AllDue d past → (n : NodeId)
+    → AreOnce (decisions (journal d past n))
 decided-once d past all n = once-rest (node d past n).doubt (journal d past n) (known-once d past all n)
 
 -- ---- one final identifier
 
-once-same : (t : TxId) (f g : Ident) (r : List Record) → AreOnce (decisions r) → has_decided t f r ≡ true → has_decided t g r ≡ true → f ≡ g
+once-same : (t : TxId) (f g : Ident) (r : List Record) → AreOnce (decisions r) → has_decided t f r ≡ true
+    → has_decided t g r ≡ true → f ≡ g
 once-same t f g [] once a b = cc
 once-same t f g (record'.Decided u e parts ∷ r) once a b = elim (cases_eq u t) [
   | inl same ↦
@@ -108,7 +114,8 @@ once-same t f g (record'.Ceiling c ∷ r) once a b = once-same t f g r once a b
 once-same t f g (record'.Closed u ∷ r) once a b = once-same t f g r once a b
 
 -- two decisions of one transaction have one final identifier
-pub decided-same : (d : DocumentData) (past : List Act) → AllDue d past → (t : TxId) (f g : Ident) → IsDecided d past t f → IsDecided d past t g → f ≡ g
+pub decided-same : (d : DocumentData) (past : List Act) → AllDue d past → (t : TxId) (f g : Ident)
+    → IsDecided d past t f → IsDecided d past t g → f ≡ g
 decided-same d past all t f g v w =
     let at : w.0 ≡ v.0 = home-one (script_of t d.scripts) w.0 v.0 w.1 v.1 in
     let P : NodeId → Type 0 = λ k. has_decided t g (journal d past k) ≡ true in

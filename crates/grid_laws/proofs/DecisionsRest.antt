@@ -46,7 +46,8 @@ abbrev pub DecidedSays : DocumentData → List Act → NodeId → Record → Typ
 DecidedSays d past n (record'.Decided t f parts) = DecisionSays d past t f
 DecidedSays d past n y = Unit {0}
 
-decision-more : (d : DocumentData) (past : List Act) (a : Act) (t : TxId) (f : Ident) → AllDue d (a ∷ past) → DecisionSays d past t f → DecisionSays d (a ∷ past) t f
+decision-more : (d : DocumentData) (past : List Act) (a : Act) (t : TxId) (f : Ident) → AllDue d (a ∷ past)
+    → DecisionSays d past t f → DecisionSays d (a ∷ past) t f
 decision-more d past a t f due s =
     record {
       home = s.home;
@@ -59,12 +60,15 @@ decision-more d past a t f due s =
       fresh = s.fresh;
     }
 
-decided-more : (d : DocumentData) (past : List Act) (a : Act) (n : NodeId) (y : Record) → AllDue d (a ∷ past) → DecidedSays d past n y → DecidedSays d (a ∷ past) n y
+decided-more : (d : DocumentData) (past : List Act) (a : Act) (n : NodeId) (y : Record) → AllDue d (a ∷ past)
+    → DecidedSays d past n y → DecidedSays d (a ∷ past) n y
 decided-more d past a n (record'.Decided t f parts) due s = decision-more d past a t f due s
 decided-more d past a n y due s = tt
 
 -- a final identifier that is a proposal is above the snapshot
-fresh-final : (d : DocumentData) (past : List Act) (home n : NodeId) (t : TxId) (f : Ident) (s : ScriptData) (sid : Ident) (values : List (ℕ × Value)) → AllDue d past → Full d past home t s sid values → has_prepared t f (journal d past n) ≡ true → sid < f
+fresh-final : (d : DocumentData) (past : List Act) (home n : NodeId) (t : TxId) (f : Ident) (s : ScriptData)
+    (sid : Ident) (values : List (ℕ × Value)) → AllDue d past → Full d past home t s sid values
+    → has_prepared t f (journal d past n) ≡ true → sid < f
 fresh-final d past home n t f s sid values all full is =
     let fit = (nodes-fit d past all n).fits in
     let w = has_prepared-says d.cluster n t f (journal d past n) fit is in
@@ -77,7 +81,8 @@ fresh-final d past home n t f s sid values all full is =
     let is : w.0.proposal ≡ f = w.2 in
     omega arith
 
-decision-due : (d : DocumentData) (past : List Act) (n : NodeId) (t : TxId) (f : Ident) → AllDue d past → DecidedDue d past n t f → DecisionSays d past t f
+decision-due : (d : DocumentData) (past : List Act) (n : NodeId) (t : TxId) (f : Ident) → AllDue d past
+    → DecidedDue d past n t f → DecisionSays d past t f
 decision-due d past n t f all due =
     let x : Story = due.story in
     let P : Option Story → Type 0 = λ o. StoryBacked d past t o in
@@ -100,18 +105,22 @@ decision-due d past n t f all due =
       fresh = fresh-final d past n reached.0 t f due.script sid x.progress.values all full reached.2;
     }
 
-decided-due : (d : DocumentData) (past : List Act) (n : NodeId) (h : Head) → AllDue d past → RecordDue d past n h → HoldsIn (DecidedSays d past n) (record_of d (got past) h)
+decided-due : (d : DocumentData) (past : List Act) (n : NodeId) (h : Head) → AllDue d past → RecordDue d past n h
+    → HoldsIn (DecidedSays d past n) (record_of d (got past) h)
 decided-due d past n (head.Decided t f) all due = decision-due d past n t f all due.1
 decided-due d past n (head.Prepared t p) all due = let P : Option Record → Type 0 = λ o. HoldsIn (DecidedSays d past n) o in subst P (sym (prepared-is d past n t p due.1)) tt
 decided-due d past n h all due = tt
 
 -- each Decided that stands, or is in doubt
-pub decided-say : (d : DocumentData) (past : List Act) → AllDue d past → (n : NodeId) → NodeHolds (DecidedSays d past n) (node d past n)
+pub decided-say : (d : DocumentData) (past : List Act) → AllDue d past → (n : NodeId)
+    → NodeHolds (DecidedSays d past n) (node d past n)
 decided-say d past due n = records-hold (DecidedSays d) d past (λ now a k y all h. decided-more d now a k y all h) (λ now k h all r. decided-due d now k h all r) due n
 
 -- ---- the decisions that stand
 
-decision-at : (d : DocumentData) (past : List Act) (n : NodeId) (t u : TxId) (f g : Ident) (b : Bool) → (u == t && g == f) ≡ b → is_home d u n ≡ true → DecisionSays d past u g → (b ≡ false → (is_home d t n ≡ true) × DecisionSays d past t f) → (is_home d t n ≡ true) × DecisionSays d past t f
+decision-at : (d : DocumentData) (past : List Act) (n : NodeId) (t u : TxId) (f g : Ident) (b : Bool)
+    → (u == t && g == f) ≡ b → is_home d u n ≡ true → DecisionSays d past u g
+    → (b ≡ false → (is_home d t n ≡ true) × DecisionSays d past t f) → (is_home d t n ≡ true) × DecisionSays d past t f
 decision-at d past n t u f g true same home says go =
     let a : u ≡ t = grind (arith, nat_tests, same) in
     let b : g ≡ f = grind (arith, nat_tests, same) in
@@ -122,7 +131,9 @@ decision-at d past n t u f g true same home says go =
 decision-at d past n t u f g false same home says go = go refl
 
 -- a decision that stands is at its home, and says so
-pub decision-stands : (d : DocumentData) (past : List Act) (n : NodeId) (t : TxId) (f : Ident) (r : List Record) → AllHold (AtItsHome d n) r → AllHold (DecidedSays d past n) r → has_decided t f r ≡ true → (is_home d t n ≡ true) × DecisionSays d past t f
+pub decision-stands : (d : DocumentData) (past : List Act) (n : NodeId) (t : TxId) (f : Ident) (r : List Record)
+    → AllHold (AtItsHome d n) r → AllHold (DecidedSays d past n) r → has_decided t f r ≡ true
+    → (is_home d t n ≡ true) × DecisionSays d past t f
 decision-stands d past n t f [] homes says e = cc
 decision-stands d past n t f (record'.Decided u g parts ∷ r) homes says e = decision-at d past n t u f g (u == t && g == f) refl homes.0.0 says.0 (λ i. decision-stands d past n t f r homes.1 says.1 (grind (arith, e, i)))
 decision-stands d past n t f (record'.Prepared u home parts sid p reads writes ∷ r) homes says e = decision-stands d past n t f r homes.1 says.1 e

@@ -36,7 +36,9 @@ small-cause (cause.Holder u) h = refl
 small-cause (cause.Newer k f) h = h
 
 -- what it says is fit at its receiver, where its identifier is small
-content-fit : (d : DocumentData) (past : List Act) → IsOne d → AllDue d past → (m : ℕ) (x y : NodeId) (said : Message) → IsSaid past m x y said → is_small (message_ident said) ≡ true → is_fit_content y (participant (view d past y)) (stage (view d past y) (tx_in said)) x said ≡ true
+content-fit : (d : DocumentData) (past : List Act) → IsOne d → AllDue d past → (m : ℕ) (x y : NodeId) (said : Message)
+    → IsSaid past m x y said → is_small (message_ident said) ≡ true
+    → is_fit_content y (participant (view d past y)) (stage (view d past y) (tx_in said)) x said ≡ true
 content-fit d past one due m x y (message.ReadReq q) is small = request-fit d past m x y q one due is small
 content-fit d past one due m x y (message.ReadRep q) is small = and_from (is_small q.sid) _ small (reply-fit d past m x y y q due is)
 content-fit d past one due m x y (message.Prepare q) is small = prepare-fit d past one due m x y q is small
@@ -48,13 +50,15 @@ content-fit d past one due m x y (message.Ack t) is small = ack-fit d past due m
 content-fit d past one due m x y (message.Ask t) is small = refl
 content-fit d past one due m x y (message.AskPeer t) is small = refl
 
-sent-fit : (d : DocumentData) (past : List Act) → IsOne d → AllDue d past → IsLow past → (m : ℕ) (e : Envelope) → sent_at m (sent past) ≡ Some e → is_fit e.to (view d past e.to) e.from e.message ≡ true
+sent-fit : (d : DocumentData) (past : List Act) → IsOne d → AllDue d past → IsLow past → (m : ℕ) (e : Envelope)
+    → sent_at m (sent past) ≡ Some e → is_fit e.to (view d past e.to) e.from e.message ≡ true
 sent-fit d past one due low m e is =
     and_from (is_small_node (journal d past e.to) (node d past e.to).next) _
     (small-node d past e.to low)
     (content-fit d past one due m e.from e.to e.message is (small-sent past m e low is))
 
-got-fit : (d : DocumentData) (past : List Act) (a : Act) → IsOne d → AllDue d past → IsLow past → IsDue d past a → GotIsFit d a past
+got-fit : (d : DocumentData) (past : List Act) (a : Act) → IsOne d → AllDue d past → IsLow past → IsDue d past a
+    → GotIsFit d a past
 got-fit d past (act.Got m) one due low now =
     let P : Option Envelope → Type 0 = λ o. IsFitAt d past o in
     subst P (sym now.1) (sent-fit d past one due low m now.0 now.1)

@@ -25,7 +25,8 @@ OwnDue d past n a = IsDue d past a
 abbrev pub OutsDue : DocumentData → List Act → NodeId → ℕ → List Out → Type 0
 OutsDue d past n m [] = Unit {0}
 OutsDue d past n m (out.Act a ∷ os) = OwnDue d past n a × OutsDue d (a ∷ past) n m os
-OutsDue d past n m (out.Send to said ∷ os) = SendDue d past n to said × OutsDue d (act.Sent m n to said ∷ past) n (m + 1) os
+OutsDue d past n m (out.Send to said ∷ os) =
+    SendDue d past n to said × OutsDue d (act.Sent m n to said ∷ past) n (m + 1) os
 
 own-due : (d : DocumentData) (past : List Act) (n : NodeId) (a : Act) → OwnDue d past n a → IsDue d past a
 own-due d past n (act.Prepared k t p) due = let P : NodeId → Type 0 = λ j. RecordDue d past j (head.Prepared t p) in subst P (sym due.0) due.1
@@ -37,12 +38,14 @@ own-due d past n (act.Compacted k) due =
     let P : NodeId → Type 0 = λ j. RecordDue d past j head.Compact in subst P (sym due.0) due.1
 own-due d past n a due = due
 
-kept-due : (d : DocumentData) (past : List Act) (n : NodeId) (m : ℕ) (os : List Out) → OutsDue d past n m os → AreDue d past (numbered m n os)
+kept-due : (d : DocumentData) (past : List Act) (n : NodeId) (m : ℕ) (os : List Out) → OutsDue d past n m os
+    → AreDue d past (numbered m n os)
 kept-due d past n m [] due = tt
 kept-due d past n m (out.Act a ∷ os) due = (own-due d past n a due.0, kept-due d (a ∷ past) n m os due.1)
 kept-due d past n m (out.Send to said ∷ os) due = (due.0, kept-due d (act.Sent m n to said ∷ past) n (m + 1) os due.1)
 
-broken-due : (d : DocumentData) (past : List Act) (n : NodeId) (m : ℕ) (os : List Out) → OutsDue d past n m os → AreDue d past (numbered m n (broken n os))
+broken-due : (d : DocumentData) (past : List Act) (n : NodeId) (m : ℕ) (os : List Out) → OutsDue d past n m os
+    → AreDue d past (numbered m n (broken n os))
 broken-due d past n m [] due = tt
 broken-due d past n m (out.Act (act.Prepared k t p) ∷ os) due = (due.0.1, tt)
 broken-due d past n m (out.Act (act.Ended k t o) ∷ os) due = (due.0.1, tt)
@@ -54,14 +57,16 @@ broken-due d past n m (out.Act a ∷ os) due = (due.0, broken-due d (a ∷ past)
 broken-due d past n m (out.Send to said ∷ os) due = (due.0, broken-due d (act.Sent m n to said ∷ past) n (m + 1) os due.1)
 
 -- the acts of these outs, whatever the disk does
-pub acts-due : (d : DocumentData) (past : List Act) (n : NodeId) (m : ℕ) (b : Bool) (os : List Out) → OutsDue d past n m os → AreDue d past (numbered m n (kept b n os))
+pub acts-due : (d : DocumentData) (past : List Act) (n : NodeId) (m : ℕ) (b : Bool) (os : List Out)
+    → OutsDue d past n m os → AreDue d past (numbered m n (kept b n os))
 acts-due d past n m true os due = kept-due d past n m os due
 acts-due d past n m false os due = broken-due d past n m os due
 
 -- ---- lists of acts
 
 -- acts that are due behind a past each act of which was due
-pub all-after : (d : DocumentData) (past acts : List Act) → AllDue d past → AreDue d past acts → AllDue d (after past acts)
+pub all-after : (d : DocumentData) (past acts : List Act) → AllDue d past → AreDue d past acts
+    → AllDue d (after past acts)
 all-after d past [] all due = all
 all-after d past (a ∷ acts) all due = all-after d (a ∷ past) acts (due.0, all) due.1
 

@@ -37,11 +37,14 @@ use Rattle.grid_laws.proofs.DueActs.{OutsDue}
 
 -- ---- requests and Prepares
 
-due-to_node : (d : DocumentData) (past : List Act) (n : NodeId) (m : ℕ) (w : Option NodeId) (said : Message) → ((y : NodeId) → w ≡ Some y → SendDue d past n y said) → OutsDue d past n m (to_node w said)
+due-to_node : (d : DocumentData) (past : List Act) (n : NodeId) (m : ℕ) (w : Option NodeId) (said : Message)
+    → ((y : NodeId) → w ≡ Some y → SendDue d past n y said) → OutsDue d past n m (to_node w said)
 due-to_node d past n m None said go = tt
 due-to_node d past n m (Some y) said go = (go y refl, tt)
 
-due-request_of : (d : DocumentData) (past : List Act) (n : NodeId) (m : ℕ) (s : ScriptData) (x : Story) (j q : ℕ) (o : Option Op) → AtHome d past n s.number s x → waiting s.ops x.progress.values ≡ Some j → op_at s.ops j ≡ o → OutsDue d past n m (request_of d.cluster (open_of s x) j q o)
+due-request_of : (d : DocumentData) (past : List Act) (n : NodeId) (m : ℕ) (s : ScriptData) (x : Story) (j q : ℕ)
+    (o : Option Op) → AtHome d past n s.number s x → waiting s.ops x.progress.values ≡ Some j → op_at s.ops j ≡ o
+    → OutsDue d past n m (request_of d.cluster (open_of s x) j q o)
 due-request_of d past n m s x j q None at reads named = tt
 due-request_of d past n m s x j q (Some o) at reads named =
     due-to_node d past n m (slice_get (preferred d.cluster.places s.home (key_of o)) q) _
@@ -57,10 +60,15 @@ due-request_of d past n m s x j q (Some o) at reads named =
       date = refl;
     })
 
-pub due-request : (d : DocumentData) (past : List Act) (n : NodeId) (m : ℕ) (s : ScriptData) (x : Story) (j q : ℕ) → AtHome d past n s.number s x → waiting s.ops x.progress.values ≡ Some j → OutsDue d past n m (request d.cluster (open_of s x) j q)
+pub due-request : (d : DocumentData) (past : List Act) (n : NodeId) (m : ℕ) (s : ScriptData) (x : Story) (j q : ℕ)
+    → AtHome d past n s.number s x → waiting s.ops x.progress.values ≡ Some j
+    → OutsDue d past n m (request d.cluster (open_of s x) j q)
 due-request d past n m s x j q at reads = due-request_of d past n m s x j q (op_at s.ops j) at reads refl
 
-pub due-prepares : (d : DocumentData) (past : List Act) (n : NodeId) (m : ℕ) (s : ScriptData) (x : Story) (ns : List NodeId) → AtHome d past n s.number s x → waiting s.ops x.progress.values ≡ None → is_update s.ops ≡ true → ((y : NodeId) → is_among y ns ≡ true → is_among y (parts_of d s) ≡ true) → OutsDue d past n m (prepares d.cluster (open_of s x) ns)
+pub due-prepares : (d : DocumentData) (past : List Act) (n : NodeId) (m : ℕ) (s : ScriptData) (x : Story)
+    (ns : List NodeId) → AtHome d past n s.number s x → waiting s.ops x.progress.values ≡ None → is_update s.ops ≡ true
+    → ((y : NodeId) → is_among y ns ≡ true → is_among y (parts_of d s) ≡ true)
+    → OutsDue d past n m (prepares d.cluster (open_of s x) ns)
 due-prepares d past n m s x [] at full update parts = tt
 due-prepares d past n m s x (y ∷ ns) at full update parts = (
   record { script = s; story = x; at = at; full = full; update = update; part = parts y (grind (arith, nat_tests)); is = refl },
@@ -69,26 +77,39 @@ due-prepares d past n m s x (y ∷ ns) at full update parts = (
 
 -- ---- Advance
 
-due-owns : (d : DocumentData) (past : List Act) (n : NodeId) (m : ℕ) (t u : TxId) (s : ScriptData) (x : Story) (ys : List (ℕ × Value)) (rest : List Out) → AtHome d past n u s x → is_open (phase_at s (Some x) (node d past n)) ≡ true → ((now : List Act) → AtHome d now n u s x → is_open (phase_at s (Some x) (node d now n)) ≡ true → OutsDue d now n m rest) → OutsDue d past n m (map (λ y. out.Act (act.Own t y.0 y.1)) ys ++ rest)
+due-owns : (d : DocumentData) (past : List Act) (n : NodeId) (m : ℕ) (t u : TxId) (s : ScriptData) (x : Story)
+    (ys : List (ℕ × Value)) (rest : List Out) → AtHome d past n u s x
+    → is_open (phase_at s (Some x) (node d past n)) ≡ true → ((now : List Act) → AtHome d now n u s x
+    → is_open (phase_at s (Some x) (node d now n)) ≡ true → OutsDue d now n m rest)
+    → OutsDue d past n m (map (λ y. out.Act (act.Own t y.0 y.1)) ys ++ rest)
 due-owns d past n m t u s x [] rest at unended go = go past at unended
 due-owns d past n m t u s x (y ∷ ys) rest at unended go = (tt, due-owns d (act.Own t y.0 y.1 ∷ past) n m t u s x ys rest (record { script = at.script; home = at.home; story = at.story }) unended go)
 
-due-end : (d : DocumentData) (past : List Act) (n : NodeId) (m : ℕ) (s : ScriptData) (x : Story) (w : Option ℕ) (b : Bool) → AtHome d past n s.number s x → is_open (phase_at s (Some x) (node d past n)) ≡ true → waiting s.ops x.progress.values ≡ w → is_update s.ops ≡ b → OutsDue d past n m (advance_end d.cluster (open_of s x) w)
+due-end : (d : DocumentData) (past : List Act) (n : NodeId) (m : ℕ) (s : ScriptData) (x : Story) (w : Option ℕ)
+    (b : Bool) → AtHome d past n s.number s x → is_open (phase_at s (Some x) (node d past n)) ≡ true
+    → waiting s.ops x.progress.values ≡ w → is_update s.ops ≡ b
+    → OutsDue d past n m (advance_end d.cluster (open_of s x) w)
 due-end d past n m s x (Some j) b at unended reads update = due-request d past n m s x j 0 at reads
 due-end d past n m s x None true at unended reads update = rw update (due-prepares d past n m s x (parts_of d s) at reads update (λ y i. i))
 due-end d past n m s x None false at unended reads update = rw update (by_reads (record { n = n; script = s; story = x; at = at; unended = rw (at.home, at.story) unended; full = reads; reader = update }), tt)
 
-pub due-advance : (d : DocumentData) (past : List Act) (n : NodeId) (m : ℕ) (s : ScriptData) (x : Story) (i : ℕ) → AtHome d past n s.number s x → is_open (phase_at s (Some x) (node d past n)) ≡ true → OutsDue d past n m (advance d.cluster (open_of s x) i)
+pub due-advance : (d : DocumentData) (past : List Act) (n : NodeId) (m : ℕ) (s : ScriptData) (x : Story) (i : ℕ)
+    → AtHome d past n s.number s x → is_open (phase_at s (Some x) (node d past n)) ≡ true
+    → OutsDue d past n m (advance d.cluster (open_of s x) i)
 due-advance d past n m s x i at unended =
     due-owns d past n m s.number s.number s x (filter (λ y. nat_lt i y.0) (own_reads 1 [] unread x.progress.values s.ops)) (advance_end d.cluster (open_of s x) (waiting s.ops x.progress.values)) at unended
     (λ now at' open'. due-end d now n m s x (waiting s.ops x.progress.values) (is_update s.ops) at' open' refl refl)
 
 -- ---- a begin
 
-pub story-began : (d : DocumentData) (past : List Act) (t : TxId) (n : NodeId) (sid0 : Ident) → story d (act.Began t n sid0 ∷ past) t ≡ Some (begun_in d (node d past) t sid0)
+pub story-began : (d : DocumentData) (past : List Act) (t : TxId) (n : NodeId) (sid0 : Ident)
+    → story d (act.Began t n sid0 ∷ past) t ≡ Some (begun_in d (node d past) t sid0)
 story-began d past t n sid0 = rw (same-number t) refl
 
-pub due-begin : (d : DocumentData) (past : List Act) (m : ℕ) (s : ScriptData) → script_of s.number d.scripts ≡ Some s → IsUp d past s.home → story d past s.number ≡ None → is_busy_at d past s ≡ false → decision s.number (journal d past s.home) ≡ None → OutsDue d past s.home m (begin_outs s.home (participant (view d past s.home)) s (floor_at d past s))
+pub due-begin : (d : DocumentData) (past : List Act) (m : ℕ) (s : ScriptData) → script_of s.number d.scripts ≡ Some s
+    → IsUp d past s.home → story d past s.number ≡ None → is_busy_at d past s ≡ false
+    → decision s.number (journal d past s.home) ≡ None
+    → OutsDue d past s.home m (begin_outs s.home (participant (view d past s.home)) s (floor_at d past s))
 due-begin d past m s is up new quiet none =
     let sid0 : Ident = first_at d past s in (
       record { script = s; is = is; home = refl; up = up; new = new; undecided = none; quiet = quiet; ident = refl },
@@ -99,24 +120,31 @@ due-begin d past m s is up new quiet none =
 
 -- a read-only transaction whose reads all have their values was answered
 abbrev pub ReadersAnswered : DocumentData → List Act → Type 0
-ReadersAnswered d past = (t : TxId) (s : ScriptData) (x : Story) → script_of t d.scripts ≡ Some s → story d past t ≡ Some x → waiting s.ops x.progress.values ≡ None → is_update s.ops ≡ false → x.finished ≡ true
+ReadersAnswered d past =
+    (t : TxId) (s : ScriptData) (x : Story) → script_of t d.scripts ≡ Some s → story d past t ≡ Some x
+    → waiting s.ops x.progress.values ≡ None → is_update s.ops ≡ false → x.finished ≡ true
 
 -- an open transaction that was not answered is an update
-pub open-update : (d : DocumentData) (past : List Act) (n : NodeId) (s : ScriptData) (x : Story) (b : Bool) → is_update s.ops ≡ b → is_open (phase_at s (Some x) (node d past n)) ≡ true → (is_update s.ops ≡ false → x.finished ≡ true) → is_update s.ops ≡ true
+pub open-update : (d : DocumentData) (past : List Act) (n : NodeId) (s : ScriptData) (x : Story) (b : Bool)
+    → is_update s.ops ≡ b → is_open (phase_at s (Some x) (node d past n)) ≡ true
+    → (is_update s.ops ≡ false → x.finished ≡ true) → is_update s.ops ≡ true
 open-update d past n s x true e unended told = e
 open-update d past n s x false e unended told = absurd (closes (told e))
   where
     closes : x.finished ≡ true → ⊥
     closes done = grind (arith, unended, e, done)
 
-pub at-number : (d : DocumentData) (past : List Act) (n : NodeId) (t : TxId) (s : ScriptData) (x : Story) → AtHome d past n t s x → AtHome d past n s.number s x
+pub at-number : (d : DocumentData) (past : List Act) (n : NodeId) (t : TxId) (s : ScriptData) (x : Story)
+    → AtHome d past n t s x → AtHome d past n s.number s x
 at-number d past n t s x at = let P : TxId → Type 0 = λ u. AtHome d past n u s x in subst P (sym (script-number t d.scripts s at.script)) at
 
-pub due-tells : (d : DocumentData) (past : List Act) (n : NodeId) (m : ℕ) (t : TxId) (y : Decision) (ns : List NodeId) → undone t (journal d past n) ≡ Some y → OutsDue d past n m (tells t (outcome.Commit y.final) ns)
+pub due-tells : (d : DocumentData) (past : List Act) (n : NodeId) (m : ℕ) (t : TxId) (y : Decision) (ns : List NodeId)
+    → undone t (journal d past n) ≡ Some y → OutsDue d past n m (tells t (outcome.Commit y.final) ns)
 due-tells d past n m t y [] is = tt
 due-tells d past n m t y (x ∷ ns) is = (by_home y is refl, due-tells d (act.Sent m n x (message.Tell t (outcome.Commit y.final)) ∷ past) n (m + 1) t y ns is)
 
-pub due-retry : (d : DocumentData) (past : List Act) (n : NodeId) (m : ℕ) (t : TxId) (g : Stage) → ReadersAnswered d past → stage (view d past n) t ≡ g → OutsDue d past n m (retry_outs d.cluster t g)
+pub due-retry : (d : DocumentData) (past : List Act) (n : NodeId) (m : ℕ) (t : TxId) (g : Stage)
+    → ReadersAnswered d past → stage (view d past n) t ≡ g → OutsDue d past n m (retry_outs d.cluster t g)
 due-retry d past n m t (Reads x j) answered e =
     let o : Opens d past n t x (Some j) = opens-reads d past n t x j e in
     rw o.is (due-request d past n m o.script o.story j o.story.progress.turn (at-number d past n t o.script o.story o.at) o.reads)

@@ -30,12 +30,15 @@ use Rattle.journal_words.specs.Journals.{decision}
 
 -- ---- rows
 
-due-outs : (d : DocumentData) (past : List Act) (c : Choice) (n : NodeId) (os : List Out) → OutsDue d past n (next_number past) os → AreDue d past (acts_of past c n os)
+due-outs : (d : DocumentData) (past : List Act) (c : Choice) (n : NodeId) (os : List Out)
+    → OutsDue d past n (next_number past) os → AreDue d past (acts_of past c n os)
 due-outs d past c n os due = acts-due d past n (next_number past) c.keeps os due
 
 -- nothing is decided of a transaction that was not begun
 abbrev pub UnbegunUndecided : DocumentData → List Act → Type 0
-UnbegunUndecided d past = (t : TxId) (s : ScriptData) → script_of t d.scripts ≡ Some s → story d past t ≡ None → decision t (journal d past s.home) ≡ None
+UnbegunUndecided d past =
+    (t : TxId) (s : ScriptData) → script_of t d.scripts ≡ Some s → story d past t ≡ None
+    → decision t (journal d past s.home) ≡ None
 
 due-again : (d : DocumentData) (past : List Act) (n : NodeId) (os : List Out) → ReadersAnswered d past
     → (node d past n).up ≡ true
@@ -59,7 +62,8 @@ due-restart : (d : DocumentData) (past : List Act) (n : NodeId) (f : Flag) (open
 due-restart d past n f true = (tt, due-losses d past n f)
 due-restart d past n f false = (tt, tt)
 
-due-shape : (d : DocumentData) (past : List Act) (i : Item) (c : Choice) → ReadersAnswered d past → UnbegunUndecided d past
+due-shape : (d : DocumentData) (past : List Act) (i : Item) (c : Choice) → ReadersAnswered d past
+    → UnbegunUndecided d past
     → (s : Shape d past i) → AreDue d past (acts_by d past i c s)
 due-shape d past i c answered none (idle acts is) = due-idle d past acts is
 due-shape d past i c answered none (arms n k how is) = (tt, tt)
@@ -71,11 +75,13 @@ due-shape d past i c answered none (delivers m e is up) = ((e, is, up), acts-due
 due-shape d past i c answered none (again n os up is) = due-outs d past c n os (due-again d past n os answered up is)
 
 -- the acts of an event are due
-pub due-row : (d : DocumentData) (past : List Act) (e : Item) (c : Choice) → ReadersAnswered d past → UnbegunUndecided d past
+pub due-row : (d : DocumentData) (past : List Act) (e : Item) (c : Choice) → ReadersAnswered d past
+    → UnbegunUndecided d past
     → AreDue d past (row d past e c)
 due-row d past e c answered none = by-shape d past e c (AreDue d past) (due-shape d past e c answered none)
 
-due-starts : (d : DocumentData) (past : List Act) (opens : NodeId → Bool) (ns : List NodeId) → AreDue d past (map (start_act opens) ns)
+due-starts : (d : DocumentData) (past : List Act) (opens : NodeId → Bool) (ns : List NodeId)
+    → AreDue d past (map (start_act opens) ns)
 due-starts d past opens [] = tt
 due-starts d past opens (n ∷ ns) = (first (opens n), due-starts d (start_act opens n ∷ past) opens ns)
   where

@@ -33,12 +33,14 @@ use Rattle.grid_laws.proofs.NodesFit.{HoldsIn}
 -- ---- the message that was got last
 
 -- it is backed
-pub says-got : (d : DocumentData) (past : List Act) → AllDue d past → (e : Envelope) → got past ≡ Some e → Says d past e.from e.message
+pub says-got : (d : DocumentData) (past : List Act) → AllDue d past → (e : Envelope) → got past ≡ Some e
+    → Says d past e.from e.message
 says-got d past due e is = got-hold (λ now n y said. Says d now n said) d past (λ now a n y said all h. says-more d now a n said h) (λ now n y said all h. says-due d now n y said all h) due e is
 
 -- ---- what a part did not end
 
-pub all-found : (P : NodeId → Bool) (ns : List NodeId) (n : NodeId) → list_all P ns ≡ true → is_among n ns ≡ true → P n ≡ true
+pub all-found : (P : NodeId → Bool) (ns : List NodeId) (n : NodeId) → list_all P ns ≡ true → is_among n ns ≡ true
+    → P n ≡ true
 all-found P [] n all i = cc
 all-found P (k ∷ ns) n all i = elim (cases_eq k n) [
   | inl same ↦ (let Q : NodeId → Type 0 = λ z. P z ≡ true in subst Q same (grind (arith, all)))
@@ -46,7 +48,8 @@ all-found P (k ∷ ns) n all i = elim (cases_eq k n) [
 ]
 
 -- a transaction that is pending at a node is not over
-pub pending-not-over : (d : DocumentData) (past : List Act) (n : NodeId) (t : TxId) (p : Ident) → AllDue d past → pending t (journal d past n) ≡ Some p → is_over d past t ≡ true → ⊥
+pub pending-not-over : (d : DocumentData) (past : List Act) (n : NodeId) (t : TxId) (p : Ident) → AllDue d past
+    → pending t (journal d past n) ≡ Some p → is_over d past t ≡ true → ⊥
 pending-not-over d past n t p all e over =
     let fit = (nodes-fit d past all n).fits in
     let x = pending-prepared t p (journal d past n) e in
@@ -67,22 +70,28 @@ aborted-more past a (record'.Ended t outcome.Abort) h = given-more a past t h
 aborted-more past a (record'.Ended t (outcome.Commit f)) h = tt
 aborted-more past a y h = tt
 
-abort-due : (d : DocumentData) (past : List Act) (n : NodeId) (t : TxId) → AllDue d past → ((e : Envelope) → got past ≡ Some e → MeansNever d past e.from e.message) → EndedDue d past n t outcome.Abort → is_given_up t past ≡ true
+abort-due : (d : DocumentData) (past : List Act) (n : NodeId) (t : TxId) → AllDue d past
+    → ((e : Envelope) → got past ≡ Some e → MeansNever d past e.from e.message) → EndedDue d past n t outcome.Abort
+    → is_given_up t past ≡ true
 abort-due d past n t all means due = go (is_given_up t past) (pending t (journal d past n)) refl due.fit (means (record { from = due.from; to = n; message = message.Tell t outcome.Abort }) due.got)
   where
-    go : (b : Bool) (o : Option Ident) → pending t (journal d past n) ≡ o → fits_outcome o outcome.Abort ≡ true → (b || is_over d past t) ≡ true → b ≡ true
+    go : (b : Bool) (o : Option Ident) → pending t (journal d past n) ≡ o → fits_outcome o outcome.Abort ≡ true
+        → (b || is_over d past t) ≡ true → b ≡ true
     go true o e fits never = refl
     go false None e fits never = cc
     go false (Some p) e fits never = absurd (pending-not-over d past n t p all e never)
 
-aborted-kept : (d : DocumentData) (past : List Act) (n : NodeId) (h : Head) → AllDue d past → ((e : Envelope) → got past ≡ Some e → MeansNever d past e.from e.message) → RecordDue d past n h → HoldsIn (AbortedSays past) (record_of d (got past) h)
+aborted-kept : (d : DocumentData) (past : List Act) (n : NodeId) (h : Head) → AllDue d past
+    → ((e : Envelope) → got past ≡ Some e → MeansNever d past e.from e.message) → RecordDue d past n h
+    → HoldsIn (AbortedSays past) (record_of d (got past) h)
 aborted-kept d past n (head.Ended t outcome.Abort) all means due = abort-due d past n t all means due.1
 aborted-kept d past n (head.Ended t (outcome.Commit f)) all means due = tt
 aborted-kept d past n (head.Prepared t p) all means due = let P : Option Record → Type 0 = λ o. HoldsIn (AbortedSays past) o in subst P (sym (prepared-is d past n t p due.1)) tt
 aborted-kept d past n h all means due = tt
 
 -- each abort that was told is final, and each that ended was given up
-aborts-told : (d : DocumentData) (past : List Act) → AllDue d past → BothHold (λ n y said. MeansNever d past n said) (λ n r. AbortedSays past r) d past
+aborts-told : (d : DocumentData) (past : List Act) → AllDue d past
+    → BothHold (λ n y said. MeansNever d past n said) (λ n r. AbortedSays past r) d past
 aborts-told d past due =
     both-hold (λ now n y said. MeansNever d now n said) (λ now n r. AbortedSays now r) d past
     (λ now a n y said all h. means-more d now a n said h)
@@ -92,7 +101,8 @@ aborts-told d past due =
     due
 
 -- what ended with abort was given up
-pub abort-given-up : (d : DocumentData) (past : List Act) → AllDue d past → (n : NodeId) (t : TxId) → ended t (journal d past n) ≡ Some outcome.Abort → is_given_up t past ≡ true
+pub abort-given-up : (d : DocumentData) (past : List Act) → AllDue d past → (n : NodeId) (t : TxId)
+    → ended t (journal d past n) ≡ Some outcome.Abort → is_given_up t past ≡ true
 abort-given-up d past all n t e = ended-holds (AbortedSays past) t outcome.Abort (journal d past n) ((aborts-told d past all).of_records n).journal e
 
 pub aborts-final : (d : DocumentData) (past : List Act) → AllDue d past → AbortsFinal d past

@@ -27,7 +27,8 @@ use Rattle.grid_laws.proofs.OutProposals.{outs_weight, weight-acts, none-again, 
 
 -- ---- an event proposes at most once
 
-one-acts : (past : List Act) (c : Choice) (n : NodeId) (os : List Out) → outs_weight os ≤ 1 → proposals (acts_of past c n os) ≤ 1
+one-acts : (past : List Act) (c : Choice) (n : NodeId) (os : List Out) → outs_weight os ≤ 1
+    → proposals (acts_of past c n os) ≤ 1
 one-acts past c n os h = omega (arith, weight-acts (next_number past) n c.keeps os, h)
 
 proposals-append : (xs ys : List Act) → proposals (xs ++ ys) ≡ proposals xs + proposals ys
@@ -47,7 +48,8 @@ one-restart d past n f false = omega arith
 one-behind : (a : Act) (xs : List Act) → weight a ≡ 0 → proposals xs ≤ 1 → proposals (a ∷ xs) ≤ 1
 one-behind a xs h k = omega (arith, h, k)
 
-one-shape : (d : DocumentData) (past : List Act) (i : Item) (c : Choice) (s : Shape d past i) → proposals (acts_by d past i c s) ≤ 1
+one-shape : (d : DocumentData) (past : List Act) (i : Item) (c : Choice) (s : Shape d past i)
+    → proposals (acts_by d past i c s) ≤ 1
 one-shape d past i c (idle acts is) = omega (arith, none-idle acts is)
 one-shape d past i c (arms n k how is) = omega arith
 one-shape d past i c (crashes n up) = omega arith
@@ -67,7 +69,8 @@ one-row d past e c = by-shape d past e c (λ acts. proposals acts ≤ 1) (one-sh
 
 -- ---- a run proposes at most once for each event
 
-one-each : (d : DocumentData) (past : List Act) (es : List Item) (h : List Act) → Rows d past es h → proposals h ≤ length es
+one-each : (d : DocumentData) (past : List Act) (es : List Item) (h : List Act) → Rows d past es h
+    → proposals h ≤ length es
 unfolding Rows
 one-each d past [] h rows = rw rows (omega arith)
 one-each d past (e ∷ es) h rows =
@@ -90,7 +93,8 @@ length-events [] = refl
 length-events (i ∷ items) = omega (arith, length-append (events_in i) (flat_map events_in items), length-events_in i, length-events items, sum_by-cons events_of i items)
 
 -- a run proposes at most once for each event
-pub few-proposals : (d : DocumentData) (items : List Item) (h : List Act) → IsRun d items h → proposals (after [] h) ≤ sum_by events_of items
+pub few-proposals : (d : DocumentData) (items : List Item) (h : List Act) → IsRun d items h
+    → proposals (after [] h) ≤ sum_by events_of items
 few-proposals d items h run =
     let first : List Act = start_row d.cluster.nodes run.opens in
     let rest : proposals run.rest ≤ length (flat_map events_in items) = one-each d (after [] first) (flat_map events_in items) run.rest run.rows in

@@ -20,7 +20,8 @@ use Rattle.grid_model.specs.Facts.{IsAtMost}
 use Rattle.grid_laws.proofs.LowWords.{IsLowRecord, IsLowStory, decision-low, nodes-low, snapshot-low, stories-low}
 use Rattle.grid_laws.proofs.NodesFit.{AllHold}
 
-later-low : (m k : ℕ) (t : TxId) (r : List Record) → AllHold (IsLowRecord m) r → (y : Decision) → later_decision k t r ≡ Some y → y.final ≤ m
+later-low : (m k : ℕ) (t : TxId) (r : List Record) → AllHold (IsLowRecord m) r → (y : Decision)
+    → later_decision k t r ≡ Some y → y.final ≤ m
 later-low m k t r low y is = go (nat_lt k (times_decided t r)) is
   where
     go : (b : Bool) → (if b then decision t r else None) ≡ Some y → y.final ≤ m
@@ -31,21 +32,26 @@ open-left : (o : Option ℕ) (x : Option Story) (m : ℕ) → left_by (open_phas
 open-left None x m = omega arith
 open-left (Some j) x m = omega arith
 
-undecided-left : (m : ℕ) (ops : List Op) (x : Story) → IsLowStory m (Some x) → left_by (undecided_phase ops x) (Some x) ≤ m
+undecided-left : (m : ℕ) (ops : List Op) (x : Story) → IsLowStory m (Some x)
+    → left_by (undecided_phase ops x) (Some x) ≤ m
 undecided-left m ops x low = go x.aborted (x.finished && not (is_update ops))
   where
-    go : (a f : Bool) → left_by (if a then Aborted else (if f then Answered else open_phase (waiting ops x.progress.values))) (Some x) ≤ m
+    go : (a f : Bool)
+        → left_by (if a then Aborted else (if f then Answered else open_phase (waiting ops x.progress.values))) (Some x)
+        ≤ m
     go true f = omega arith
     go false true = snapshot-low m x low
     go false false = open-left (waiting ops x.progress.values) (Some x) m
 
-decided-left : (m : ℕ) (ops : List Op) (x : Story) (closed : Bool) (o : Option Decision) → IsLowStory m (Some x) → ((y : Decision) → o ≡ Some y → y.final ≤ m) → left_by (decided_phase ops x closed o) (Some x) ≤ m
+decided-left : (m : ℕ) (ops : List Op) (x : Story) (closed : Bool) (o : Option Decision) → IsLowStory m (Some x)
+    → ((y : Decision) → o ≡ Some y → y.final ≤ m) → left_by (decided_phase ops x closed o) (Some x) ≤ m
 decided-left m ops x closed None low final = undecided-left m ops x low
 decided-left m ops x true (Some y) low final = final y refl
 decided-left m ops x false (Some y) low final = final y refl
 
 -- what a transaction leaves
-left-low : (m : ℕ) (s : ScriptData) (o : Option Story) (h : Node) → AllHold (IsLowRecord m) h.journal → IsLowStory m o → left_by (phase_at s o h) o ≤ m
+left-low : (m : ℕ) (s : ScriptData) (o : Option Story) (h : Node) → AllHold (IsLowRecord m) h.journal → IsLowStory m o
+    → left_by (phase_at s o h) o ≤ m
 left-low m s None h records low = omega arith
 left-low m s (Some x) h records low = go x.lost
   where
@@ -56,16 +62,20 @@ left-low m s (Some x) h records low = go x.lost
     go true = omega arith
     go false = decided-left m s.ops x (is_closed s.number h.journal) y low (λ z is. later-low m x.skipped s.number h.journal records z is)
 
-among-low : (m : ℕ) (d : DocumentData) (past : List Act) (k : ℕ) (ss : List ScriptData) → EachAct (IsAtMost m) past → floor_among (state_of d past) k ss ≤ m
+among-low : (m : ℕ) (d : DocumentData) (past : List Act) (k : ℕ) (ss : List ScriptData) → EachAct (IsAtMost m) past
+    → floor_among (state_of d past) k ss ≤ m
 among-low m d past k [] low = omega arith
 among-low m d past k (s ∷ ss) low =
     let here : left_on (state_of d past) s ≤ m = left-low m s (story d past s.number) (node d past s.home) (nodes-low m d past low s.home).journal (stories-low m d past low s.number) in
     either (is_of k s) here (among-low m d past k ss low)
   where
-    either : (b : Bool) → left_on (state_of d past) s ≤ m → floor_among (state_of d past) k ss ≤ m → (if b then max (left_on (state_of d past) s) (floor_among (state_of d past) k ss) else floor_among (state_of d past) k ss) ≤ m
+    either : (b : Bool) → left_on (state_of d past) s ≤ m → floor_among (state_of d past) k ss ≤ m → (if b
+        then max (left_on (state_of d past) s) (floor_among (state_of d past) k ss)
+        else floor_among (state_of d past) k ss) ≤ m
     either true here rest = omega (arith, here, rest)
     either false here rest = rest
 
 -- the floor of a session
-pub floor_at-low : (m : ℕ) (d : DocumentData) (past : List Act) (s : ScriptData) → EachAct (IsAtMost m) past → floor_at d past s ≤ m
+pub floor_at-low : (m : ℕ) (d : DocumentData) (past : List Act) (s : ScriptData) → EachAct (IsAtMost m) past
+    → floor_at d past s ≤ m
 floor_at-low m d past s low = among-low m d past s.session d.scripts low

@@ -29,7 +29,8 @@ is_steady (act.Up n f) = false
 is_steady (act.StillDown n) = false
 is_steady a = true
 
-pub up-stays : (d : DocumentData) (past : List Act) (a : Act) (n : NodeId) → is_steady a ≡ true → (node d (a ∷ past) n).up ≡ (node d past n).up
+pub up-stays : (d : DocumentData) (past : List Act) (a : Act) (n : NodeId) → is_steady a ≡ true
+    → (node d (a ∷ past) n).up ≡ (node d past n).up
 up-stays d past a n h = grind arith
 
 -- an act that writes nothing and opens no node
@@ -42,7 +43,8 @@ is_mute (act.Closed t) = false
 is_mute (act.Up n f) = false
 is_mute a = true
 
-pub journal-stays : (d : DocumentData) (past : List Act) (a : Act) (n : NodeId) → is_mute a ≡ true → journal d (a ∷ past) n ≡ journal d past n
+pub journal-stays : (d : DocumentData) (past : List Act) (a : Act) (n : NodeId) → is_mute a ≡ true
+    → journal d (a ∷ past) n ≡ journal d past n
 journal-stays d past a n h = grind arith
 
 -- ---- the reads that are held were held once
@@ -62,12 +64,14 @@ pub in-last : (h : HeldRead) (hs : List HeldRead) → IsIn h (hs ++ h ∷ [])
 in-last h [] = inl refl
 in-last h (y ∷ hs) = inr (in-last h hs)
 
-in-rest : (h : HeldRead) (b : Bool) (x : HeldRead) (hs rest : List HeldRead) → (IsIn h rest → IsIn h hs) → IsIn h (if b then hs else x ∷ rest) → IsIn h (x ∷ hs)
+in-rest : (h : HeldRead) (b : Bool) (x : HeldRead) (hs rest : List HeldRead) → (IsIn h rest → IsIn h hs)
+    → IsIn h (if b then hs else x ∷ rest) → IsIn h (x ∷ hs)
 in-rest h true x hs rest go i = inr i
 in-rest h false x hs rest go (inl same) = inl same
 in-rest h false x hs rest go (inr more) = inr (go more)
 
-in-without : (h : HeldRead) (t : TxId) (op : ℕ) (k : Key) (sid : Ident) (hs : List HeldRead) → IsIn h (without_read t op k sid hs) → IsIn h hs
+in-without : (h : HeldRead) (t : TxId) (op : ℕ) (k : Key) (sid : Ident) (hs : List HeldRead)
+    → IsIn h (without_read t op k sid hs) → IsIn h hs
 in-without h t op k sid [] i = i
 in-without h t op k sid (x ∷ hs) i = in-rest h (is_read t op k sid x) x hs (without_read t op k sid hs) (in-without h t op k sid hs) i
 
@@ -78,28 +82,35 @@ is_still (act.Served n t op k sid vn v) = false
 is_still (act.Down n h) = false
 is_still a = true
 
-pub held-stays : (d : DocumentData) (e : Option Envelope) (a : Act) (n : NodeId) (x : Node) → is_still a ≡ true → (changed (change d e a n) x).held ≡ x.held
+pub held-stays : (d : DocumentData) (e : Option Envelope) (a : Act) (n : NodeId) (x : Node) → is_still a ≡ true
+    → (changed (change d e a n) x).held ≡ x.held
 held-stays d e a n x h = grind arith
 
-held-where : (h : HeldRead) (b : Bool) (o : Option HeldRead) (x : Node) (ever : List HeldRead) → ((i : HeldRead) → IsIn i x.held → IsIn i ever) → IsIn h (changed (where_at b (Holds o)) x).held → IsIn h (if b then with_held o ever else ever)
+held-where : (h : HeldRead) (b : Bool) (o : Option HeldRead) (x : Node) (ever : List HeldRead)
+    → ((i : HeldRead) → IsIn i x.held → IsIn i ever) → IsIn h (changed (where_at b (Holds o)) x).held
+    → IsIn h (if b then with_held o ever else ever)
 held-where h false o x ever go i = go h i
 held-where h true None x ever go i = go h i
 held-where h true (Some y) x ever go i = elim (in-append h y x.held i) [ inl j ↦ in-more h y ever (go h j) | inr e ↦ let P : HeldRead → Type 0 = λ z. IsIn z (ever ++ y ∷ []) in subst P e (in-last y ever) ]
 
-freed-where : (h : HeldRead) (b c : Bool) (t : TxId) (op : ℕ) (k : Key) (sid : Ident) (x : Node) → IsIn h (changed (where_at b (freed c t op k sid)) x).held → IsIn h x.held
+freed-where : (h : HeldRead) (b c : Bool) (t : TxId) (op : ℕ) (k : Key) (sid : Ident) (x : Node)
+    → IsIn h (changed (where_at b (freed c t op k sid)) x).held → IsIn h x.held
 freed-where h false c t op k sid x i = i
 freed-where h true true t op k sid x i = i
 freed-where h true false t op k sid x i = in-without h t op k sid x.held i
 
-stop-where : (h : HeldRead) (b : Bool) (o : Option Record) (x : Node) → IsIn h (changed (where_at b (Stops o)) x).held → IsIn h x.held
+stop-where : (h : HeldRead) (b : Bool) (o : Option Record) (x : Node) → IsIn h (changed (where_at b (Stops o)) x).held
+    → IsIn h x.held
 stop-where h false o x i = i
 stop-where h true o x i = absurd i
 
-still-held : (d : DocumentData) (past : List Act) (a : Act) (n : NodeId) (h : HeldRead) → is_still a ≡ true → IsIn h (node d (a ∷ past) n).held → IsIn h (node d past n).held
+still-held : (d : DocumentData) (past : List Act) (a : Act) (n : NodeId) (h : HeldRead) → is_still a ≡ true
+    → IsIn h (node d (a ∷ past) n).held → IsIn h (node d past n).held
 still-held d past a n h still i = let P : List HeldRead → Type 0 = λ hs. IsIn h hs in subst P (held-stays d (got past) a n (node d past n) still) i
 
 -- each held read was held once
-pub in-held : (d : DocumentData) (past : List Act) (n : NodeId) (h : HeldRead) → IsIn h (node d past n).held → IsIn h (held_ever d past n)
+pub in-held : (d : DocumentData) (past : List Act) (n : NodeId) (h : HeldRead) → IsIn h (node d past n).held
+    → IsIn h (held_ever d past n)
 in-held d [] n h i = i
 in-held d (act.Held m t op sid ∷ past) n h i = held-where h (m == n) (held_by (got past) t op sid) (node d past n) (held_ever d past n) (λ j. in-held d past n j) i
 in-held d (act.Served m t op k sid vn v ∷ past) n h i = in-held d past n h (freed-where h (m == n) (is_request (said_by (got past))) t op k sid (node d past n) i)

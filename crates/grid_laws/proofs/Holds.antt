@@ -27,13 +27,16 @@ use Rattle.grid_laws.proofs.NodesFitActs.{nodes-fit, closed-home}
 
 -- ---- messages
 
-slice-last : (xs : List Envelope) (e y : Envelope) (i : ℕ) → slice_get (xs ++ e ∷ []) i ≡ Some y → (slice_get xs i ≡ Some y) ⊎ (e ≡ y)
+slice-last : (xs : List Envelope) (e y : Envelope) (i : ℕ) → slice_get (xs ++ e ∷ []) i ≡ Some y
+    → (slice_get xs i ≡ Some y) ⊎ (e ≡ y)
 slice-last [] e y zero is = inr (cc)
 slice-last [] e y (suc i) is = cc
 slice-last (x ∷ xs) e y zero is = inl is
 slice-last (x ∷ xs) e y (suc i) is = slice-last xs e y i is
 
-pub sent-last : (m : ℕ) (b : Bool) (ms : List Envelope) (e y : Envelope) → (if b then None else slice_get (ms ++ e ∷ []) (m - 1)) ≡ Some y → ((if b then None else slice_get ms (m - 1)) ≡ Some y) ⊎ (e ≡ y)
+pub sent-last : (m : ℕ) (b : Bool) (ms : List Envelope) (e y : Envelope)
+    → (if b then None else slice_get (ms ++ e ∷ []) (m - 1)) ≡ Some y
+    → ((if b then None else slice_get ms (m - 1)) ≡ Some y) ⊎ (e ≡ y)
 sent-last m true ms e y is = cc
 sent-last m false ms e y is = slice-last ms e y (m - 1) is
 
@@ -42,7 +45,11 @@ sent-none m true y is = cc
 sent-none m false y is = cc
 
 -- each message that was sent
-pub sent-hold : (C : List Act → NodeId → NodeId → Message → Type 0) (d : DocumentData) (past : List Act) → ((now : List Act) (a : Act) (n y : NodeId) (said : Message) → AllDue d (a ∷ now) → C now n y said → C (a ∷ now) n y said) → ((now : List Act) (n y : NodeId) (said : Message) → AllDue d now → SendDue d now n y said → C now n y said) → AllDue d past → (m : ℕ) (e : Envelope) → sent_at m (sent past) ≡ Some e → C past e.from e.to e.message
+pub sent-hold : (C : List Act → NodeId → NodeId → Message → Type 0) (d : DocumentData) (past : List Act)
+    → ((now : List Act) (a : Act) (n y : NodeId) (said : Message) → AllDue d (a ∷ now) → C now n y said
+    → C (a ∷ now) n y said)
+    → ((now : List Act) (n y : NodeId) (said : Message) → AllDue d now → SendDue d now n y said → C now n y said)
+    → AllDue d past → (m : ℕ) (e : Envelope) → sent_at m (sent past) ≡ Some e → C past e.from e.to e.message
 sent-hold C d [] more new due m e is = absurd (sent-none m (m == 0) e is)
 sent-hold C d (act.Sent k x y said ∷ past) more new due m e is = elim (sent-last m (m == 0) (sent past) (record { from = x; to = y; message = said }) e is) [
   | inl before ↦ more past (act.Sent k x y said) e.from e.to e.message due (sent-hold C d past more new due.1 m e before)
@@ -51,7 +58,11 @@ sent-hold C d (act.Sent k x y said ∷ past) more new due m e is = elim (sent-la
 sent-hold C d (a ∷ past) more new due m e is = more past a e.from e.to e.message due (sent-hold C d past more new due.1 m e is)
 
 -- the message that was got last
-pub got-hold : (C : List Act → NodeId → NodeId → Message → Type 0) (d : DocumentData) (past : List Act) → ((now : List Act) (a : Act) (n y : NodeId) (said : Message) → AllDue d (a ∷ now) → C now n y said → C (a ∷ now) n y said) → ((now : List Act) (n y : NodeId) (said : Message) → AllDue d now → SendDue d now n y said → C now n y said) → AllDue d past → (e : Envelope) → got past ≡ Some e → C past e.from e.to e.message
+pub got-hold : (C : List Act → NodeId → NodeId → Message → Type 0) (d : DocumentData) (past : List Act)
+    → ((now : List Act) (a : Act) (n y : NodeId) (said : Message) → AllDue d (a ∷ now) → C now n y said
+    → C (a ∷ now) n y said)
+    → ((now : List Act) (n y : NodeId) (said : Message) → AllDue d now → SendDue d now n y said → C now n y said)
+    → AllDue d past → (e : Envelope) → got past ≡ Some e → C past e.from e.to e.message
 got-hold C d [] more new due e is = cc
 got-hold C d (act.Got m ∷ past) more new due e is = more past (act.Got m) e.from e.to e.message due (sent-hold C d past more new due.1 m e is)
 got-hold C d (a ∷ past) more new due e is = more past a e.from e.to e.message due (got-hold C d past more new due.1 e is)
@@ -68,7 +79,8 @@ ChangeHolds C (Writes o) = HoldsIn C o
 ChangeHolds C (Stops o) = HoldsIn C o
 ChangeHolds C c = Unit {0}
 
-hold-changed : (C : Record → Type 0) (x : Node) (c : Change) → NodeHolds C x → ChangeHolds C c → NodeHolds C (changed c x)
+hold-changed : (C : Record → Type 0) (x : Node) (c : Change) → NodeHolds C x → ChangeHolds C c
+    → NodeHolds C (changed c x)
 hold-changed C x Nothing s due = s
 hold-changed C x (Writes None) s due = s
 hold-changed C x (Writes (Some y)) s due = record { journal = (due, s.journal); doubt = s.doubt }
@@ -79,15 +91,20 @@ hold-changed C x (Stops o) s due = record { journal = s.journal; doubt = due }
 hold-changed C x (Starts b) s due = record { journal = hold-found C b x.doubt x.journal s.journal s.doubt; doubt = tt }
 hold-changed C x Stays s due = record { journal = s.journal; doubt = s.doubt }
 
-hold-freed : (C : Record → Type 0) (b : Bool) (t : TxId) (op : ℕ) (k : Key) (sid : Ident) → ChangeHolds C (freed b t op k sid)
+hold-freed : (C : Record → Type 0) (b : Bool) (t : TxId) (op : ℕ) (k : Key) (sid : Ident)
+    → ChangeHolds C (freed b t op k sid)
 hold-freed C true t op k sid = tt
 hold-freed C false t op k sid = tt
 
-hold-stop : (C : NodeId → Record → Type 0) (d : DocumentData) (past : List Act) (n : NodeId) (h : Option Head) → ((k : NodeId) (h : Head) → RecordDue d past k h → HoldsIn (C k) (record_of d (got past) h)) → StopDue d past n h → ChangeHolds (C n) (Stops (doubt_of d (got past) h))
+hold-stop : (C : NodeId → Record → Type 0) (d : DocumentData) (past : List Act) (n : NodeId) (h : Option Head)
+    → ((k : NodeId) (h : Head) → RecordDue d past k h → HoldsIn (C k) (record_of d (got past) h)) → StopDue d past n h
+    → ChangeHolds (C n) (Stops (doubt_of d (got past) h))
 hold-stop C d past n None new due = tt
 hold-stop C d past n (Some h) new due = new n h due
 
-hold-change : (C : NodeId → Record → Type 0) (d : DocumentData) (past : List Act) (a : Act) (n : NodeId) → AllDue d past → ((k : NodeId) (h : Head) → RecordDue d past k h → HoldsIn (C k) (record_of d (got past) h)) → IsDue d past a → ChangeHolds (C n) (change d (got past) a n)
+hold-change : (C : NodeId → Record → Type 0) (d : DocumentData) (past : List Act) (a : Act) (n : NodeId) → AllDue d past
+    → ((k : NodeId) (h : Head) → RecordDue d past k h → HoldsIn (C k) (record_of d (got past) h)) → IsDue d past a
+    → ChangeHolds (C n) (change d (got past) a n)
 hold-change C d past (act.Prepared m t p) n all new due = at-node (λ k c. ChangeHolds (C k) c) m n (Writes (prepared_by (got past) t p)) (new m (head.Prepared t p) due) (λ k. tt)
 hold-change C d past (act.Ended m t o) n all new due = at-node (λ k c. ChangeHolds (C k) c) m n (Writes (Some (record'.Ended t o))) (new m (head.Ended t o) due) (λ k. tt)
 hold-change C d past (act.Ceiling m c) n all new due = at-node (λ k c. ChangeHolds (C k) c) m n (Writes (Some (record'.Ceiling c))) (new m (head.Ceiling c) due) (λ k. tt)
@@ -110,7 +127,10 @@ holds-in-more P Q None go h = tt
 holds-in-more P Q (Some y) go h = go y h
 
 -- each record of each node
-pub records-hold : (C : List Act → NodeId → Record → Type 0) (d : DocumentData) (past : List Act) → ((now : List Act) (a : Act) (n : NodeId) (y : Record) → AllDue d (a ∷ now) → C now n y → C (a ∷ now) n y) → ((now : List Act) (n : NodeId) (h : Head) → AllDue d now → RecordDue d now n h → HoldsIn (C now n) (record_of d (got now) h)) → AllDue d past → (n : NodeId) → NodeHolds (C past n) (node d past n)
+pub records-hold : (C : List Act → NodeId → Record → Type 0) (d : DocumentData) (past : List Act)
+    → ((now : List Act) (a : Act) (n : NodeId) (y : Record) → AllDue d (a ∷ now) → C now n y → C (a ∷ now) n y)
+    → ((now : List Act) (n : NodeId) (h : Head) → AllDue d now → RecordDue d now n h
+    → HoldsIn (C now n) (record_of d (got now) h)) → AllDue d past → (n : NodeId) → NodeHolds (C past n) (node d past n)
 records-hold C d [] more new due n = record { journal = tt; doubt = tt }
 records-hold C d (a ∷ past) more new due n =
     let before : NodeHolds (C past n) (node d past n) = records-hold C d past more new due.1 n in
@@ -121,7 +141,8 @@ records-hold C d (a ∷ past) more new due n =
     }
 
 -- what holds of each record holds of how a transaction ended
-pub ended-holds : (C : Record → Type 0) (t : TxId) (o : Outcome) (r : List Record) → AllHold C r → ended t r ≡ Some o → C (record'.Ended t o)
+pub ended-holds : (C : Record → Type 0) (t : TxId) (o : Outcome) (r : List Record) → AllHold C r → ended t r ≡ Some o
+    → C (record'.Ended t o)
 ended-holds C t o [] says e = cc
 ended-holds C t o (record'.Ended u w ∷ r) says e = elim (cases_eq u t) [
   | inl same ↦
@@ -140,7 +161,8 @@ ended-holds C t o (record'.Closed u ∷ r) says e = ended-holds C t o r says.1 e
 -- ---- messages and records together
 
 -- a claim on each message that was sent, on the one that was got last, and on each record of each node
-pub record BothHold (C : NodeId → NodeId → Message → Type 0) (E : NodeId → Record → Type 0) (d : DocumentData) (past : List Act) : Type 0 where
+pub record BothHold (C : NodeId → NodeId → Message → Type 0) (E : NodeId → Record → Type 0) (d : DocumentData)
+    (past : List Act) : Type 0 where
   pub of_sent : (m : ℕ) (e : Envelope) → sent_at m (sent past) ≡ Some e → C e.from e.to e.message
   pub of_got : (e : Envelope) → got past ≡ Some e → C e.from e.to e.message
   pub of_records : (n : NodeId) → NodeHolds (E n) (node d past n)
@@ -157,7 +179,8 @@ both-sent C d past (act.Sent k x y said) more new due before m e is = elim (sent
 ]
 both-sent C d past a more new due before m e is = more e.from e.to e.message (before m e is)
 
-both-got : (C : List Act → NodeId → NodeId → Message → Type 0) (E : NodeId → Record → Type 0) (d : DocumentData) (past : List Act) (a : Act)
+both-got : (C : List Act → NodeId → NodeId → Message → Type 0) (E : NodeId → Record → Type 0) (d : DocumentData)
+    (past : List Act) (a : Act)
     → ((n y : NodeId) (said : Message) → C past n y said → C (a ∷ past) n y said)
     → BothHold (C past) E d past
     → (e : Envelope) → got (a ∷ past) ≡ Some e → C (a ∷ past) e.from e.to e.message
@@ -165,11 +188,15 @@ both-got C E d past (act.Got m) more before e is = more e.from e.to e.message (b
 both-got C E d past a more before e is = more e.from e.to e.message (before.of_got e is)
 
 -- what each message says by the records behind it, and each record by the message behind it
-pub both-hold : (C : List Act → NodeId → NodeId → Message → Type 0) (E : List Act → NodeId → Record → Type 0) (d : DocumentData) (past : List Act)
-    → ((now : List Act) (a : Act) (n y : NodeId) (said : Message) → AllDue d (a ∷ now) → C now n y said → C (a ∷ now) n y said)
+pub both-hold : (C : List Act → NodeId → NodeId → Message → Type 0) (E : List Act → NodeId → Record → Type 0)
+    (d : DocumentData) (past : List Act)
+    → ((now : List Act) (a : Act) (n y : NodeId) (said : Message) → AllDue d (a ∷ now) → C now n y said
+    → C (a ∷ now) n y said)
     → ((now : List Act) (a : Act) (n : NodeId) (y : Record) → AllDue d (a ∷ now) → E now n y → E (a ∷ now) n y)
-    → ((now : List Act) (n y : NodeId) (said : Message) → AllDue d now → BothHold (C now) (E now) d now → SendDue d now n y said → C now n y said)
-    → ((now : List Act) (n : NodeId) (h : Head) → AllDue d now → BothHold (C now) (E now) d now → RecordDue d now n h → HoldsIn (E now n) (record_of d (got now) h))
+    → ((now : List Act) (n y : NodeId) (said : Message) → AllDue d now → BothHold (C now) (E now) d now
+    → SendDue d now n y said → C now n y said)
+    → ((now : List Act) (n : NodeId) (h : Head) → AllDue d now → BothHold (C now) (E now) d now → RecordDue d now n h
+    → HoldsIn (E now n) (record_of d (got now) h))
     → AllDue d past → BothHold (C past) (E past) d past
 both-hold C E d [] more_said more_kept said kept due = record {
   of_sent = λ m e is. absurd (sent-none m (m == 0) e is);

@@ -79,7 +79,8 @@ pub yes-backed : (has_sent is_yes committed ≡ true) × (has_prepared 1 1 (jour
 yes-backed = (refl, refl)
 
 -- the commit with 1 was told, and the Decided with 1 stands at the home
-pub commit-backed : (has_sent is_commit_told committed ≡ true) × (has_decided 1 1 (journal read_then_write committed 1) ≡ true)
+pub commit-backed : (has_sent is_commit_told committed ≡ true) ×
+    (has_decided 1 1 (journal read_then_write committed 1) ≡ true)
 commit-backed = (refl, refl)
 
 -- node n2 acknowledged, and its Ended with commit stands
@@ -97,25 +98,32 @@ is_abort_told x y (message.Tell t outcome.Abort) = t == 1
 is_abort_told x y said = false
 
 -- the abort was told behind a crash of the home, and the transaction is given up, not over
-pub abort-final : (has_sent is_abort_told presumed ≡ true) × (is_given_up 1 presumed ≡ true) × (is_over presumed_abort presumed 1 ≡ false)
+pub abort-final : (has_sent is_abort_told presumed ≡ true) × (is_given_up 1 presumed ≡ true) ×
+    (is_over presumed_abort presumed 1 ≡ false)
 abort-final = (refl, refl, refl)
 
 -- ---- a served read is promised
 
 -- node n2 served a read at 1, and crashed: its floor is 64, the pending proposal of another is 65
-pub served-promised : (has_served 2 2 1 1 10 crashed ≡ true) × (floor (journal ceiling_after_crash crashed 2) ≡ 65) × (is_clear 1 (journal ceiling_after_crash crashed 2) ≡ true) × (has_prepared 3 65 (journal ceiling_after_crash crashed 2) ≡ true)
+pub served-promised : (has_served 2 2 1 1 10 crashed ≡ true) × (floor (journal ceiling_after_crash crashed 2) ≡ 65) ×
+    (is_clear 1 (journal ceiling_after_crash crashed 2) ≡ true) ×
+    (has_prepared 3 65 (journal ceiling_after_crash crashed 2) ≡ true)
 served-promised = (refl, refl, refl, refl)
 
 -- ---- locks exclude conflicts
 
 -- at node n2 transaction 1 is pending and 2 is ended and not applied; they lock, and are apart
-pub both-lock : (is_locking 1 (journal lock_until_applied locked 2) ≡ true) × (is_locking 2 (journal lock_until_applied locked 2) ≡ true) × (are_apart (prepared_of 1 (journal lock_until_applied locked 2)) (prepared_of 2 (journal lock_until_applied locked 2)) ≡ true)
+pub both-lock : (is_locking 1 (journal lock_until_applied locked 2) ≡ true) ×
+    (is_locking 2 (journal lock_until_applied locked 2) ≡ true) × (are_apart
+    (prepared_of 1 (journal lock_until_applied locked 2)) (prepared_of 2 (journal lock_until_applied locked 2)) ≡ true)
 both-lock = (refl, refl, refl)
 
 -- ---- a decision rests on every part
 
 -- the decision with 1, above the snapshot 0, and the Prepared with 1 at both parts
-pub decision-rests : (has_decided 1 1 (journal read_then_write committed 1) ≡ true) × (has_prepared 1 1 (journal read_then_write committed 1) ≡ true) × (has_prepared 1 1 (journal read_then_write committed 2) ≡ true) × (snapshot read_then_write committed 1 ≡ 0)
+pub decision-rests : (has_decided 1 1 (journal read_then_write committed 1) ≡ true) ×
+    (has_prepared 1 1 (journal read_then_write committed 1) ≡ true) ×
+    (has_prepared 1 1 (journal read_then_write committed 2) ≡ true) × (snapshot read_then_write committed 1 ≡ 0)
 decision-rests = (refl, refl, refl, refl)
 
 -- ---- all Prepares of a transaction to one node say the same
@@ -172,7 +180,8 @@ doubt-above = (refl, refl)
 -- ---- identifiers
 
 -- behind eleven events a node proposed 65: one identifier for each event would be too low a bound
-pub identifiers-rise : (sum_by events_of ceiling_after_crash.items ≡ 11) × (has_prepared 3 65 (journal ceiling_after_crash crashed 2) ≡ true)
+pub identifiers-rise : (sum_by events_of ceiling_after_crash.items ≡ 11) ×
+    (has_prepared 3 65 (journal ceiling_after_crash crashed 2) ≡ true)
 identifiers-rise = (refl, refl)
 
 -- ---- a read at or below the commit identifier is never held
@@ -193,9 +202,12 @@ is_fit_sent d past None = false
 is_fit_sent d past (Some e) = is_fit e.to (view d past e.to) e.from e.message
 
 -- the Prepare of node n2, its vote, and the commit for it
-pub delivered-fit : (is_fit_sent read_then_write (after [] asks) (sent_at 4 (sent (after [] asks))) ≡ true) × (is_fit_sent read_then_write committed (sent_at 6 (sent committed)) ≡ true) × (is_fit_sent read_then_write committed (sent_at 8 (sent committed)) ≡ true)
+pub delivered-fit : (is_fit_sent read_then_write (after [] asks) (sent_at 4 (sent (after [] asks))) ≡ true) ×
+    (is_fit_sent read_then_write committed (sent_at 6 (sent committed)) ≡ true) ×
+    (is_fit_sent read_then_write committed (sent_at 8 (sent committed)) ≡ true)
 delivered-fit = (refl, refl, refl)
 
 -- a Prepare for keys that the node does not hold is not
-pub unfit : is_fit 1 (view read_then_write (after [] asks) 1) 1 (message.Prepare (record { t = 1; sid = 0; parts = 1 ∷ []; reads = a ∷ []; writes = [] })) ≡ false
+pub unfit : is_fit 1 (view read_then_write (after [] asks) 1) 1
+    (message.Prepare (record { t = 1; sid = 0; parts = 1 ∷ []; reads = a ∷ []; writes = [] })) ≡ false
 unfit = refl

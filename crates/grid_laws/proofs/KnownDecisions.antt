@@ -55,21 +55,26 @@ adds (Writes o) t = is_decided_in t o
 adds (Stops o) t = is_decided_in t o
 adds c t = false
 
-pub known-written : (t : TxId) (o : Option Record) (r : List Record) → has_tx t (decisions (written o r)) ≡ (is_decided_in t o || has_tx t (decisions r))
+pub known-written : (t : TxId) (o : Option Record) (r : List Record)
+    → has_tx t (decisions (written o r)) ≡ (is_decided_in t o || has_tx t (decisions r))
 known-written t None r = refl
 known-written t (Some (record'.Decided u f parts)) r = refl
 known-written t (Some y) r = refl
 
-known-writes : (t : TxId) (o p : Option Record) (r : List Record) → has_tx t (decisions (written p (written o r))) ≡ true → (has_tx t (decisions (written p r)) ≡ true) ⊎ (is_decided_in t o ≡ true)
+known-writes : (t : TxId) (o p : Option Record) (r : List Record)
+    → has_tx t (decisions (written p (written o r))) ≡ true
+    → (has_tx t (decisions (written p r)) ≡ true) ⊎ (is_decided_in t o ≡ true)
 known-writes t o p r e = go (is_decided_in t p) (is_decided_in t o) (has_tx t (decisions r)) refl (sym (known-written t p r)) (rw (known-written t p (written o r), known-written t o r) at e)
   where
-    go : (a b c : Bool) → is_decided_in t o ≡ b → (a || c) ≡ has_tx t (decisions (written p r)) → (a || (b || c)) ≡ true → (has_tx t (decisions (written p r)) ≡ true) ⊎ (is_decided_in t o ≡ true)
+    go : (a b c : Bool) → is_decided_in t o ≡ b → (a || c) ≡ has_tx t (decisions (written p r)) → (a || (b || c)) ≡ true
+        → (has_tx t (decisions (written p r)) ≡ true) ⊎ (is_decided_in t o ≡ true)
     go true b c ob is e = inl (sym is)
     go false true c ob is e = inr ob
     go false false c ob is e = inl (sym is ∙ e)
 
 -- what a node knows it knew before, or the change adds it
-pub known-changed : (c : Change) (x : Node) (t : TxId) → has_tx t (known (changed c x)) ≡ true → (has_tx t (known x) ≡ true) ⊎ (adds c t ≡ true)
+pub known-changed : (c : Change) (x : Node) (t : TxId) → has_tx t (known (changed c x)) ≡ true
+    → (has_tx t (known x) ≡ true) ⊎ (adds c t ≡ true)
 known-changed (Writes o) x t e = known-writes t o x.doubt x.journal e
 known-changed (Stops o) x t e = elim (or_cases (is_decided_in t o) (has_tx t (decisions x.journal)) (rw (known-written t o x.journal) at e)) [
   | inl new ↦ inr new
@@ -94,7 +99,8 @@ adds-where : (b : Bool) (c : Change) (t : TxId) → adds (where_at b c) t ≡ tr
 adds-where true c t e = (refl, e)
 adds-where false c t e = cc
 
-decides-as : (d : DocumentData) (past : List Act) (m n : NodeId) (u t : TxId) (f : Ident) → RecordDue d past m (head.Decided u f) → m ≡ n → (u == t) ≡ true → Decides d past n t
+decides-as : (d : DocumentData) (past : List Act) (m n : NodeId) (u t : TxId) (f : Ident)
+    → RecordDue d past m (head.Decided u f) → m ≡ n → (u == t) ≡ true → Decides d past n t
 decides-as d past m n u t f due at e =
     let same : u ≡ t = grind (arith, nat_tests, e) in
     let P : TxId → Type 0 = λ w. RecordDue d past n (head.Decided w f) in
@@ -108,7 +114,8 @@ freed-no : (t : TxId) (c : Bool) (u : TxId) (op : ℕ) (k : Key) (sid : Ident) �
 freed-no t true u op k sid e = cc
 freed-no t false u op k sid e = cc
 
-stop-decides : (d : DocumentData) (past : List Act) (m n : NodeId) (h : Option Head) (t : TxId) → StopDue d past m h → m ≡ n → is_decided_in t (doubt_of d (got past) h) ≡ true → Decides d past n t
+stop-decides : (d : DocumentData) (past : List Act) (m n : NodeId) (h : Option Head) (t : TxId) → StopDue d past m h
+    → m ≡ n → is_decided_in t (doubt_of d (got past) h) ≡ true → Decides d past n t
 stop-decides d past m n (Some (head.Decided u f)) t due at e = decides-as d past m n u t f due at e
 stop-decides d past m n (Some (head.Prepared u p)) t due at e = absurd (prepared-no t (got past) u p e)
 stop-decides d past m n (Some (head.Ended u o)) t due at e = cc
@@ -118,7 +125,8 @@ stop-decides d past m n (Some head.Compact) t due at e = cc
 stop-decides d past m n None t due at e = cc
 
 -- what an act adds at n is due there
-pub adds-due : (d : DocumentData) (past : List Act) (a : Act) (n : NodeId) (t : TxId) → IsDue d past a → adds (change d (got past) a n) t ≡ true → Decides d past n t
+pub adds-due : (d : DocumentData) (past : List Act) (a : Act) (n : NodeId) (t : TxId) → IsDue d past a
+    → adds (change d (got past) a n) t ≡ true → Decides d past n t
 adds-due d past (act.Decided u f) n t due e =
     let w = adds-where (is_home d u n) (Writes (Some (record'.Decided u f (parts_in d (script_of u d.scripts))))) t e in
     let r = due.1.1 in

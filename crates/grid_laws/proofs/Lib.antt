@@ -62,3 +62,4 @@ pub mod Instances
 pub mod NodesNumbered
 pub mod PartsOfKeys
 pub mod WorkedDocuments
+pub mod CutRuns

@@ -61,7 +61,8 @@ learnt-low m (record'.Prepared t home parts sid p reads writes) next h k = omega
 learnt-low m (record'.Ended t (outcome.Commit f)) next h k = omega arith
 learnt-low m y next h k = k
 
-found-low : (m : ℕ) (b : Bool) (o : Option Record) (r : List Record) → AllHold (IsLowRecord m) r → HoldsIn (IsLowRecord m) o → AllHold (IsLowRecord m) (found b o r)
+found-low : (m : ℕ) (b : Bool) (o : Option Record) (r : List Record) → AllHold (IsLowRecord m) r
+    → HoldsIn (IsLowRecord m) o → AllHold (IsLowRecord m) (found b o r)
 found-low m true (Some y) r h k = (k, h)
 found-low m true None r h k = h
 found-low m false o r h k = h
@@ -87,7 +88,8 @@ low-where : (m : ℕ) (b : Bool) (c : Change) → LowChange m c → LowChange m 
 low-where m true c h = h
 low-where m false c h = tt
 
-low-prepared : (m : ℕ) (e : Option Envelope) (t : TxId) (p : Ident) → p ≤ m → HoldsIn (IsLowRecord m) (prepared_by e t p)
+low-prepared : (m : ℕ) (e : Option Envelope) (t : TxId) (p : Ident) → p ≤ m
+    → HoldsIn (IsLowRecord m) (prepared_by e t p)
 low-prepared m None t p h = tt
 low-prepared m (Some e) t p h = from e.from e.message
   where
@@ -95,7 +97,8 @@ low-prepared m (Some e) t p h = from e.from e.message
     from x (message.Prepare q) = h
     from x said = tt
 
-low-head : (m : ℕ) (d : DocumentData) (e : Option Envelope) (h : Option Head) → head_ident h ≤ m → HoldsIn (IsLowRecord m) (doubt_of d e h)
+low-head : (m : ℕ) (d : DocumentData) (e : Option Envelope) (h : Option Head) → head_ident h ≤ m
+    → HoldsIn (IsLowRecord m) (doubt_of d e h)
 low-head m d e None i = tt
 low-head m d e (Some (head.Prepared t p)) i = low-prepared m e t p i
 low-head m d e (Some (head.Ended t o)) i = i
@@ -108,7 +111,8 @@ low-freed : (m : ℕ) (b : Bool) (t : TxId) (op : ℕ) (k : Key) (sid : Ident) �
 low-freed m true t op k sid = tt
 low-freed m false t op k sid = tt
 
-low-change : (m : ℕ) (d : DocumentData) (e : Option Envelope) (a : Act) (n : NodeId) → act_ident a ≤ m → LowChange m (change d e a n)
+low-change : (m : ℕ) (d : DocumentData) (e : Option Envelope) (a : Act) (n : NodeId) → act_ident a ≤ m
+    → LowChange m (change d e a n)
 low-change m d e (act.Prepared k t p) n h = low-where m (k == n) (Writes (prepared_by e t p)) (low-prepared m e t p h)
 low-change m d e (act.Ended k t o) n h = low-where m (k == n) (Writes (Some (record'.Ended t o))) h
 low-change m d e (act.Ceiling k c) n h = low-where m (k == n) (Writes (Some (record'.Ceiling c))) h
@@ -122,16 +126,19 @@ low-change m d e (act.Up k f) n h = low-where m (k == n) (Starts (is_kept f)) tt
 low-change m d e (act.StillDown k) n h = low-where m (k == n) Stays tt
 low-change m d e a n h = tt
 
-pub nodes-low : (m : ℕ) (d : DocumentData) (past : List Act) → EachAct (IsAtMost m) past → (n : NodeId) → IsLowNode m (node d past n)
+pub nodes-low : (m : ℕ) (d : DocumentData) (past : List Act) → EachAct (IsAtMost m) past → (n : NodeId)
+    → IsLowNode m (node d past n)
 nodes-low m d [] h n = record { journal = tt; doubt = tt; next = omega arith }
 nodes-low m d (a ∷ past) h n = low-changed m (node d past n) (change d (got past) a n) (nodes-low m d past h.1 n) (low-change m d (got past) a n h.0)
 
 -- the final identifier of a decision
-pub decision-low : (m : ℕ) (t : TxId) (y : Decision) (r : List Record) → AllHold (IsLowRecord m) r → decision t r ≡ Some y → y.final ≤ m
+pub decision-low : (m : ℕ) (t : TxId) (y : Decision) (r : List Record) → AllHold (IsLowRecord m) r
+    → decision t r ≡ Some y → y.final ≤ m
 decision-low m t y [] h e = cc
 decision-low m t y (record'.Decided u f parts ∷ r) h e = here (u == t) h.0 e (λ i. decision-low m t y r h.1 i)
   where
-    here : (b : Bool) → f ≤ m → (if b then Some (record { final = f; parts = parts }) else decision t r) ≡ Some y → (decision t r ≡ Some y → y.final ≤ m) → y.final ≤ m
+    here : (b : Bool) → f ≤ m → (if b then Some (record { final = f; parts = parts }) else decision t r) ≡ Some y
+        → (decision t r ≡ Some y → y.final ≤ m) → y.final ≤ m
     here true le i go = let z : record { final = f; parts = parts } ≡ y = cc in let P : Decision → Type 0 = λ w. w.final ≤ m in subst P z le
     here false le i go = go i
 decision-low m t y (record'.Prepared u home parts sid p reads writes ∷ r) h e = decision-low m t y r h.1 e
@@ -141,7 +148,8 @@ decision-low m t y (record'.Closed u ∷ r) h e = decision-low m t y r h.1 e
 
 -- ---- messages
 
-pub messages-low : (m : ℕ) (past : List Act) → EachAct (IsAtMost m) past → (k : ℕ) (e : Envelope) → sent_at k (sent past) ≡ Some e → message_ident e.message ≤ m
+pub messages-low : (m : ℕ) (past : List Act) → EachAct (IsAtMost m) past → (k : ℕ) (e : Envelope)
+    → sent_at k (sent past) ≡ Some e → message_ident e.message ≤ m
 messages-low m [] h k e is = absurd (sent-none k (k == 0) e is)
 messages-low m (act.Sent j x y said ∷ past) h k e is = elim (sent-last k (k == 0) (sent past) (record { from = x; to = y; message = said }) e is) [
   | inl before ↦ messages-low m past h.1 k e before
@@ -149,7 +157,8 @@ messages-low m (act.Sent j x y said ∷ past) h k e is = elim (sent-last k (k ==
 ]
 messages-low m (a ∷ past) h k e is = messages-low m past h.1 k e is
 
-pub got-low : (m : ℕ) (past : List Act) → EachAct (IsAtMost m) past → (e : Envelope) → got past ≡ Some e → message_ident e.message ≤ m
+pub got-low : (m : ℕ) (past : List Act) → EachAct (IsAtMost m) past → (e : Envelope) → got past ≡ Some e
+    → message_ident e.message ≤ m
 got-low m [] h e is = cc
 got-low m (act.Got k ∷ past) h e is = messages-low m past h.1 k e is
 got-low m (a ∷ past) h e is = got-low m past h.1 e is
@@ -171,16 +180,19 @@ first-low m (Some i) sid h k = h
 pub snapshot-low : (m : ℕ) (x : Story) → IsLowStory m (Some x) → first_sid x.progress.sid x.progress.sid0 ≤ m
 snapshot-low m x h = first-low m x.progress.sid x.progress.sid0 h.1 h.0
 
-if-low : (m : ℕ) (b : Bool) (f : Story → Story) (o : Option Story) → ((x : Story) → IsLowStory m (Some x) → IsLowStory m (Some (f x))) → IsLowStory m o → IsLowStory m (if_told b f o)
+if-low : (m : ℕ) (b : Bool) (f : Story → Story) (o : Option Story)
+    → ((x : Story) → IsLowStory m (Some x) → IsLowStory m (Some (f x))) → IsLowStory m o → IsLowStory m (if_told b f o)
 if-low m b f None go h = h
 if-low m true f (Some x) go h = go x h
 if-low m false f (Some x) go h = h
 
-either-low : (m : ℕ) (b : Bool) (o p : Option Story) → IsLowStory m o → IsLowStory m p → IsLowStory m (if b then o else p)
+either-low : (m : ℕ) (b : Bool) (o p : Option Story) → IsLowStory m o → IsLowStory m p
+    → IsLowStory m (if b then o else p)
 either-low m true o p h k = h
 either-low m false o p h k = k
 
-greatest-more : (m : ℕ) (vs : List Voted) (v : Voted) → greatest_vote vs ≤ m → v.p ≤ m → greatest_vote (vs ++ v ∷ []) ≤ m
+greatest-more : (m : ℕ) (vs : List Voted) (v : Voted) → greatest_vote vs ≤ m → v.p ≤ m
+    → greatest_vote (vs ++ v ∷ []) ≤ m
 greatest-more m [] v h k = omega arith
 greatest-more m (w ∷ vs) v h k = omega (arith, greatest-more m vs v (omega arith) k)
 
@@ -188,21 +200,26 @@ low-vote : (m : ℕ) (n : NodeId) (p : Ident) (x : Story) (b : Bool) → p ≤ m
 low-vote m n p x true h k = k
 low-vote m n p x false h k = (k.0, k.1, greatest-more m x.progress.votes (record { from = n; p = p }) k.2 h)
 
-low-heard : (m : ℕ) (ns : List NodeId) (p : Phase) (h : Node) (t : TxId) (n : NodeId) (said : Message) (o : Option Story) → message_ident said ≤ m → IsLowStory m o → IsLowStory m (heard ns p h t n said o)
+low-heard : (m : ℕ) (ns : List NodeId) (p : Phase) (h : Node) (t : TxId) (n : NodeId) (said : Message)
+    (o : Option Story) → message_ident said ≤ m → IsLowStory m o → IsLowStory m (heard ns p h t n said o)
 low-heard m ns p h t n (message.Vote u (ballot.Yes q)) o i k = if-low m _ (progressed (with_vote n q)) o (λ x j. low-vote m n q x (has_voted n x.progress.votes) i j) k
 low-heard m ns p h t n (message.Ack u) o i k = if-low m _ (with_ack n) o (λ x j. j) k
 low-heard m ns p h t n said o i k = k
 
-low-got : (m : ℕ) (d : DocumentData) (past : List Act) (w : Option ScriptData) (s : Option Envelope) (o : Option Story) → ((e : Envelope) → s ≡ Some e → message_ident e.message ≤ m) → IsLowStory m o → IsLowStory m (heard_at d past w s o)
+low-got : (m : ℕ) (d : DocumentData) (past : List Act) (w : Option ScriptData) (s : Option Envelope) (o : Option Story)
+    → ((e : Envelope) → s ≡ Some e → message_ident e.message ≤ m) → IsLowStory m o
+    → IsLowStory m (heard_at d past w s o)
 low-got m d past None s o i k = k
 low-got m d past (Some w) None o i k = k
 low-got m d past (Some w) (Some e) o i k = either-low m (e.to == w.home) _ o (low-heard m (parts_of d w) _ (node d past w.home) w.number e.from e.message o (i e refl) k) k
 
-low-asked : (m : ℕ) (d : DocumentData) (t : TxId) (said : Message) (o : Option Story) → IsLowStory m o → IsLowStory m (asked d t said o)
+low-asked : (m : ℕ) (d : DocumentData) (t : TxId) (said : Message) (o : Option Story) → IsLowStory m o
+    → IsLowStory m (asked d t said o)
 low-asked m d t (message.ReadReq q) o k = if-low m (q.t == t) _ o (λ x j. j) k
 low-asked m d t said o k = k
 
-low-told : (m : ℕ) (d : DocumentData) (past : List Act) (a : Act) (t : TxId) → EachAct (IsAtMost m) past → act_ident a ≤ m → IsLowStory m (story d past t) → IsLowStory m (story d (a ∷ past) t)
+low-told : (m : ℕ) (d : DocumentData) (past : List Act) (a : Act) (t : TxId) → EachAct (IsAtMost m) past
+    → act_ident a ≤ m → IsLowStory m (story d past t) → IsLowStory m (story d (a ∷ past) t)
 low-told m d past (act.Began u n sid0) t all h k = either-low m (u == t) (Some (begun_in d (node d past) t sid0)) (story d past t) (h, tt, omega arith) k
 low-told m d past (act.Sent j x y said) t all h k = low-asked m d t said (story d past t) k
 low-told m d past (act.Got j) t all h k = low-got m d past (script_of t d.scripts) (sent_at j (sent past)) (story d past t) (λ e is. messages-low m past all j e is) k
@@ -213,6 +230,7 @@ low-told m d past (act.Lost u) t all h k = if-low m (u == t) _ (story d past t) 
 low-told m d past (act.Down n o) t all h k = if-low m (is_home d t n) _ (story d past t) (λ x j. (j.0, j.1, omega arith)) k
 low-told m d past a t all h k = k
 
-pub stories-low : (m : ℕ) (d : DocumentData) (past : List Act) → EachAct (IsAtMost m) past → (t : TxId) → IsLowStory m (story d past t)
+pub stories-low : (m : ℕ) (d : DocumentData) (past : List Act) → EachAct (IsAtMost m) past → (t : TxId)
+    → IsLowStory m (story d past t)
 stories-low m d [] h t = tt
 stories-low m d (a ∷ past) h t = low-told m d past a t h.1 h.0 (stories-low m d past h.1 t)

@@ -40,10 +40,11 @@ abbrev pub IsUp : DocumentData → List Act → NodeId → Type 0
 IsUp d past n = (node d past n).up ≡ true
 
 -- t is begun, and n is its home
-pub record AtHome (d : DocumentData) (past : List Act) (n : NodeId) (t : TxId) (s : ScriptData) (x : Story) : Type 0 where
-  pub script : script_of t d.scripts ≡ Some s
-  pub home : s.home ≡ n
-  pub story : story d past t ≡ Some x
+pub record AtHome (d : DocumentData) (past : List Act) (n : NodeId) (t : TxId) (s : ScriptData) (x : Story) : Type 0
+  where
+    pub script : script_of t d.scripts ≡ Some s
+    pub home : s.home ≡ n
+    pub story : story d past t ≡ Some x
 
 -- ---- the messages
 
@@ -79,7 +80,8 @@ pub record Asked (d : DocumentData) (past : List Act) (n x : NodeId) (t : TxId) 
 -- the reads that n held so far
 abbrev pub held_ever : DocumentData → List Act → NodeId → List HeldRead
 held_ever d [] n = []
-held_ever d (act.Held m t op sid ∷ past) n = if m == n then with_held (held_by (got past) t op sid) (held_ever d past n) else held_ever d past n
+held_ever d (act.Held m t op sid ∷ past) n =
+    if m == n then with_held (held_by (got past) t op sid) (held_ever d past n) else held_ever d past n
 held_ever d (a ∷ past) n = held_ever d past n
 
 -- a read is one of these
@@ -107,15 +109,17 @@ pub data MayServe (d : DocumentData) (past : List Act) (n : NodeId) (h : HeldRea
   at_once : Requested d past n h → Covered d past n h.sid → MayServe d past n h
   held : IsIn h (held_ever d past n) → MayServe d past n h
 
-pub record ServeDue (d : DocumentData) (past : List Act) (n : NodeId) (h : HeldRead) (vn : Ident) (v : Value) : Type 0 where
-  pub up : IsUp d past n
-  pub may : MayServe d past n h
-  pub clear : is_clear h.sid (journal d past n) ≡ true
-  pub ident : vn ≡ (version_for d.cluster (journal d past n) h.key h.sid).ident
-  pub value : v ≡ (version_for d.cluster (journal d past n) h.key h.sid).value
+pub record ServeDue (d : DocumentData) (past : List Act) (n : NodeId) (h : HeldRead) (vn : Ident) (v : Value) : Type 0
+  where
+    pub up : IsUp d past n
+    pub may : MayServe d past n h
+    pub clear : is_clear h.sid (journal d past n) ≡ true
+    pub ident : vn ≡ (version_for d.cluster (journal d past n) h.key h.sid).ident
+    pub value : v ≡ (version_for d.cluster (journal d past n) h.key h.sid).value
 
 -- a reply comes right behind the read that was served
-pub record ReplyDue (d : DocumentData) (past : List Act) (n y : NodeId) (t : TxId) (op : ℕ) (sid : Ident) (v : Value) : Type 0 where
+pub record ReplyDue (d : DocumentData) (past : List Act) (n y : NodeId) (t : TxId) (op : ℕ) (sid : Ident) (v : Value) :
+    Type 0 where
   pub key : Key
   pub vn : Ident
   pub before : List Act
@@ -125,12 +129,14 @@ pub record ReplyDue (d : DocumentData) (past : List Act) (n y : NodeId) (t : TxI
 -- a commit is told by the home that decided it, or by a part that has ended so and was asked
 pub data CommitDue (d : DocumentData) (past : List Act) (n y : NodeId) (t : TxId) (f : Ident) : Type 0 where
   by_home : (x : Decision) → undone t (journal d past n) ≡ Some x → x.final ≡ f → CommitDue d past n y t f
-  by_part : IsGot past n y (message.AskPeer t) → ended t (journal d past n) ≡ Some (outcome.Commit f) → CommitDue d past n y t f
+  by_part : IsGot past n y (message.AskPeer t) → ended t (journal d past n) ≡ Some (outcome.Commit f)
+      → CommitDue d past n y t f
 
 -- an abort is told where t was given up, where its home, which was asked, knows no more of it, or by a part
 -- that has ended so and was asked
 pub data AbortDue (d : DocumentData) (past : List Act) (n y : NodeId) (t : TxId) : Type 0 where
-  ended_so : IsGot past n y (message.AskPeer t) → ended t (journal d past n) ≡ Some outcome.Abort → AbortDue d past n y t
+  ended_so : IsGot past n y (message.AskPeer t) → ended t (journal d past n) ≡ Some outcome.Abort
+      → AbortDue d past n y t
   given_up : IsTrue (is_given_up t past) → AbortDue d past n y t
   apart : IsGot past n y (message.Ask t) → stage (view d past n) t ≡ Apart → AbortDue d past n y t
 
@@ -140,9 +146,13 @@ SendDue d past n y (message.ReadReq q) = RequestDue d past n y q
 SendDue d past n y (message.ReadRep q) = ReplyDue d past n y q.t q.op q.sid q.value
 SendDue d past n y (message.Prepare q) = PrepareDue d past n y q
 SendDue d past n y (message.Vote t (ballot.Yes p)) = Asked d past n y t × (pending t (journal d past n) ≡ Some p)
-SendDue d past n y (message.Vote t (ballot.No why)) = Asked d past n y t × (before : List Act) × (past ≡ act.Refused n t why ∷ before)
+SendDue d past n y (message.Vote t (ballot.No why)) =
+    Asked d past n y t × (before : List Act) × (past ≡ act.Refused n t why ∷ before)
 SendDue d past n y (message.Tell t (outcome.Commit f)) = CommitDue d past n y t f
 SendDue d past n y (message.Tell t outcome.Abort) = AbortDue d past n y t
-SendDue d past n y (message.Ack t) = (is_commit (ended t (journal d past n)) ≡ true) × (home_of t (journal d past n) ≡ Some y)
-SendDue d past n y (message.Ask t) = (is_some (pending t (journal d past n)) ≡ true) × (home_of t (journal d past n) ≡ Some y)
-SendDue d past n y (message.AskPeer t) = (is_some (pending t (journal d past n)) ≡ true) × (names_part t y (journal d past n) ≡ true)
+SendDue d past n y (message.Ack t) =
+    (is_commit (ended t (journal d past n)) ≡ true) × (home_of t (journal d past n) ≡ Some y)
+SendDue d past n y (message.Ask t) =
+    (is_some (pending t (journal d past n)) ≡ true) × (home_of t (journal d past n) ≡ Some y)
+SendDue d past n y (message.AskPeer t) =
+    (is_some (pending t (journal d past n)) ≡ true) × (names_part t y (journal d past n) ≡ true)

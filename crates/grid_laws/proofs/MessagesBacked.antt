@@ -39,24 +39,30 @@ use Rattle.grid_laws.proofs.NodesFitActs.{prepared-is, decision-home, undone-dec
 
 -- ---- what was backed stays backed
 
-pub has_refused-more : (n : NodeId) (t : TxId) (why : Cause) (a : Act) (past : List Act) → has_refused n t why past ≡ true → has_refused n t why (a ∷ past) ≡ true
+pub has_refused-more : (n : NodeId) (t : TxId) (why : Cause) (a : Act) (past : List Act)
+    → has_refused n t why past ≡ true → has_refused n t why (a ∷ past) ≡ true
 has_refused-more n t why (act.Refused m u other) past h = or_right (m == n && (u == t && is_same_cause why other)) (has_refused n t why past) h
 has_refused-more n t why a past h = h
 
-pub has_served-more : (n : NodeId) (t : TxId) (j : ℕ) (sid : Ident) (v : Value) (a : Act) (past : List Act) → has_served n t j sid v past ≡ true → has_served n t j sid v (a ∷ past) ≡ true
+pub has_served-more : (n : NodeId) (t : TxId) (j : ℕ) (sid : Ident) (v : Value) (a : Act) (past : List Act)
+    → has_served n t j sid v past ≡ true → has_served n t j sid v (a ∷ past) ≡ true
 has_served-more n t j sid v (act.Served m u i k s vn w) past h = or_right (m == n && (u == t && (i == j && (s == sid && w == v)))) (has_served n t j sid v past) h
 has_served-more n t j sid v a past h = h
 
-pub prepared-more : (d : DocumentData) (past : List Act) (a : Act) (n : NodeId) (t : TxId) (p : Ident) → has_prepared t p (journal d past n) ≡ true → has_prepared t p (journal d (a ∷ past) n) ≡ true
+pub prepared-more : (d : DocumentData) (past : List Act) (a : Act) (n : NodeId) (t : TxId) (p : Ident)
+    → has_prepared t p (journal d past n) ≡ true → has_prepared t p (journal d (a ∷ past) n) ≡ true
 prepared-more d past a n t p h = journal-more (λ r. has_prepared t p r ≡ true) (λ y r i. has_prepared-grows t p y r i) d past a n h
 
-pub commit-more : (d : DocumentData) (past : List Act) (a : Act) (n : NodeId) (t : TxId) → has_commit t (journal d past n) ≡ true → has_commit t (journal d (a ∷ past) n) ≡ true
+pub commit-more : (d : DocumentData) (past : List Act) (a : Act) (n : NodeId) (t : TxId)
+    → has_commit t (journal d past n) ≡ true → has_commit t (journal d (a ∷ past) n) ≡ true
 commit-more d past a n t h = journal-more (λ r. has_commit t r ≡ true) (λ y r i. has_commit-grows t y r i) d past a n h
 
-pub decided-more : (d : DocumentData) (past : List Act) (a : Act) (n : NodeId) (t : TxId) (f : Ident) → has_decided t f (journal d past n) ≡ true → has_decided t f (journal d (a ∷ past) n) ≡ true
+pub decided-more : (d : DocumentData) (past : List Act) (a : Act) (n : NodeId) (t : TxId) (f : Ident)
+    → has_decided t f (journal d past n) ≡ true → has_decided t f (journal d (a ∷ past) n) ≡ true
 decided-more d past a n t f h = journal-more (λ r. has_decided t f r ≡ true) (λ y r i. has_decided-grows t f y r i) d past a n h
 
-pub says-more : (d : DocumentData) (past : List Act) (a : Act) (n : NodeId) (said : Message) → Says d past n said → Says d (a ∷ past) n said
+pub says-more : (d : DocumentData) (past : List Act) (a : Act) (n : NodeId) (said : Message) → Says d past n said
+    → Says d (a ∷ past) n said
 says-more d past a n (message.Vote t (ballot.Yes p)) h = prepared-more d past a n t p h
 says-more d past a n (message.Vote t (ballot.No why)) h = has_refused-more n t why a past h
 says-more d past a n (message.Tell t (outcome.Commit f)) h = (h.0, h.1, decided-more d past a h.0 t f h.2)
@@ -79,16 +85,19 @@ same-cause : (why : Cause) → is_same_cause why why ≡ true
 same-cause (cause.Holder u) = same-number u
 same-cause (cause.Newer k f) = rw (same_key-self k, same-number f) refl
 
-refused-now : (n : NodeId) (t : TxId) (why : Cause) (past : List Act) → has_refused n t why (act.Refused n t why ∷ past) ≡ true
+refused-now : (n : NodeId) (t : TxId) (why : Cause) (past : List Act)
+    → has_refused n t why (act.Refused n t why ∷ past) ≡ true
 refused-now n t why past = rw (same-number n, same-number t, same-cause why) refl
 
-served-now : (n : NodeId) (t : TxId) (j : ℕ) (k : Key) (sid vn : Ident) (v : Value) (past : List Act) → has_served n t j sid v (act.Served n t j k sid vn v ∷ past) ≡ true
+served-now : (n : NodeId) (t : TxId) (j : ℕ) (k : Key) (sid vn : Ident) (v : Value) (past : List Act)
+    → has_served n t j sid v (act.Served n t j k sid vn v ∷ past) ≡ true
 served-now n t j k sid vn v past = rw (same-number n, same-number t, same-number j, same-number sid, same-number v) refl
 
 -- ---- a commit that was told or ended was decided
 
 -- a decision that stands stays
-pub is_decided-more : (d : DocumentData) (past : List Act) (a : Act) (t : TxId) (f : Ident) → IsDecided d past t f → IsDecided d (a ∷ past) t f
+pub is_decided-more : (d : DocumentData) (past : List Act) (a : Act) (t : TxId) (f : Ident) → IsDecided d past t f
+    → IsDecided d (a ∷ past) t f
 is_decided-more d past a t f h = (h.0, h.1, decided-more d past a h.0 t f h.2)
 
 abbrev CommitSays : DocumentData → List Act → Message → Type 0
@@ -99,17 +108,20 @@ abbrev CommittedSays : DocumentData → List Act → Record → Type 0
 CommittedSays d past (record'.Ended t (outcome.Commit f)) = IsDecided d past t f
 CommittedSays d past y = Unit {0}
 
-commit_says-more : (d : DocumentData) (past : List Act) (a : Act) (said : Message) → CommitSays d past said → CommitSays d (a ∷ past) said
+commit_says-more : (d : DocumentData) (past : List Act) (a : Act) (said : Message) → CommitSays d past said
+    → CommitSays d (a ∷ past) said
 commit_says-more d past a (message.Tell t (outcome.Commit f)) h = is_decided-more d past a t f h
 commit_says-more d past a (message.Tell t outcome.Abort) h = tt
 commit_says-more d past a said h = tt
 
-committed-more : (d : DocumentData) (past : List Act) (a : Act) (y : Record) → CommittedSays d past y → CommittedSays d (a ∷ past) y
+committed-more : (d : DocumentData) (past : List Act) (a : Act) (y : Record) → CommittedSays d past y
+    → CommittedSays d (a ∷ past) y
 committed-more d past a (record'.Ended t (outcome.Commit f)) h = is_decided-more d past a t f h
 committed-more d past a (record'.Ended t outcome.Abort) h = tt
 committed-more d past a y h = tt
 
-commit-by : (d : DocumentData) (past : List Act) (n y : NodeId) (t : TxId) (f : Ident) → AllDue d past → AllHold (CommittedSays d past) (journal d past n) → CommitDue d past n y t f → IsDecided d past t f
+commit-by : (d : DocumentData) (past : List Act) (n y : NodeId) (t : TxId) (f : Ident) → AllDue d past
+    → AllHold (CommittedSays d past) (journal d past n) → CommitDue d past n y t f → IsDecided d past t f
 commit-by d past n y t f all ends (by_home x is final) =
     let s : IsFitNode d n (node d past n) = nodes-fit d past all n in
     let decided : decision t (journal d past n) ≡ Some x = undone-decision t x (journal d past n) is in
@@ -117,18 +129,22 @@ commit-by d past n y t f all ends (by_home x is final) =
     (n, (decision-home d n t x (journal d past n) s.homes decided).home, subst P final (decision-has t x (journal d past n) decided))
 commit-by d past n y t f all ends (by_part got is) = ended-holds (CommittedSays d past) t (outcome.Commit f) (journal d past n) ends is
 
-commit-said : (d : DocumentData) (past : List Act) (n y : NodeId) (said : Message) → AllDue d past → AllHold (CommittedSays d past) (journal d past n) → SendDue d past n y said → CommitSays d past said
+commit-said : (d : DocumentData) (past : List Act) (n y : NodeId) (said : Message) → AllDue d past
+    → AllHold (CommittedSays d past) (journal d past n) → SendDue d past n y said → CommitSays d past said
 commit-said d past n y (message.Tell t (outcome.Commit f)) all ends due = commit-by d past n y t f all ends due
 commit-said d past n y (message.Tell t outcome.Abort) all ends due = tt
 commit-said d past n y said all ends due = tt
 
-commit-kept : (d : DocumentData) (past : List Act) (n : NodeId) (h : Head) → ((e : Envelope) → got past ≡ Some e → CommitSays d past e.message) → RecordDue d past n h → HoldsIn (CommittedSays d past) (record_of d (got past) h)
+commit-kept : (d : DocumentData) (past : List Act) (n : NodeId) (h : Head)
+    → ((e : Envelope) → got past ≡ Some e → CommitSays d past e.message) → RecordDue d past n h
+    → HoldsIn (CommittedSays d past) (record_of d (got past) h)
 commit-kept d past n (head.Ended t (outcome.Commit f)) says due = says (record { from = due.1.from; to = n; message = message.Tell t (outcome.Commit f) }) due.1.got
 commit-kept d past n (head.Ended t outcome.Abort) says due = tt
 commit-kept d past n (head.Prepared t p) says due = let P : Option Record → Type 0 = λ o. HoldsIn (CommittedSays d past) o in subst P (sym (prepared-is d past n t p due.1)) tt
 commit-kept d past n h says due = tt
 
-commits-told : (d : DocumentData) (past : List Act) → AllDue d past → BothHold (λ n y said. CommitSays d past said) (λ n r. CommittedSays d past r) d past
+commits-told : (d : DocumentData) (past : List Act) → AllDue d past
+    → BothHold (λ n y said. CommitSays d past said) (λ n r. CommittedSays d past r) d past
 commits-told d past due =
     both-hold (λ now n y said. CommitSays d now said) (λ now n r. CommittedSays d now r) d past
     (λ now a n y said all h. commit_says-more d now a said h)
@@ -138,12 +154,14 @@ commits-told d past due =
     due
 
 -- what ended with commit was decided, with this final identifier
-pub commit-decided : (d : DocumentData) (past : List Act) → AllDue d past → (n : NodeId) (t : TxId) (f : Ident) → ended t (journal d past n) ≡ Some (outcome.Commit f) → IsDecided d past t f
+pub commit-decided : (d : DocumentData) (past : List Act) → AllDue d past → (n : NodeId) (t : TxId) (f : Ident)
+    → ended t (journal d past n) ≡ Some (outcome.Commit f) → IsDecided d past t f
 commit-decided d past all n t f e = ended-holds (CommittedSays d past) t (outcome.Commit f) (journal d past n) ((commits-told d past all).of_records n).journal e
 
 -- ---- what is sent says so
 
-pub says-due : (d : DocumentData) (past : List Act) (n y : NodeId) (said : Message) → AllDue d past → SendDue d past n y said → Says d past n said
+pub says-due : (d : DocumentData) (past : List Act) (n y : NodeId) (said : Message) → AllDue d past
+    → SendDue d past n y said → Says d past n said
 says-due d past n y (message.Vote t (ballot.Yes p)) s due = pending-has t p (journal d past n) due.1
 says-due d past n y (message.Vote t (ballot.No why)) s due = (let P : List Act → Type 0 = λ p. has_refused n t why p ≡ true in subst P (sym due.2) (refused-now n t why due.1))
 says-due d past n y (message.Tell t (outcome.Commit f)) all due = commit-by d past n y t f all ((commits-told d past all).of_records n).journal due
@@ -154,13 +172,18 @@ says-due d past n y said s due = tt
 
 -- ---- each message
 
-pub each-more : (P Q : NodeId → Message → Type 0) (past : List Act) → ((n : NodeId) (said : Message) → P n said → Q n said) → EachSent P past → EachSent Q past
+pub each-more : (P Q : NodeId → Message → Type 0) (past : List Act)
+    → ((n : NodeId) (said : Message) → P n said → Q n said) → EachSent P past → EachSent Q past
 each-more P Q [] go h = tt
 each-more P Q (act.Sent m x y said ∷ past) go h = (go x said h.0, each-more P Q past go h.1)
 each-more P Q (a ∷ past) go h = each-more P Q past go h
 
 -- a claim on the sender and its message that stays true, and holds of each message that is sent
-pub each-sent : (C : List Act → NodeId → Message → Type 0) (d : DocumentData) (past : List Act) → ((now : List Act) (a : Act) (n : NodeId) (said : Message) → AllDue d (a ∷ now) → C now n said → C (a ∷ now) n said) → ((now : List Act) (n y : NodeId) (said : Message) → AllDue d now → SendDue d now n y said → C now n said) → AllDue d past → EachSent (C past) past
+pub each-sent : (C : List Act → NodeId → Message → Type 0) (d : DocumentData) (past : List Act)
+    → ((now : List Act) (a : Act) (n : NodeId) (said : Message) → AllDue d (a ∷ now) → C now n said
+    → C (a ∷ now) n said)
+    → ((now : List Act) (n y : NodeId) (said : Message) → AllDue d now → SendDue d now n y said → C now n said)
+    → AllDue d past → EachSent (C past) past
 each-sent C d [] more new due = tt
 each-sent C d (act.Sent m x y said ∷ past) more new due = (more past (act.Sent m x y said) x said due (new past x y said due.1 due.0), each-more (C past) (C (act.Sent m x y said ∷ past)) past (λ n s h. more past (act.Sent m x y said) n s due h) (each-sent C d past more new due.1))
 each-sent C d (a ∷ past) more new due = each-more (C past) (C (a ∷ past)) past (λ n s h. more past a n s due h) (each-sent C d past more new due.1)

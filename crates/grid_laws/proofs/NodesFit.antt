@@ -21,7 +21,8 @@ use Rattle.journal_words.proofs.Pendings.{is_over}
 -- ---- an act at a node
 
 -- what an act of m does at n, where it may only change m
-pub at-node : (P : NodeId → Change → Type 0) (m n : NodeId) (c : Change) → P m c → ((k : NodeId) → P k Nothing) → P n (where_at (m == n) c)
+pub at-node : (P : NodeId → Change → Type 0) (m n : NodeId) (c : Change) → P m c → ((k : NodeId) → P k Nothing)
+    → P n (where_at (m == n) c)
 at-node P m n c here none = elim (cases_eq m n) [
   | inl same ↦ (let Q : NodeId → Type 0 = λ k. P k (where_at (m == k) c) in let R : Change → Type 0 = λ y. P m y in subst Q same (subst R (sym (at-self m c)) here))
   | inr other ↦ (let Q : Bool → Type 0 = λ b. P n (where_at b c) in let e : false ≡ (m == n) = grind (arith, nat_tests) in subst Q e (none n))
@@ -32,7 +33,8 @@ home-one None n k h i = cc
 home-one (Some s) n k h i = grind (arith, nat_tests, h, i)
 
 -- what an act of t's home k does at n
-pub at-home : (d : DocumentData) (t : TxId) (P : NodeId → Change → Type 0) (k n : NodeId) (c : Change) → is_home d t k ≡ true → P k c → ((j : NodeId) → P j Nothing) → P n (where_at (is_home d t n) c)
+pub at-home : (d : DocumentData) (t : TxId) (P : NodeId → Change → Type 0) (k n : NodeId) (c : Change)
+    → is_home d t k ≡ true → P k c → ((j : NodeId) → P j Nothing) → P n (where_at (is_home d t n) c)
 at-home d t P k n c home here none = go (is_home d t n) refl
   where
     go : (b : Bool) → is_home d t n ≡ b → P n (where_at b c)
@@ -85,19 +87,23 @@ OverDoubt s (Some y) = is_over s y ≡ true
 -- what a change must meet
 abbrev pub FitChange : DocumentData → NodeId → Node → Change → Type 0
 FitChange d n x (Writes None) = Unit {0}
-FitChange d n x (Writes (Some y)) = (x.up ≡ true) × (fits d.cluster n x.journal y ≡ true) × AtItsHome d n y × (is_over x.next y ≡ true)
+FitChange d n x (Writes (Some y)) =
+    (x.up ≡ true) × (fits d.cluster n x.journal y ≡ true) × AtItsHome d n y × (is_over x.next y ≡ true)
 FitChange d n x (Stops o) = (x.up ≡ true) × FitsDoubt d n x.journal o × HoldsIn (AtItsHome d n) o × OverDoubt x.next o
 FitChange d n x c = Unit {0}
 
-pub all-more : (d : DocumentData) (n : NodeId) (y : Record) (r : List Record) → fits d.cluster n r y ≡ true → all_fit d.cluster n r ≡ true → all_fit d.cluster n (y ∷ r) ≡ true
+pub all-more : (d : DocumentData) (n : NodeId) (y : Record) (r : List Record) → fits d.cluster n r y ≡ true
+    → all_fit d.cluster n r ≡ true → all_fit d.cluster n (y ∷ r) ≡ true
 all-more d n y r h k = rw (h, k) refl
 
-clock-learnt : (y : Record) (r : List Record) (next : Ident) → is_above (1 + next) r ≡ true → is_above (1 + learnt (Some y) next) (y ∷ r) ≡ true
+clock-learnt : (y : Record) (r : List Record) (next : Ident) → is_above (1 + next) r ≡ true
+    → is_above (1 + learnt (Some y) next) (y ∷ r) ≡ true
 clock-learnt (record'.Prepared t home parts sid p reads writes) r next h = grind (arith, nat_tests, above-higher (1 + next) (1 + max p next) r (omega arith) h)
 clock-learnt (record'.Ended t (outcome.Commit f)) r next h = grind (arith, nat_tests, above-higher (1 + next) (1 + max f next) r (omega arith) h)
 clock-learnt y r next h = h
 
-same-node : (d : DocumentData) (n : NodeId) (x y : Node) → IsFitNode d n x → y.journal ≡ x.journal → y.doubt ≡ x.doubt → y.up ≡ x.up → x.next ≤ y.next → IsFitNode d n y
+same-node : (d : DocumentData) (n : NodeId) (x y : Node) → IsFitNode d n x → y.journal ≡ x.journal → y.doubt ≡ x.doubt
+    → y.up ≡ x.up → x.next ≤ y.next → IsFitNode d n y
 same-node d n x y s j o u le =
     let P : List Record → Type 0 = λ r. AllHold (AtItsHome d n) r in
     let Q : Option Record → Type 0 = λ z. HoldsIn (AtItsHome d n) z in
@@ -117,7 +123,8 @@ fit-found d n true (Some y) r h k = all-more d n y r k h
 fit-found d n true None r h k = h
 fit-found d n false o r h k = h
 
-pub fit-changed : (d : DocumentData) (n : NodeId) (x : Node) (c : Change) → IsFitNode d n x → FitChange d n x c → IsFitNode d n (changed c x)
+pub fit-changed : (d : DocumentData) (n : NodeId) (x : Node) (c : Change) → IsFitNode d n x → FitChange d n x c
+    → IsFitNode d n (changed c x)
 fit-changed d n x Nothing s due = s
 fit-changed d n x (Writes None) s due = s
 fit-changed d n x (Writes (Some y)) s due =

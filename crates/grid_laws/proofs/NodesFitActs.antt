@@ -38,14 +38,16 @@ pub record DecidedHere (d : DocumentData) (n : NodeId) (t : TxId) (y : Decision)
   pub home : is_home d t n ≡ true
   pub parts : y.parts ≡ parts_at d t
 
-pub decision-home : (d : DocumentData) (n : NodeId) (t : TxId) (y : Decision) (r : List Record) → AllHold (AtItsHome d n) r → decision t r ≡ Some y → DecidedHere d n t y
+pub decision-home : (d : DocumentData) (n : NodeId) (t : TxId) (y : Decision) (r : List Record)
+    → AllHold (AtItsHome d n) r → decision t r ≡ Some y → DecidedHere d n t y
 decision-home d n t y [] homes e = cc
 decision-home d n t y (record'.Decided u f parts ∷ r) homes e = elim (cases_eq u t) [
   | inl same ↦ (let is : Some (record { final = f; parts = parts }) ≡ Some y = grind (arith, nat_tests, e) in here (homes.0.0) (homes.0.1) same is)
   | inr other ↦ decision-home d n t y r homes.1 (grind (arith, nat_tests, e))
 ]
   where
-    here : is_home d u n ≡ true → parts ≡ parts_at d u → u ≡ t → Some (record { final = f; parts = parts }) ≡ Some y → DecidedHere d n t y
+    here : is_home d u n ≡ true → parts ≡ parts_at d u → u ≡ t → Some (record { final = f; parts = parts }) ≡ Some y
+        → DecidedHere d n t y
     here home ps same is =
         let P : TxId → Type 0 = λ v. is_home d v n ≡ true in
         let Q : TxId → Type 0 = λ v. parts ≡ parts_at d v in
@@ -65,7 +67,9 @@ undone-decision t y r e = go (is_closed t r) e
 
 -- ---- what is due fits
 
-not-prepared : (d : DocumentData) (n : NodeId) (t : TxId) (r : List Record) (o : Option Prepared) → all_fit d.cluster n r ≡ true → ended t r ≡ None → pending t r ≡ None → prepared_of t r ≡ o → prepared_of t r ≡ None
+not-prepared : (d : DocumentData) (n : NodeId) (t : TxId) (r : List Record) (o : Option Prepared)
+    → all_fit d.cluster n r ≡ true → ended t r ≡ None → pending t r ≡ None → prepared_of t r ≡ o
+    → prepared_of t r ≡ None
 not-prepared d n t r None fit e p is = is
 not-prepared d n t r (Some x) fit e p is = let q = running-pending d.cluster n t x r fit is e in cc
 
@@ -76,7 +80,9 @@ record Fields (d : DocumentData) (n : NodeId) (q : Prepare) : Type 0 where
 fit-fields : (d : DocumentData) (n : NodeId) (q : Prepare) → is_fit_prepare d.cluster n q ≡ true → Fields d n q
 fit-fields d n q h = record { part = grind (arith, h); lists = grind (arith, h) }
 
-fits-due : (d : DocumentData) (past : List Act) (n : NodeId) (t : TxId) (p : Ident) → IsFitNode d n (node d past n) → IsUp d past n → (due : PreparedDue d past n t p) → fits d.cluster n (journal d past n) (record'.Prepared t due.from due.asked.prepare.parts due.asked.prepare.sid p due.asked.prepare.reads due.asked.prepare.writes) ≡ true
+fits-due : (d : DocumentData) (past : List Act) (n : NodeId) (t : TxId) (p : Ident) → IsFitNode d n (node d past n)
+    → IsUp d past n → (due : PreparedDue d past n t p) → fits d.cluster n (journal d past n) (record'.Prepared t
+    due.from due.asked.prepare.parts due.asked.prepare.sid p due.asked.prepare.reads due.asked.prepare.writes) ≡ true
 fits-due d past n t p s up due =
     let q : Prepare = due.asked.prepare in
     let r : List Record = journal d past n in
@@ -92,7 +98,9 @@ fits-due d past n t p s up due =
       seen = due.newer;
     })
 
-pub prepared-is : (d : DocumentData) (past : List Act) (n : NodeId) (t : TxId) (p : Ident) → (due : PreparedDue d past n t p) → prepared_by (got past) t p ≡ Some (record'.Prepared t due.from due.asked.prepare.parts due.asked.prepare.sid p due.asked.prepare.reads due.asked.prepare.writes)
+pub prepared-is : (d : DocumentData) (past : List Act) (n : NodeId) (t : TxId) (p : Ident)
+    → (due : PreparedDue d past n t p) → prepared_by (got past) t p ≡ Some (record'.Prepared t due.from
+    due.asked.prepare.parts due.asked.prepare.sid p due.asked.prepare.reads due.asked.prepare.writes)
 prepared-is d past n t p due = rw due.asked.got refl
 
 over-next : (a b : ℕ) → nat_lt a (1 + max a b) ≡ true
@@ -100,7 +108,8 @@ over-next a b = grind (arith, nat_tests)
 
 -- a record that is due at n fits there
 abbrev OptionFits : DocumentData → List Act → NodeId → Option Record → Type 0
-OptionFits d past n o = FitsDoubt d n (journal d past n) o × HoldsIn (AtItsHome d n) o × OverDoubt (node d past n).next o
+OptionFits d past n o =
+    FitsDoubt d n (journal d past n) o × HoldsIn (AtItsHome d n) o × OverDoubt (node d past n).next o
 
 abbrev DueFits : DocumentData → List Act → NodeId → Head → Type 0
 DueFits d past n h = OptionFits d past n (record_of d (got past) h)
@@ -108,7 +117,8 @@ DueFits d past n h = OptionFits d past n (record_of d (got past) h)
 ceiling-even : (sid : Ident) → (ceiling_of sid % 64 == 0) ≡ true
 ceiling-even sid = let e : ceiling_of sid % 64 ≡ 0 = omega arith in rw e refl
 
-pub due-fits : (d : DocumentData) (past : List Act) (n : NodeId) (h : Head) → IsFitNode d n (node d past n) → RecordDue d past n h → DueFits d past n h
+pub due-fits : (d : DocumentData) (past : List Act) (n : NodeId) (h : Head) → IsFitNode d n (node d past n)
+    → RecordDue d past n h → DueFits d past n h
 due-fits d past n (head.Prepared t p) s due =
     let P : Option Record → Type 0 = λ o. OptionFits d past n o in
     let is = due.1.proposal in
@@ -129,11 +139,13 @@ due-fits d past n (head.Closed t) s due =
     (subst P (sym due.1.is) (rw is refl), tt, refl)
 due-fits d past n head.Compact s due = (tt, tt, tt)
 
-fit-written : (d : DocumentData) (n : NodeId) (x : Node) (o : Option Record) → x.up ≡ true → FitsDoubt d n x.journal o → HoldsIn (AtItsHome d n) o → OverDoubt x.next o → FitChange d n x (Writes o)
+fit-written : (d : DocumentData) (n : NodeId) (x : Node) (o : Option Record) → x.up ≡ true → FitsDoubt d n x.journal o
+    → HoldsIn (AtItsHome d n) o → OverDoubt x.next o → FitChange d n x (Writes o)
 fit-written d n x None up fit home over = tt
 fit-written d n x (Some y) up fit home over = (up, fit, home, over)
 
-fit-stop : (d : DocumentData) (past : List Act) (n : NodeId) (h : Option Head) → IsFitNode d n (node d past n) → StopDue d past n h → FitChange d n (node d past n) (Stops (doubt_of d (got past) h))
+fit-stop : (d : DocumentData) (past : List Act) (n : NodeId) (h : Option Head) → IsFitNode d n (node d past n)
+    → StopDue d past n h → FitChange d n (node d past n) (Stops (doubt_of d (got past) h))
 fit-stop d past n None s due = (due, tt, tt, tt)
 fit-stop d past n (Some h) s due = let f = due-fits d past n h s due in (due.0, f.0, f.1, f.2)
 
@@ -141,21 +153,26 @@ fit-stop d past n (Some h) s due = let f = due-fits d past n h s due in (due.0, 
 abbrev Everywhere : DocumentData → List Act → NodeId → Change → Type 0
 Everywhere d past n c = FitChange d n (node d past n) c
 
-fit-record : (d : DocumentData) (past : List Act) (n : NodeId) (h : Head) → IsFitNode d n (node d past n) → RecordDue d past n h → Everywhere d past n (Writes (record_of d (got past) h))
+fit-record : (d : DocumentData) (past : List Act) (n : NodeId) (h : Head) → IsFitNode d n (node d past n)
+    → RecordDue d past n h → Everywhere d past n (Writes (record_of d (got past) h))
 fit-record d past n h s due = let f = due-fits d past n h s due in fit-written d n (node d past n) (record_of d (got past) h) due.0 f.0 f.1 f.2
 
-pub closed-home : (d : DocumentData) (past : List Act) (n : NodeId) (t : TxId) → IsFitNode d n (node d past n) → ClosedDue d past n t → is_home d t n ≡ true
+pub closed-home : (d : DocumentData) (past : List Act) (n : NodeId) (t : TxId) → IsFitNode d n (node d past n)
+    → ClosedDue d past n t → is_home d t n ≡ true
 closed-home d past n t s due =
     let is : undone t (node d due.before n).journal ≡ Some due.decision = stage-commits d due.before n t due.decision due.acks due.stage in
     let P : List Act → Type 0 = λ p. undone t (node d p n).journal ≡ Some due.decision in
     let here : undone t (node d past n).journal ≡ Some due.decision = subst P (sym due.is) is in
     (decision-home d n t due.decision (node d past n).journal s.homes (undone-decision t due.decision (node d past n).journal here)).home
 
-fit-freed : (d : DocumentData) (past : List Act) (n : NodeId) (b : Bool) (t : TxId) (op : ℕ) (k : Key) (sid : Ident) → Everywhere d past n (freed b t op k sid)
+fit-freed : (d : DocumentData) (past : List Act) (n : NodeId) (b : Bool) (t : TxId) (op : ℕ) (k : Key) (sid : Ident)
+    → Everywhere d past n (freed b t op k sid)
 fit-freed d past n true t op k sid = tt
 fit-freed d past n false t op k sid = tt
 
-pub fit-change : (d : DocumentData) (past : List Act) (a : Act) (n : NodeId) → ((k : NodeId) → IsFitNode d k (node d past k)) → IsDue d past a → FitChange d n (node d past n) (change d (got past) a n)
+pub fit-change : (d : DocumentData) (past : List Act) (a : Act) (n : NodeId)
+    → ((k : NodeId) → IsFitNode d k (node d past k)) → IsDue d past a
+    → FitChange d n (node d past n) (change d (got past) a n)
 fit-change d past (act.Prepared m t p) n s due = at-node (Everywhere d past) m n (Writes (prepared_by (got past) t p)) (fit-record d past m (head.Prepared t p) (s m) due) (λ k. tt)
 fit-change d past (act.Ended m t o) n s due = at-node (Everywhere d past) m n (Writes (Some (record'.Ended t o))) (fit-record d past m (head.Ended t o) (s m) due) (λ k. tt)
 fit-change d past (act.Ceiling m c) n s due = at-node (Everywhere d past) m n (Writes (Some (record'.Ceiling c))) (fit-record d past m (head.Ceiling c) (s m) due) (λ k. tt)

@@ -25,7 +25,8 @@ use Rattle.grid_laws.proofs.OpenNotGivenUp.{open-not-given-up}
 use Rattle.grid_laws.proofs.DecidedNotGivenUp.{home-at}
 
 -- what is open is not decided
-pub open-not-decided : (d : DocumentData) (past : List Act) → AllDue d past → (s : ScriptData) (t : TxId) → script_of t d.scripts ≡ Some s → is_open (phase d past s) ≡ true → (f : Ident) → IsDecided d past t f → ⊥
+pub open-not-decided : (d : DocumentData) (past : List Act) → AllDue d past → (s : ScriptData) (t : TxId)
+    → script_of t d.scripts ≡ Some s → is_open (phase d past s) ≡ true → (f : Ident) → IsDecided d past t f → ⊥
 open-not-decided d past all s t is e f w =
     let at : s.home ≡ w.0 = home-at d t w.0 s is w.1 in
     let says = has_decided-says t f (journal d past w.0) w.2 in
@@ -36,7 +37,9 @@ open-not-decided d past all s t is e f w =
     cc
 
 -- it has ended nowhere
-pub open-not-ended : (d : DocumentData) (past : List Act) → AllDue d past → (s : ScriptData) (t : TxId) → script_of t d.scripts ≡ Some s → is_open (phase d past s) ≡ true → (n : NodeId) → ended t (journal d past n) ≡ None
+pub open-not-ended : (d : DocumentData) (past : List Act) → AllDue d past → (s : ScriptData) (t : TxId)
+    → script_of t d.scripts ≡ Some s → is_open (phase d past s) ≡ true → (n : NodeId)
+    → ended t (journal d past n) ≡ None
 open-not-ended d past all s t is e n = go (ended t (journal d past n)) refl
   where
     go : (o : Option Outcome) → ended t (journal d past n) ≡ o → o ≡ None

@@ -35,7 +35,9 @@ flagged-stays = record {
   lost = λ x i. or_right x.aborted true refl;
 }
 
-flagged-began : (d : DocumentData) (past : List Act) (u t : TxId) (n : NodeId) (sid0 : Ident) (b : Bool) → (u == t) ≡ b → BeganDue d past u n sid0 → IsFlagged (story d past t) → IsFlagged (if b then Some (begun_in d (node d past) t sid0) else story d past t)
+flagged-began : (d : DocumentData) (past : List Act) (u t : TxId) (n : NodeId) (sid0 : Ident) (b : Bool) → (u == t) ≡ b
+    → BeganDue d past u n sid0 → IsFlagged (story d past t)
+    → IsFlagged (if b then Some (begun_in d (node d past) t sid0) else story d past t)
 flagged-began d past u t n sid0 true e due k =
     let same : u ≡ t = grind (arith, nat_tests) in
     let Q : TxId → Type 0 = λ w. story d past w ≡ None in
@@ -44,20 +46,24 @@ flagged-began d past u t n sid0 true e due k =
 flagged-began d past u t n sid0 false e due k = k
 
 -- aborted or lost it stays
-pub flagged-more : (d : DocumentData) (past : List Act) (a : Act) (t : TxId) → AllDue d (a ∷ past) → IsFlagged (story d past t) → IsFlagged (story d (a ∷ past) t)
+pub flagged-more : (d : DocumentData) (past : List Act) (a : Act) (t : TxId) → AllDue d (a ∷ past)
+    → IsFlagged (story d past t) → IsFlagged (story d (a ∷ past) t)
 flagged-more d past (act.Began u n sid0) t due k = flagged-began d past u t n sid0 (u == t) refl due.0 k
 flagged-more d past (act.Taken u j sid v) t due k = if-claim IsFlagged (u == t) _ (story d past t) (λ e x i. i) k
 flagged-more d past a t due k = untaking-claim IsFlagged flagged-stays d past a t refl k
 
 -- ---- a transaction that was given up
 
-told-flagged : (f : Story → Story) (o : Option Story) (x : Story) (b : Bool) → o ≡ Some x → b ≡ true → IsFlagged (Some (f x)) → IsFlagged (if_told b f o)
+told-flagged : (f : Story → Story) (o : Option Story) (x : Story) (b : Bool) → o ≡ Some x → b ≡ true
+    → IsFlagged (Some (f x)) → IsFlagged (if_told b f o)
 told-flagged f o x b is e k = rw (is, e) k
 
-aborted-flagged : (d : DocumentData) (past : List Act) (t : TxId) (n : NodeId) (why : _) → AbortedDue d past t n why → IsFlagged (story d (act.Aborted t n why ∷ past) t)
+aborted-flagged : (d : DocumentData) (past : List Act) (t : TxId) (n : NodeId) (why : _) → AbortedDue d past t n why
+    → IsFlagged (story d (act.Aborted t n why ∷ past) t)
 aborted-flagged d past t n why due = told-flagged (λ x. record x { aborted = true }) (story d past t) due.story (t == t) due.at.story (same-number t) refl
 
-lost-flagged : (d : DocumentData) (past : List Act) (t : TxId) → LostDue d past t → IsFlagged (story d (act.Lost t ∷ past) t)
+lost-flagged : (d : DocumentData) (past : List Act) (t : TxId) → LostDue d past t
+    → IsFlagged (story d (act.Lost t ∷ past) t)
 lost-flagged d past t due =
     let w = open-story due.script (story d past due.script.number) (node d past due.script.home) due.unended in
     let P : TxId → Type 0 = λ u. story d past u ≡ Some w.0 in
@@ -70,7 +76,8 @@ given-either u t b e other = go (u == t) refl e
     go true is e = absurd (other (grind (arith, nat_tests, is)))
     go false is e = e
 
-pub given-flagged : (d : DocumentData) (past : List Act) → AllDue d past → (t : TxId) → is_given_up t past ≡ true → IsFlagged (story d past t)
+pub given-flagged : (d : DocumentData) (past : List Act) → AllDue d past → (t : TxId) → is_given_up t past ≡ true
+    → IsFlagged (story d past t)
 given-flagged d [] due t e = cc
 given-flagged d (act.Aborted u n why ∷ past) due t e = elim (cases_eq u t) [
   | inl same ↦ (let P : TxId → Type 0 = λ w. IsFlagged (story d (act.Aborted u n why ∷ past) w) in subst P same (aborted-flagged d past u n why due.0))
@@ -83,11 +90,13 @@ given-flagged d (act.Lost u ∷ past) due t e = elim (cases_eq u t) [
 given-flagged d (a ∷ past) due t e = flagged-more d past a t due (given-flagged d past due.1 t e)
 
 -- its story says so
-pub given-up-told : (d : DocumentData) (past : List Act) → AllDue d past → (t : TxId) (x : Story) → story d past t ≡ Some x → is_given_up t past ≡ true → (x.aborted || x.lost) ≡ true
+pub given-up-told : (d : DocumentData) (past : List Act) → AllDue d past → (t : TxId) (x : Story)
+    → story d past t ≡ Some x → is_given_up t past ≡ true → (x.aborted || x.lost) ≡ true
 given-up-told d past due t x told e = subst IsFlagged told (given-flagged d past due t e)
 
 -- what is open was not given up
-pub open-not-given-up : (d : DocumentData) (past : List Act) → AllDue d past → (s : ScriptData) (t : TxId) → script_of t d.scripts ≡ Some s → is_open (phase d past s) ≡ true → is_given_up t past ≡ true → ⊥
+pub open-not-given-up : (d : DocumentData) (past : List Act) → AllDue d past → (s : ScriptData) (t : TxId)
+    → script_of t d.scripts ≡ Some s → is_open (phase d past s) ≡ true → is_given_up t past ≡ true → ⊥
 open-not-given-up d past due s t is e given =
     let w = open-story s (story d past s.number) (node d past s.home) e in
     let told : story d past s.number ≡ Some w.0 = w.1 in

@@ -12,7 +12,8 @@ use Rattle.script_lang.specs.Reads.{is_update}
 use Rattle.std.specs.Prelude.{◌&&◌, not, if◌then◌else◌}
 
 -- an open transaction is begun
-pub open-story : (s : ScriptData) (o : Option Story) (h : Node) → is_open (phase_at s o h) ≡ true → (x : Story) × (o ≡ Some x)
+pub open-story : (s : ScriptData) (o : Option Story) (h : Node) → is_open (phase_at s o h) ≡ true
+    → (x : Story) × (o ≡ Some x)
 open-story s None h e = cc
 open-story s (Some x) h e = (x, refl)
 
@@ -22,7 +23,8 @@ pub record IsOpen (s : ScriptData) (x : Story) (h : Node) : Type 0 where
   pub aborted : x.aborted ≡ false
   pub undecided : later_decision x.skipped s.number h.journal ≡ None
 
-open-by : (ops : List Op) (x : Story) (closed : Bool) (o : Option Decision) (a b : Bool) → x.lost ≡ a → x.aborted ≡ b → is_open (phase_by ops (Some x) closed o) ≡ true → (x.lost ≡ false) × (x.aborted ≡ false) × (o ≡ None)
+open-by : (ops : List Op) (x : Story) (closed : Bool) (o : Option Decision) (a b : Bool) → x.lost ≡ a → x.aborted ≡ b
+    → is_open (phase_by ops (Some x) closed o) ≡ true → (x.lost ≡ false) × (x.aborted ≡ false) × (o ≡ None)
 open-by ops x closed o true b l e is = absurd (grind (arith, l, is))
 open-by ops x closed None false true l e is = absurd (grind (arith, l, e, is))
 open-by ops x closed None false false l e is = (l, e, refl)
@@ -32,26 +34,31 @@ open-by ops x false (Some y) false b l e is = absurd (grind (arith, l, is))
 pub open-is : (s : ScriptData) (x : Story) (h : Node) → is_open (phase_at s (Some x) h) ≡ true → IsOpen s x h
 open-is s x h e = let w = open-by s.ops x (is_closed s.number h.journal) (later_decision x.skipped s.number h.journal) x.lost x.aborted refl refl e in record { lost = w.0; aborted = w.1; undecided = w.2 }
 
-pub open-undecided : (s : ScriptData) (o : Option Story) (h : Node) → is_open (phase_at s o h) ≡ true → later_decision (skipped_in o) s.number h.journal ≡ None
+pub open-undecided : (s : ScriptData) (o : Option Story) (h : Node) → is_open (phase_at s o h) ≡ true
+    → later_decision (skipped_in o) s.number h.journal ≡ None
 open-undecided s None h e = cc
 open-undecided s (Some x) h e = (open-is s x h e).undecided
 
 -- open by its story, it is open at each node that decided nothing more of it
-pub open-there : (s : ScriptData) (o : Option Story) (h k : Node) → is_open (phase_at s o h) ≡ true → later_decision (skipped_in o) s.number k.journal ≡ None → is_open (phase_at s o k) ≡ true
+pub open-there : (s : ScriptData) (o : Option Story) (h k : Node) → is_open (phase_at s o h) ≡ true
+    → later_decision (skipped_in o) s.number k.journal ≡ None → is_open (phase_at s o k) ≡ true
 open-there s None h k e none = cc
 open-there s (Some x) h k e none = (let was = (open-is s x h e).undecided in rw none (rw was at e))
 
 -- a transaction that has just begun is open
-pub open-begun : (s : ScriptData) (k : ℕ) (sid0 : ℕ) (h : Node) → decision s.number h.journal ≡ None → is_open (phase_at s (Some (begun k sid0)) h) ≡ true
+pub open-begun : (s : ScriptData) (k : ℕ) (sid0 : ℕ) (h : Node) → decision s.number h.journal ≡ None
+    → is_open (phase_at s (Some (begun k sid0)) h) ≡ true
 open-begun s k sid0 h none = rw (undecided-later k s.number h.journal none) (grind arith)
 
-open-either : (b : Bool) (v w : Option ℕ) → is_open (if b then Answered else open_phase v) ≡ true → is_open (if b then Answered else open_phase w) ≡ true
+open-either : (b : Bool) (v w : Option ℕ) → is_open (if b then Answered else open_phase v) ≡ true
+    → is_open (if b then Answered else open_phase w) ≡ true
 open-either true v w e = e
 open-either false v None e = refl
 open-either false v (Some j) e = refl
 
 -- a value more leaves it open
-pub open-valued : (s : ScriptData) (x : Story) (h : Node) (j sid v : ℕ) → is_open (phase_at s (Some x) h) ≡ true → is_open (phase_at s (Some (progressed (with_value j sid v) x)) h) ≡ true
+pub open-valued : (s : ScriptData) (x : Story) (h : Node) (j sid v : ℕ) → is_open (phase_at s (Some x) h) ≡ true
+    → is_open (phase_at s (Some (progressed (with_value j sid v) x)) h) ≡ true
 open-valued s x h j sid v e =
     let was = open-is s x h e in
     let l = was.lost in

@@ -103,7 +103,8 @@ pub none-again : (d : DocumentData) (past : List Act) (n : NodeId) (os : List Ou
     → outs_weight os ≡ 0
 none-again d past n os is = none-outs os (pass-again is_unproposing (λ m. refl) d past n os is)
 
-pub none-begin : (n : NodeId) (v : View) (s : ScriptData) (floor : Ident) → outs_weight (begin_outs n (participant v) s floor) ≡ 0
+pub none-begin : (n : NodeId) (v : View) (s : ScriptData) (floor : Ident)
+    → outs_weight (begin_outs n (participant v) s floor) ≡ 0
 none-begin n v s floor =
     none-outs (begin_outs n (participant v) s floor)
     (pass-begin is_unproposing (λ t m sid0. refl) (λ t j w. refl) (λ t. refl) n (participant v) s floor)

@@ -1,8 +1,8 @@
 -- A decision that stands open at a node is of a transaction of that node that began and was not lost.
-use Rattle.std.proofs.Common.{◌≡◌, Bool, true, false, ◌&&◌, ◌||◌, IsTrue, List, Option, Some, None, is_none, refl, subst, arith}
+use Rattle.std.proofs.Common.{◌≡◌, Bool, true, false, ◌&&◌, ◌||◌, IsTrue, List, Option, Some, None, is_none, refl, subst}
 use Rattle.score_base.specs.declared.ids.TxId.{TxId}
 use Rattle.score_base.specs.declared.ids.NodeId.{NodeId}
-use Rattle.journal_words.specs.Journals.{Decision, decision, has_decided, undone}
+use Rattle.journal_words.specs.Journals.{Decision, has_decided, undone}
 use Rattle.journal_words.proofs.Decisions.{decision-has}
 use Rattle.grid_model.specs.declared.acts.Act.{Act}
 use Rattle.grid_model.specs.declared.stories.Story.{Story}
@@ -16,7 +16,8 @@ use Rattle.grid_laws.proofs.DecisionsRest.{decided-say, decision-stands}
 use Rattle.grid_laws.proofs.AbortsFinal.{Meant, flags-meant}
 use Rattle.grid_laws.proofs.DecidedNotGivenUp.{given-up-undecided}
 
-own-decision : (d : DocumentData) (past : List Act) (n : NodeId) (t : TxId) (y : Decision) → AllDue d past → undone t (journal d past n) ≡ Some y → IsTrue (is_home d t n && is_running (story d past t))
+own-decision : (d : DocumentData) (past : List Act) (n : NodeId) (t : TxId) (y : Decision) → AllDue d past
+    → undone t (journal d past n) ≡ Some y → IsTrue (is_home d t n && is_running (story d past t))
 own-decision d past n t y due is =
     let r = journal d past n in
     let has : has_decided t y.final r ≡ true = decision-has t y r (undone-decision t y r is) in
@@ -33,6 +34,7 @@ own-decision d past n t y due is =
 pub own-decisions : (d : DocumentData) (past : List Act) → AllDue d past → (n : NodeId) → OwnDecisions d past n
 own-decisions d past due n t = go (undone t (journal d past n)) refl
   where
-    go : (o : Option Decision) → undone t (journal d past n) ≡ o → IsTrue (is_none (undone t (journal d past n)) || (is_home d t n && is_running (story d past t)))
+    go : (o : Option Decision) → undone t (journal d past n) ≡ o
+        → IsTrue (is_none (undone t (journal d past n)) || (is_home d t n && is_running (story d past t)))
     go None is = rw is refl
     go (Some y) is = rw is (own-decision d past n t y due is)

@@ -27,7 +27,8 @@ first-among : (ns : List NodeId) → is_partition ns ≡ true → (n : NodeId) �
 first-among [] h = cc
 first-among (n ∷ ns) h = (n, grind (arith, nat_tests))
 
-place-among : (places : List (List NodeId)) (i : ℕ) → list_all is_partition places ≡ true → i < length places → (n : NodeId) × (is_among n (slice_index_or places i []) ≡ true)
+place-among : (places : List (List NodeId)) (i : ℕ) → list_all is_partition places ≡ true → i < length places
+    → (n : NodeId) × (is_among n (slice_index_or places i []) ≡ true)
 place-among [] i all lt = absurd (omega arith)
 place-among (ns ∷ places) zero all lt = first-among ns (and_parts (is_partition ns) (list_all is_partition places) all).0
 place-among (ns ∷ places) (suc i) all lt = place-among places i (and_parts (is_partition ns) (list_all is_partition places) all).1 (omega arith)
@@ -40,12 +41,15 @@ some-holder d k one =
 -- ---- the keys of a script
 
 -- a key that is written is named
-pub written-named : (k : Key) (seen : List Key) (ops : List Op) → is_key_among k (written_keys seen ops) ≡ true → is_key_among k (keys_named ops) ≡ true
+pub written-named : (k : Key) (seen : List Key) (ops : List Op) → is_key_among k (written_keys seen ops) ≡ true
+    → is_key_among k (keys_named ops) ≡ true
 written-named k seen [] h = h
 written-named k seen (op.Read x ∷ ops) h = or_right (same_key k x) (is_key_among k (keys_named ops)) (written-named k seen ops h)
 written-named k seen (op.Write x e ∷ ops) h = go (is_key_among x seen) h (λ s i. written-named k s ops i)
   where
-    go : (b : Bool) → is_key_among k (if b then written_keys seen ops else x ∷ written_keys (x ∷ seen) ops) ≡ true → ((s : List Key) → is_key_among k (written_keys s ops) ≡ true → is_key_among k (keys_named ops) ≡ true) → (same_key k x || is_key_among k (keys_named ops)) ≡ true
+    go : (b : Bool) → is_key_among k (if b then written_keys seen ops else x ∷ written_keys (x ∷ seen) ops) ≡ true
+        → ((s : List Key) → is_key_among k (written_keys s ops) ≡ true → is_key_among k (keys_named ops) ≡ true)
+        → (same_key k x || is_key_among k (keys_named ops)) ≡ true
     go true i more = or_right (same_key k x) (is_key_among k (keys_named ops)) (more seen i)
     go false i more = elim (or_cases (same_key k x) (is_key_among k (written_keys (x ∷ seen) ops)) i) [
       | inl here ↦ or_left (same_key k x) (is_key_among k (keys_named ops)) here
@@ -53,11 +57,14 @@ written-named k seen (op.Write x e ∷ ops) h = go (is_key_among x seen) h (λ s
     ]
 
 -- a key that is read remotely is named
-pub remote-named : (k : Key) (seen : List Key) (ops : List Op) → is_key_among k (remote_keys seen ops) ≡ true → is_key_among k (keys_named ops) ≡ true
+pub remote-named : (k : Key) (seen : List Key) (ops : List Op) → is_key_among k (remote_keys seen ops) ≡ true
+    → is_key_among k (keys_named ops) ≡ true
 remote-named k seen [] h = h
 remote-named k seen (op.Read x ∷ ops) h = go (is_key_among x seen) h (λ s i. remote-named k s ops i)
   where
-    go : (b : Bool) → is_key_among k (if b then remote_keys seen ops else x ∷ remote_keys (x ∷ seen) ops) ≡ true → ((s : List Key) → is_key_among k (remote_keys s ops) ≡ true → is_key_among k (keys_named ops) ≡ true) → (same_key k x || is_key_among k (keys_named ops)) ≡ true
+    go : (b : Bool) → is_key_among k (if b then remote_keys seen ops else x ∷ remote_keys (x ∷ seen) ops) ≡ true
+        → ((s : List Key) → is_key_among k (remote_keys s ops) ≡ true → is_key_among k (keys_named ops) ≡ true)
+        → (same_key k x || is_key_among k (keys_named ops)) ≡ true
     go true i more = or_right (same_key k x) (is_key_among k (keys_named ops)) (more seen i)
     go false i more = elim (or_cases (same_key k x) (is_key_among k (remote_keys (x ∷ seen) ops)) i) [
       | inl here ↦ or_left (same_key k x) (is_key_among k (keys_named ops)) here
@@ -65,7 +72,8 @@ remote-named k seen (op.Read x ∷ ops) h = go (is_key_among x seen) h (λ s i. 
     ]
 remote-named k seen (op.Write x e ∷ ops) h = or_right (same_key k x) (is_key_among k (keys_named ops)) (remote-named k (x ∷ seen) ops h)
 
-distinct-among : (k : Key) (seen ks : List Key) → is_key_among k seen ≡ false → is_key_among k ks ≡ true → is_key_among k (distinct_keys seen ks) ≡ true
+distinct-among : (k : Key) (seen ks : List Key) → is_key_among k seen ≡ false → is_key_among k ks ≡ true
+    → is_key_among k (distinct_keys seen ks) ≡ true
 distinct-among k seen [] new h = h
 distinct-among k seen (x ∷ ks) new h = go (same_key k x) (is_key_among x seen) refl refl h (λ s e i. distinct-among k s ks e i)
   where
@@ -75,7 +83,9 @@ distinct-among k seen (x ∷ ks) new h = go (same_key k x) (is_key_among x seen)
         let there : is_key_among k seen ≡ true = subst (λ (y : Key). is_key_among y seen ≡ true) (sym is) (f ∙ g) in
         cc
 
-    go : (a b : Bool) → same_key k x ≡ a → is_key_among x seen ≡ b → (a || is_key_among k ks) ≡ true → ((s : List Key) → is_key_among k s ≡ false → is_key_among k ks ≡ true → is_key_among k (distinct_keys s ks) ≡ true) → is_key_among k (if b then distinct_keys seen ks else x ∷ distinct_keys (x ∷ seen) ks) ≡ true
+    go : (a b : Bool) → same_key k x ≡ a → is_key_among x seen ≡ b → (a || is_key_among k ks) ≡ true → ((s : List Key)
+        → is_key_among k s ≡ false → is_key_among k ks ≡ true → is_key_among k (distinct_keys s ks) ≡ true)
+        → is_key_among k (if b then distinct_keys seen ks else x ∷ distinct_keys (x ∷ seen) ks) ≡ true
     go true true e f i more = absurd (first true e f refl)
     go true false e f i more = or_left (same_key k x) (is_key_among k (distinct_keys (x ∷ seen) ks)) e
     go false true e f i more = more seen new i
@@ -83,23 +93,29 @@ distinct-among k seen (x ∷ ks) new h = go (same_key k x) (is_key_among x seen)
 
 -- ---- parts
 
-filter-range : (p : NodeId → Bool) (n a len : ℕ) → a ≤ n → n < a + len → p n ≡ true → is_among n (filter p (range_with_len a len)) ≡ true
+filter-range : (p : NodeId → Bool) (n a len : ℕ) → a ≤ n → n < a + len → p n ≡ true
+    → is_among n (filter p (range_with_len a len)) ≡ true
 filter-range p n a zero le lt h = absurd (omega arith)
 filter-range p n a (suc len) le lt h = elim (cases_eq a n) [
   | inl same ↦ here (p a) (grind (arith, nat_tests, same)) (subst (λ (m : NodeId). p m ≡ true) (sym same) h)
   | inr other ↦ later (p a) (filter-range p n (a + 1) len (omega arith) (omega arith) h)
 ]
   where
-    here : (b : Bool) → (a == n) ≡ true → b ≡ true → is_among n (if b then a ∷ filter p (range_with_len (a + 1) len) else filter p (range_with_len (a + 1) len)) ≡ true
+    here : (b : Bool) → (a == n) ≡ true → b ≡ true
+        → is_among n (if b then a ∷ filter p (range_with_len (a + 1) len) else filter p (range_with_len (a + 1) len))
+        ≡ true
     here true same e = or_left (a == n) (is_among n (filter p (range_with_len (a + 1) len))) same
     here false same e = cc
 
-    later : (b : Bool) → is_among n (filter p (range_with_len (a + 1) len)) ≡ true → is_among n (if b then a ∷ filter p (range_with_len (a + 1) len) else filter p (range_with_len (a + 1) len)) ≡ true
+    later : (b : Bool) → is_among n (filter p (range_with_len (a + 1) len)) ≡ true
+        → is_among n (if b then a ∷ filter p (range_with_len (a + 1) len) else filter p (range_with_len (a + 1) len))
+        ≡ true
     later true e = or_right (a == n) (is_among n (filter p (range_with_len (a + 1) len))) e
     later false e = e
 
 -- a holder of a key that the script names is a part
-pub named-part : (d : DocumentData) (s : ScriptData) (n : NodeId) (k : Key) → IsOne d → IsTrue (holds d.cluster.places n k) → is_key_among k (keys_named s.ops) ≡ true → is_among n (parts_of d s) ≡ true
+pub named-part : (d : DocumentData) (s : ScriptData) (n : NodeId) (k : Key) → IsOne d
+    → IsTrue (holds d.cluster.places n k) → is_key_among k (keys_named s.ops) ≡ true → is_among n (parts_of d s) ≡ true
 named-part d s n k one holds' named =
     let least : 1 ≤ n = holder-least d n k one holds' in
     let low : n ≤ d.cluster.nodes = holder-most d n k one holds' in
@@ -108,7 +124,9 @@ named-part d s n k one holds' named =
     (any-among (holds d.cluster.places n) k (keys_of s.ops) holds' (distinct-among k [] (keys_named s.ops) refl named))
 
 -- the same, for the parts of the transaction
-pub named-part-at : (d : DocumentData) (t : TxId) (s : ScriptData) (n : NodeId) (k : Key) → IsOne d → script_of t d.scripts ≡ Some s → IsTrue (holds d.cluster.places n k) → is_key_among k (keys_named s.ops) ≡ true → is_among n (parts_at d t) ≡ true
+pub named-part-at : (d : DocumentData) (t : TxId) (s : ScriptData) (n : NodeId) (k : Key) → IsOne d
+    → script_of t d.scripts ≡ Some s → IsTrue (holds d.cluster.places n k) → is_key_among k (keys_named s.ops) ≡ true
+    → is_among n (parts_at d t) ≡ true
 named-part-at d t s n k one is holds' named =
     let same : parts_at d t ≡ parts_of d s = ap (parts_in d) is in
     rw same (named-part d s n k one holds' named)
@@ -121,6 +139,7 @@ named-at (x ∷ ops) zero o e = (let is : x ≡ o = cc in let P : Op → Type 0 
 named-at (x ∷ ops) (suc i) o e = or_right (same_key (key_of o) (key_of x)) (is_key_among (key_of o) (keys_named ops)) (named-at ops i o e)
 
 -- a holder of the key of an operation is a part
-pub op-part : (d : DocumentData) (s : ScriptData) (j : ℕ) (o : Op) (y : NodeId) → IsOne d → op_at s.ops j ≡ Some o → holds d.cluster.places y (key_of o) ≡ true → is_among y (parts_of d s) ≡ true
+pub op-part : (d : DocumentData) (s : ScriptData) (j : ℕ) (o : Op) (y : NodeId) → IsOne d → op_at s.ops j ≡ Some o
+    → holds d.cluster.places y (key_of o) ≡ true → is_among y (parts_of d s) ≡ true
 op-part d s zero o y one at h = cc
 op-part d s (suc i) o y one at h = named-part d s y (key_of o) one h (named-at s.ops i o at)

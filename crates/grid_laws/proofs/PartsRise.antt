@@ -15,7 +15,10 @@ rising-range : (p : NodeId → Bool) (j a n : ℕ) → j < a → is_rising (j �
 rising-range p j a zero low = refl
 rising-range p j a (suc n) low = go (p a) (rising-range p a (a + 1) n (omega arith)) (rising-range p j (a + 1) n (omega arith))
   where
-    go : (b : Bool) → is_rising (a ∷ filter p (range_with_len (a + 1) n)) ≡ true → is_rising (j ∷ filter p (range_with_len (a + 1) n)) ≡ true → is_rising (j ∷ (if b then a ∷ filter p (range_with_len (a + 1) n) else filter p (range_with_len (a + 1) n))) ≡ true
+    go : (b : Bool) → is_rising (a ∷ filter p (range_with_len (a + 1) n)) ≡ true
+        → is_rising (j ∷ filter p (range_with_len (a + 1) n)) ≡ true
+        → is_rising (j ∷ (if b then a ∷ filter p (range_with_len (a + 1) n) else filter p (range_with_len (a + 1) n)))
+        ≡ true
     go true here later = grind (arith, nat_tests, low, here)
     go false here later = later
 
@@ -27,7 +30,8 @@ length-range : (p : NodeId → Bool) (a n : ℕ) → length (filter p (range_wit
 length-range p a zero = omega arith
 length-range p a (suc n) = go (p a) (length-range p (a + 1) n)
   where
-    go : (b : Bool) → length (filter p (range_with_len (a + 1) n)) ≤ n → length (if b then a ∷ filter p (range_with_len (a + 1) n) else filter p (range_with_len (a + 1) n)) ≤ suc n
+    go : (b : Bool) → length (filter p (range_with_len (a + 1) n)) ≤ n
+        → length (if b then a ∷ filter p (range_with_len (a + 1) n) else filter p (range_with_len (a + 1) n)) ≤ suc n
     go true h = omega (arith, h)
     go false h = omega (arith, h)
 
@@ -38,7 +42,8 @@ passes-among p n (m ∷ ns) h = go (p m) refl h (λ e. passes-among p n ns e)
     here : (m == n) ≡ true → p m ≡ true → p n ≡ true
     here e h = let is : m ≡ n = grind (arith, nat_tests, e) in subst (λ k. p k ≡ true) is h
 
-    go : (b : Bool) → p m ≡ b → is_among n (if b then m ∷ filter p ns else filter p ns) ≡ true → (is_among n (filter p ns) ≡ true → p n ≡ true) → p n ≡ true
+    go : (b : Bool) → p m ≡ b → is_among n (if b then m ∷ filter p ns else filter p ns) ≡ true
+        → (is_among n (filter p ns) ≡ true → p n ≡ true) → p n ≡ true
     go true e h more = elim (or_cases (m == n) (is_among n (filter p ns)) h) [
       | inl first ↦ here first e
       | inr later ↦ more later
@@ -61,5 +66,6 @@ among-some n [] h = cc
 among-some n (m ∷ ns) h = grind (arith, nat_tests)
 
 -- a part holds one of the keys
-pub part-holds : (places : List (List NodeId)) (ks : List Key) (n : NodeId) → is_among n (parts places ks) ≡ true → list_any (holds places n) ks ≡ true
+pub part-holds : (places : List (List NodeId)) (ks : List Key) (n : NodeId) → is_among n (parts places ks) ≡ true
+    → list_any (holds places n) ks ≡ true
 part-holds places ks n h = passes-among (λ m. list_any (holds places m) ks) n (range_with_len 1 16) h

@@ -34,16 +34,19 @@ use Rattle.grid_laws.proofs.ScriptKeys.{filter-length, remote-length, written-le
 
 -- ---- the scripts of a document
 
-body-of : (t : TxId) (ss : List ScriptData) (s : ScriptData) → list_all (λ x. is_body x.ops) ss ≡ true → script_of t ss ≡ Some s → is_body s.ops ≡ true
+body-of : (t : TxId) (ss : List ScriptData) (s : ScriptData) → list_all (λ x. is_body x.ops) ss ≡ true
+    → script_of t ss ≡ Some s → is_body s.ops ≡ true
 body-of t [] s all e = cc
 body-of t (x ∷ ss) s all e = go (x.number == t) e (and_parts (is_body x.ops) (list_all (λ y. is_body y.ops) ss) all).0 (λ f. body-of t ss s (and_parts (is_body x.ops) (list_all (λ y. is_body y.ops) ss) all).1 f)
   where
-    go : (b : Bool) → (if b then Some x else script_of t ss) ≡ Some s → is_body x.ops ≡ true → (script_of t ss ≡ Some s → is_body s.ops ≡ true) → is_body s.ops ≡ true
+    go : (b : Bool) → (if b then Some x else script_of t ss) ≡ Some s → is_body x.ops ≡ true
+        → (script_of t ss ≡ Some s → is_body s.ops ≡ true) → is_body s.ops ≡ true
     go true e h more = (let is : x ≡ s = cc in let P : ScriptData → Type 0 = λ y. is_body y.ops ≡ true in subst P is h)
     go false e h more = more e
 
 -- a script has at most 32 operations
-pub body-most : (d : DocumentData) (t : TxId) (s : ScriptData) → IsOne d → script_of t d.scripts ≡ Some s → length s.ops ≤ 32
+pub body-most : (d : DocumentData) (t : TxId) (s : ScriptData) → IsOne d → script_of t d.scripts ≡ Some s
+    → length s.ops ≤ 32
 body-most d t s one e =
     let b : is_body s.ops ≡ true = body-of t d.scripts s one.bodies e in
     let le : nat_le (length s.ops) 32 ≡ true = (and_parts (nat_le (length s.ops) 32) (are_sound [] s.ops) (and_parts (nat_le 1 (length s.ops)) _ b).1).0 in
@@ -64,7 +67,8 @@ pub record FitLists (c : ClusterData) (n : NodeId) (q : Prepare) : Type 0 where
   pub written : are_own_keys c n (keys_of_writes q.writes) ≡ true
 
 -- with a small identifier it is fit
-pub fit-small : (c : ClusterData) (n : NodeId) (q : Prepare) → FitLists c n q → is_small q.sid ≡ true → is_fit_prepare c n q ≡ true
+pub fit-small : (c : ClusterData) (n : NodeId) (q : Prepare) → FitLists c n q → is_small q.sid ≡ true
+    → is_fit_prepare c n q ≡ true
 fit-small c n q f small =
     and_from (is_small q.sid) _ small
     (and_from (nat_le 1 (length q.parts)) _ f.least
@@ -80,10 +84,12 @@ length-values : (m : Key → Value) (ks : List Key) → length (with_values m ks
 length-values m [] = refl
 length-values m (k ∷ ks) = ap (λ i. suc i) (length-values m ks)
 
-own-keys : (c : ClusterData) (n : NodeId) (ks : List Key) → are_distinct_keys ks ≡ true → are_own_keys c n (filter (holds c.places n) ks) ≡ true
+own-keys : (c : ClusterData) (n : NodeId) (ks : List Key) → are_distinct_keys ks ≡ true
+    → are_own_keys c n (filter (holds c.places n) ks) ≡ true
 own-keys c n ks h = and_from (are_distinct_keys (filter (holds c.places n) ks)) _ (filter-distinct (holds c.places n) ks h) (filter-passes (holds c.places n) ks)
 
-for-part : (c : ClusterData) (x : Open) (n : NodeId) → length x.script.ops ≤ 32 → is_among n (parts_now c x) ≡ true → FitLists c n (prepare_for c x n)
+for-part : (c : ClusterData) (x : Open) (n : NodeId) → length x.script.ops ≤ 32 → is_among n (parts_now c x) ≡ true
+    → FitLists c n (prepare_for c x n)
 for-part c x n most part =
     let ops : List Op = x.script.ops in
     let reads : List Key = filter (holds c.places n) (remote_keys [] ops) in
@@ -111,19 +117,24 @@ abbrev Fits : DocumentData → NodeId → Message → Type 0
 Fits d y (message.Prepare q) = FitLists d.cluster y q
 Fits d y said = Unit {0}
 
-prepare-due : (d : DocumentData) (past : List Act) (n y : NodeId) (q : Prepare) → IsOne d → PrepareDue d past n y q → FitLists d.cluster y q
+prepare-due : (d : DocumentData) (past : List Act) (n y : NodeId) (q : Prepare) → IsOne d → PrepareDue d past n y q
+    → FitLists d.cluster y q
 prepare-due d past n y q one due =
     let P : Prepare → Type 0 = λ z. FitLists d.cluster y z in
     subst P (sym due.is) (for-part d.cluster (open_of due.script due.story) y (body-most d q.t due.script one due.at.script) due.part)
 
-fits-due : (d : DocumentData) (past : List Act) (n y : NodeId) (said : Message) → IsOne d → SendDue d past n y said → Fits d y said
+fits-due : (d : DocumentData) (past : List Act) (n y : NodeId) (said : Message) → IsOne d → SendDue d past n y said
+    → Fits d y said
 fits-due d past n y (message.Prepare q) one due = prepare-due d past n y q one due
 fits-due d past n y said one due = tt
 
 -- a Prepare that was sent to n is fit there, but for its identifier
-pub prepare-sent : (d : DocumentData) (past : List Act) → IsOne d → AllDue d past → (m : ℕ) (x n : NodeId) (q : Prepare) → sent_at m (sent past) ≡ Some (record { from = x; to = n; message = message.Prepare q }) → FitLists d.cluster n q
+pub prepare-sent : (d : DocumentData) (past : List Act) → IsOne d → AllDue d past → (m : ℕ) (x n : NodeId) (q : Prepare)
+    → sent_at m (sent past) ≡ Some (record { from = x; to = n; message = message.Prepare q }) → FitLists d.cluster n q
 prepare-sent d past one due m x n q is = sent-hold (λ now k y said. Fits d y said) d past (λ now a k y said all h. h) (λ now k y said all h. fits-due d now k y said one h) due m (record { from = x; to = n; message = message.Prepare q }) is
 
 -- and with a small identifier it is fit
-pub prepare-fit : (d : DocumentData) (past : List Act) → IsOne d → AllDue d past → (m : ℕ) (x n : NodeId) (q : Prepare) → sent_at m (sent past) ≡ Some (record { from = x; to = n; message = message.Prepare q }) → is_small q.sid ≡ true → is_fit_prepare d.cluster n q ≡ true
+pub prepare-fit : (d : DocumentData) (past : List Act) → IsOne d → AllDue d past → (m : ℕ) (x n : NodeId) (q : Prepare)
+    → sent_at m (sent past) ≡ Some (record { from = x; to = n; message = message.Prepare q }) → is_small q.sid ≡ true
+    → is_fit_prepare d.cluster n q ≡ true
 prepare-fit d past one due m x n q is small = fit-small d.cluster n q (prepare-sent d past one due m x n q is) small

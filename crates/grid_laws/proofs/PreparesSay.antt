@@ -35,7 +35,8 @@ use Rattle.grid_model.specs.declared.stories.Story.{Story}
 
 -- a transaction with this snapshot and these values
 abbrev pub open_with : ScriptData → Ident → List (ℕ × Value) → Open
-open_with s sid values = record { script = s; progress = record { sid0 = 0; sid = Some sid; values = values; votes = []; turn = 0 } }
+open_with s sid values =
+    record { script = s; progress = record { sid0 = 0; sid = Some sid; values = values; votes = []; turn = 0 } }
 
 -- the Prepare that n, the home of an update with all its values, sends to its part y
 pub record PrepareSays (d : DocumentData) (past : List Act) (n y : NodeId) (q : Prepare) : Type 0 where
@@ -46,10 +47,12 @@ pub record PrepareSays (d : DocumentData) (past : List Act) (n y : NodeId) (q : 
   pub part : is_among y (parts_of d script) ≡ true
   pub is : q ≡ prepare_for d.cluster (open_with script q.sid values) y
 
-pub prepare-more : (d : DocumentData) (past : List Act) (a : Act) (n y : NodeId) (q : Prepare) → AllDue d (a ∷ past) → PrepareSays d past n y q → PrepareSays d (a ∷ past) n y q
+pub prepare-more : (d : DocumentData) (past : List Act) (a : Act) (n y : NodeId) (q : Prepare) → AllDue d (a ∷ past)
+    → PrepareSays d past n y q → PrepareSays d (a ∷ past) n y q
 prepare-more d past a n y q due s = record { script = s.script; values = s.values; full = full-more d past a n q.t s.script q.sid s.values due s.full; update = s.update; part = s.part; is = s.is }
 
-prepare-due : (d : DocumentData) (past : List Act) (n y : NodeId) (q : Prepare) → PrepareDue d past n y q → PrepareSays d past n y q
+prepare-due : (d : DocumentData) (past : List Act) (n y : NodeId) (q : Prepare) → PrepareDue d past n y q
+    → PrepareSays d past n y q
 prepare-due d past n y q due =
     let sid : q.sid ≡ first_sid due.story.progress.sid due.story.progress.sid0 = ap (λ (z : Prepare). z.sid) due.is in
     let P : Ident → Type 0 = λ i. q ≡ prepare_for d.cluster (open_with due.script i due.story.progress.values) y in
@@ -66,16 +69,19 @@ abbrev Prepares : DocumentData → List Act → NodeId → NodeId → Message �
 Prepares d past n y (message.Prepare q) = PrepareSays d past n y q
 Prepares d past n y said = Unit {0}
 
-prepares-more : (d : DocumentData) (past : List Act) (a : Act) (n y : NodeId) (said : Message) → AllDue d (a ∷ past) → Prepares d past n y said → Prepares d (a ∷ past) n y said
+prepares-more : (d : DocumentData) (past : List Act) (a : Act) (n y : NodeId) (said : Message) → AllDue d (a ∷ past)
+    → Prepares d past n y said → Prepares d (a ∷ past) n y said
 prepares-more d past a n y (message.Prepare q) due s = prepare-more d past a n y q due s
 prepares-more d past a n y said due s = tt
 
-prepares-due : (d : DocumentData) (past : List Act) (n y : NodeId) (said : Message) → AllDue d past → SendDue d past n y said → Prepares d past n y said
+prepares-due : (d : DocumentData) (past : List Act) (n y : NodeId) (said : Message) → AllDue d past
+    → SendDue d past n y said → Prepares d past n y said
 prepares-due d past n y (message.Prepare q) all due = prepare-due d past n y q due
 prepares-due d past n y said all due = tt
 
 -- the Prepare that was got last
-pub prepare-got : (d : DocumentData) (past : List Act) (n x : NodeId) (q : Prepare) → AllDue d past → got past ≡ Some (record { from = x; to = n; message = message.Prepare q }) → PrepareSays d past x n q
+pub prepare-got : (d : DocumentData) (past : List Act) (n x : NodeId) (q : Prepare) → AllDue d past
+    → got past ≡ Some (record { from = x; to = n; message = message.Prepare q }) → PrepareSays d past x n q
 prepare-got d past n x q due is = got-hold (Prepares d) d past (λ now a m y said all h. prepares-more d now a m y said all h) (λ now m y said all h. prepares-due d now m y said all h) due (record { from = x; to = n; message = message.Prepare q }) is
 
 -- a Prepare that was sent
@@ -121,7 +127,8 @@ prepares-agree d past due m k x y n q p a b same =
 -- ---- the records
 
 -- a Prepared of n stands behind a Prepare of the home
-pub record PreparedBehind (d : DocumentData) (past : List Act) (n : NodeId) (y : Record) (u : TxId) (home : NodeId) (i p : Ident) : Type 0 where
+pub record PreparedBehind (d : DocumentData) (past : List Act) (n : NodeId) (y : Record) (u : TxId) (home : NodeId)
+    (i p : Ident) : Type 0 where
   pub prepare : Prepare
   pub says : PrepareSays d past home n prepare
   pub t : u ≡ prepare.t
@@ -129,14 +136,17 @@ pub record PreparedBehind (d : DocumentData) (past : List Act) (n : NodeId) (y :
   pub is : y ≡ record'.Prepared prepare.t home prepare.parts prepare.sid p prepare.reads prepare.writes
 
 abbrev pub PreparedSays : DocumentData → List Act → NodeId → Record → Type 0
-PreparedSays d past n (record'.Prepared t home parts sid p reads writes) = PreparedBehind d past n (record'.Prepared t home parts sid p reads writes) t home sid p
+PreparedSays d past n (record'.Prepared t home parts sid p reads writes) =
+    PreparedBehind d past n (record'.Prepared t home parts sid p reads writes) t home sid p
 PreparedSays d past n y = Unit {0}
 
-prepared-more : (d : DocumentData) (past : List Act) (a : Act) (n : NodeId) (y : Record) → AllDue d (a ∷ past) → PreparedSays d past n y → PreparedSays d (a ∷ past) n y
+prepared-more : (d : DocumentData) (past : List Act) (a : Act) (n : NodeId) (y : Record) → AllDue d (a ∷ past)
+    → PreparedSays d past n y → PreparedSays d (a ∷ past) n y
 prepared-more d past a n (record'.Prepared t home parts sid p reads writes) due s = record { prepare = s.prepare; says = prepare-more d past a home n s.prepare due s.says; t = s.t; sid = s.sid; is = s.is }
 prepared-more d past a n y due s = tt
 
-prepared-due : (d : DocumentData) (past : List Act) (n : NodeId) (h : Head) → AllDue d past → RecordDue d past n h → HoldsIn (PreparedSays d past n) (record_of d (got past) h)
+prepared-due : (d : DocumentData) (past : List Act) (n : NodeId) (h : Head) → AllDue d past → RecordDue d past n h
+    → HoldsIn (PreparedSays d past n) (record_of d (got past) h)
 prepared-due d past n (head.Prepared t p) all due =
     let q : Prepare = due.1.asked.prepare in
     let says : PrepareSays d past due.1.from n q = prepare-got d past n due.1.from q all due.1.asked.got in
@@ -146,7 +156,8 @@ prepared-due d past n (head.Prepared t p) all due =
 prepared-due d past n h all due = tt
 
 -- each Prepared that stands, or is in doubt
-pub prepared-say : (d : DocumentData) (past : List Act) → AllDue d past → (n : NodeId) → NodeHolds (PreparedSays d past n) (node d past n)
+pub prepared-say : (d : DocumentData) (past : List Act) → AllDue d past → (n : NodeId)
+    → NodeHolds (PreparedSays d past n) (node d past n)
 prepared-say d past due n = records-hold (PreparedSays d) d past (λ now a k y all h. prepared-more d now a k y all h) (λ now k h all r. prepared-due d now k h all r) due n
 
 -- the first Prepared of t
@@ -156,14 +167,19 @@ pub record FirstPrepared (d : DocumentData) (past : List Act) (n : NodeId) (u : 
   pub t : u ≡ prepare.t
   pub sid : x.sid ≡ prepare.sid
 
-first-by : (d : DocumentData) (past : List Act) (n : NodeId) (t u : TxId) (home : NodeId) (parts : List NodeId) (sid p : Ident) (reads : List Key) (writes : List (Key × Value)) (o : Option Prepared) (x : Prepared) → u ≡ t → PreparedSays d past n (record'.Prepared u home parts sid p reads writes) → older o (record { home = home; sid = sid; proposal = p; reads = reads; writes = writes }) ≡ Some x → (o ≡ Some x → FirstPrepared d past n t x) → FirstPrepared d past n t x
+first-by : (d : DocumentData) (past : List Act) (n : NodeId) (t u : TxId) (home : NodeId) (parts : List NodeId)
+    (sid p : Ident) (reads : List Key) (writes : List (Key × Value)) (o : Option Prepared) (x : Prepared) → u ≡ t
+    → PreparedSays d past n (record'.Prepared u home parts sid p reads writes)
+    → older o (record { home = home; sid = sid; proposal = p; reads = reads; writes = writes }) ≡ Some x
+    → (o ≡ Some x → FirstPrepared d past n t x) → FirstPrepared d past n t x
 first-by d past n t u home parts sid p reads writes (Some y) x same s e go = go e
 first-by d past n t u home parts sid p reads writes None x same s e go =
     let z : record { home = home; sid = sid; proposal = p; reads = reads; writes = writes } ≡ x = cc in
     let P : Prepared → Type 0 = λ w. FirstPrepared d past n t w in
     subst P z (record { prepare = s.prepare; says = s.says; t = sym same ∙ s.t; sid = s.sid })
 
-pub first-prepared : (d : DocumentData) (past : List Act) (n : NodeId) (t : TxId) (x : Prepared) (r : List Record) → AllHold (PreparedSays d past n) r → prepared_of t r ≡ Some x → FirstPrepared d past n t x
+pub first-prepared : (d : DocumentData) (past : List Act) (n : NodeId) (t : TxId) (x : Prepared) (r : List Record)
+    → AllHold (PreparedSays d past n) r → prepared_of t r ≡ Some x → FirstPrepared d past n t x
 first-prepared d past n t x [] all e = cc
 first-prepared d past n t x (record'.Prepared u home parts sid p reads writes ∷ r) all e = elim (cases_eq u t) [
   | inl same ↦ first-by d past n t u home parts sid p reads writes (prepared_of t r) x same all.0 (grind (arith, nat_tests, e)) (λ f. first-prepared d past n t x r all.1 f)

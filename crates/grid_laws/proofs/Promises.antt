@@ -74,12 +74,14 @@ doubt-lower : (s c : Ident) (o : Option Record) → s ≤ c → OverDoubt c o �
 doubt-lower s c None le h = tt
 doubt-lower s c (Some y) le h = over-lower s c y le h
 
-clear-found : (s : Ident) (b : Bool) (o : Option Record) (r : List Record) → is_clear s r ≡ true → OverDoubt s o → is_clear s (found b o r) ≡ true
+clear-found : (s : Ident) (b : Bool) (o : Option Record) (r : List Record) → is_clear s r ≡ true → OverDoubt s o
+    → is_clear s (found b o r) ≡ true
 clear-found s true (Some y) r h k = clear-more s y r k h
 clear-found s true None r h k = h
 clear-found s false o r h k = h
 
-free-changed : (d : DocumentData) (n : NodeId) (x : Node) (c : Change) (sid : Ident) → IsCovered x sid → FitChange d n x c → IsFree x sid → IsFree (changed c x) sid
+free-changed : (d : DocumentData) (n : NodeId) (x : Node) (c : Change) (sid : Ident) → IsCovered x sid
+    → FitChange d n x c → IsFree x sid → IsFree (changed c x) sid
 free-changed d n x Nothing sid cover due h = h
 free-changed d n x (Writes None) sid cover due h = h
 free-changed d n x (Writes (Some y)) sid cover due h = record { clear = clear-more sid y x.journal (over-lower sid x.next y (cover.next due.0) due.3) h.clear; doubt = h.doubt }
@@ -92,7 +94,8 @@ free-changed d n x Stays sid cover due h = record { clear = h.clear; doubt = h.d
 
 -- ---- the reads that were held
 
-held-sid : (e : Option Envelope) (t : TxId) (op : ℕ) (sid : Ident) (y : HeldRead) → held_by e t op sid ≡ Some y → y.sid ≡ sid
+held-sid : (e : Option Envelope) (t : TxId) (op : ℕ) (sid : Ident) (y : HeldRead) → held_by e t op sid ≡ Some y
+    → y.sid ≡ sid
 held-sid None t op sid y is = cc
 held-sid (Some e) t op sid y is = from e.from e.message is
   where
@@ -100,26 +103,34 @@ held-sid (Some e) t op sid y is = from e.from e.message is
     from x (message.ReadReq q) is = let z : record { t = t; op = op; sid = sid; key = q.key; from = x } ≡ y = cc in ap (λ (h : HeldRead). h.sid) (sym z)
     from x said is = cc
 
-ever-new : (h : HeldRead) (o : Option HeldRead) (ever : List HeldRead) (sid : Ident) (x : Node) → ((y : HeldRead) → o ≡ Some y → y.sid ≡ sid) → IsCovered x sid → (IsIn h ever → IsCovered x h.sid) → IsIn h (with_held o ever) → IsCovered x h.sid
+ever-new : (h : HeldRead) (o : Option HeldRead) (ever : List HeldRead) (sid : Ident) (x : Node)
+    → ((y : HeldRead) → o ≡ Some y → y.sid ≡ sid) → IsCovered x sid → (IsIn h ever → IsCovered x h.sid)
+    → IsIn h (with_held o ever) → IsCovered x h.sid
 ever-new h None ever sid x is cover go i = go i
 ever-new h (Some y) ever sid x is cover go i = elim (in-append h y ever i) [
   | inl j ↦ go j
   | inr e ↦ (let P : Ident → Type 0 = λ s. IsCovered x s in subst P (sym (is y refl) ∙ ap (λ (z : HeldRead). z.sid) e) cover)
 ]
 
-ever-at : (d : DocumentData) (past : List Act) (m n : NodeId) (h : HeldRead) (o : Option HeldRead) (sid : Ident) (b : Bool) → (m == n) ≡ b → ((y : HeldRead) → o ≡ Some y → y.sid ≡ sid) → Covered d past m sid → (IsIn h (held_ever d past n) → IsCovered (node d past n) h.sid) → IsIn h (if b then with_held o (held_ever d past n) else held_ever d past n) → IsCovered (node d past n) h.sid
+ever-at : (d : DocumentData) (past : List Act) (m n : NodeId) (h : HeldRead) (o : Option HeldRead) (sid : Ident)
+    (b : Bool) → (m == n) ≡ b → ((y : HeldRead) → o ≡ Some y → y.sid ≡ sid) → Covered d past m sid
+    → (IsIn h (held_ever d past n) → IsCovered (node d past n) h.sid)
+    → IsIn h (if b then with_held o (held_ever d past n) else held_ever d past n) → IsCovered (node d past n) h.sid
 ever-at d past m n h o sid false here is cover go i = go i
 ever-at d past m n h o sid true here is cover go i =
     let same : m ≡ n = grind (arith, nat_tests) in
     let P : NodeId → Type 0 = λ k. IsCovered (node d past k) sid in
     ever-new h o (held_ever d past n) sid (node d past n) is (subst P same (record { floor = cover.floor; next = λ e. cover.next })) go i
 
-ever-before : (d : DocumentData) (past : List Act) (a : Act) (n : NodeId) (h : HeldRead) → IsDue d past a → (IsIn h (held_ever d past n) → IsCovered (node d past n) h.sid) → IsIn h (held_ever d (a ∷ past) n) → IsCovered (node d past n) h.sid
+ever-before : (d : DocumentData) (past : List Act) (a : Act) (n : NodeId) (h : HeldRead) → IsDue d past a
+    → (IsIn h (held_ever d past n) → IsCovered (node d past n) h.sid) → IsIn h (held_ever d (a ∷ past) n)
+    → IsCovered (node d past n) h.sid
 ever-before d past (act.Held m t op sid) n h due go i = ever-at d past m n h (held_by (got past) t op sid) sid (m == n) refl (λ y e. held-sid (got past) t op sid y e) due.2.covered go i
 ever-before d past a n h due go i = go i
 
 -- the promise of each read that was held
-pub ever-covered : (d : DocumentData) (past : List Act) → AllDue d past → (n : NodeId) (h : HeldRead) → IsIn h (held_ever d past n) → IsCovered (node d past n) h.sid
+pub ever-covered : (d : DocumentData) (past : List Act) → AllDue d past → (n : NodeId) (h : HeldRead)
+    → IsIn h (held_ever d past n) → IsCovered (node d past n) h.sid
 ever-covered d [] due n h i = absurd i
 ever-covered d (a ∷ past) due n h i = covered-changed (node d past n) (change d (got past) a n) h.sid (ever-before d past a n h due.0 (λ j. ever-covered d past due.1 n h j) i)
 
@@ -137,7 +148,8 @@ kept-more d past a n sid due k =
       free = free-changed d n (node d past n) (change d (got past) a n) sid k.covered (fit-change d past a n (λ j. nodes-fit d past due.1 j) due.0) k.free;
     }
 
-may-covered : (d : DocumentData) (past : List Act) (n : NodeId) (h : HeldRead) → AllDue d past → MayServe d past n h → IsCovered (node d past n) h.sid
+may-covered : (d : DocumentData) (past : List Act) (n : NodeId) (h : HeldRead) → AllDue d past → MayServe d past n h
+    → IsCovered (node d past n) h.sid
 may-covered d past n h due (at_once asked cover) = record { floor = cover.floor; next = λ e. cover.next }
 may-covered d past n h due (held i) = ever-covered d past due n h i
 
@@ -207,7 +219,8 @@ served-promised d past due n t j k sid vn v later before is =
 
 -- ---- a read that is held
 
-held-above : (d : DocumentData) (n : NodeId) (r : List Record) (sid : Ident) (b : Bool) → all_fit d.cluster n r ≡ true → is_clear sid r ≡ false → nat_lt (commit_id r) sid ≡ b → commit_id r < sid
+held-above : (d : DocumentData) (n : NodeId) (r : List Record) (sid : Ident) (b : Bool) → all_fit d.cluster n r ≡ true
+    → is_clear sid r ≡ false → nat_lt (commit_id r) sid ≡ b → commit_id r < sid
 held-above d n r sid true fit waits e = grind (arith, nat_tests)
 held-above d n r sid false fit waits e =
     let le : sid ≤ commit_id r = grind (arith, nat_tests) in

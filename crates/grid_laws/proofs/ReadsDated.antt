@@ -33,7 +33,8 @@ pub record IsDated (d : DocumentData) (past : List Act) (t : TxId) (op : ℕ) (s
   pub is : script_of t d.scripts ≡ Some script
   pub dated : ((waiting script.ops [] ≡ Some op) × BeganBelow d past t sid) ⊎ HasSnapshot d past t sid
 
-pub dated-more : (d : DocumentData) (past : List Act) (a : Act) (t : TxId) (op : ℕ) (sid : Ident) → AllDue d (a ∷ past) → IsDated d past t op sid → IsDated d (a ∷ past) t op sid
+pub dated-more : (d : DocumentData) (past : List Act) (a : Act) (t : TxId) (op : ℕ) (sid : Ident) → AllDue d (a ∷ past)
+    → IsDated d past t op sid → IsDated d (a ∷ past) t op sid
 dated-more d past a t op sid due h =
     record {
       script = h.script;
@@ -50,7 +51,8 @@ dated-more d past a t op sid due h =
 abbrev pub RequestDated : DocumentData → List Act → ReadReq → Type 0
 RequestDated d past q = (c : Ident) → IsDated d past q.t q.op (dated q.date c)
 
-request-due : (d : DocumentData) (past : List Act) (n y : NodeId) (q : ReadReq) → AllDue d past → RequestDue d past n y q → RequestDated d past q
+request-due : (d : DocumentData) (past : List Act) (n y : NodeId) (q : ReadReq) → AllDue d past
+    → RequestDue d past n y q → RequestDated d past q
 request-due d past n y q all due c = elim (story-step d past q.t due.script due.story all due.at.script due.at.story) [
   | inl none ↦
       let reads : waiting due.script.ops [] ≡ Some q.op = ap (waiting due.script.ops) (sym none.1) ∙ due.reads in
@@ -68,16 +70,19 @@ abbrev RequestsDated : DocumentData → List Act → NodeId → NodeId → Messa
 RequestsDated d past n y (message.ReadReq q) = RequestDated d past q
 RequestsDated d past n y said = Unit {0}
 
-requests-more : (d : DocumentData) (past : List Act) (a : Act) (n y : NodeId) (said : Message) → AllDue d (a ∷ past) → RequestsDated d past n y said → RequestsDated d (a ∷ past) n y said
+requests-more : (d : DocumentData) (past : List Act) (a : Act) (n y : NodeId) (said : Message) → AllDue d (a ∷ past)
+    → RequestsDated d past n y said → RequestsDated d (a ∷ past) n y said
 requests-more d past a n y (message.ReadReq q) due h = λ c. dated-more d past a q.t q.op (dated q.date c) due (h c)
 requests-more d past a n y said due h = tt
 
-requests-due : (d : DocumentData) (past : List Act) (n y : NodeId) (said : Message) → AllDue d past → SendDue d past n y said → RequestsDated d past n y said
+requests-due : (d : DocumentData) (past : List Act) (n y : NodeId) (said : Message) → AllDue d past
+    → SendDue d past n y said → RequestsDated d past n y said
 requests-due d past n y (message.ReadReq q) all due = request-due d past n y q all due
 requests-due d past n y said all due = tt
 
 -- a read that was requested
-pub requested-dated : (d : DocumentData) (past : List Act) (n : NodeId) (h : HeldRead) → AllDue d past → Requested d past n h → IsDated d past h.t h.op h.sid
+pub requested-dated : (d : DocumentData) (past : List Act) (n : NodeId) (h : HeldRead) → AllDue d past
+    → Requested d past n h → IsDated d past h.t h.op h.sid
 requested-dated d past n h due asked =
     let q : ReadReq = asked.request in
     let c : Ident = commit_id (journal d past n) in
@@ -89,7 +94,8 @@ requested-dated d past n h due asked =
 
 -- ---- held reads
 
-held-is : (e : Option Envelope) (t : TxId) (op : ℕ) (sid : Ident) (y : HeldRead) → held_by e t op sid ≡ Some y → (y.t ≡ t) × (y.op ≡ op) × (y.sid ≡ sid)
+held-is : (e : Option Envelope) (t : TxId) (op : ℕ) (sid : Ident) (y : HeldRead) → held_by e t op sid ≡ Some y
+    → (y.t ≡ t) × (y.op ≡ op) × (y.sid ≡ sid)
 held-is None t op sid y is = cc
 held-is (Some e) t op sid y is = from e.from e.message is
   where
@@ -99,7 +105,10 @@ held-is (Some e) t op sid y is = from e.from e.message is
         (ap (λ (h : HeldRead). h.t) (sym z), ap (λ (h : HeldRead). h.op) (sym z), ap (λ (h : HeldRead). h.sid) (sym z))
     from x said is = cc
 
-held-new : (d : DocumentData) (past : List Act) (h : HeldRead) (o : Option HeldRead) (ever : List HeldRead) (t : TxId) (op : ℕ) (sid : Ident) → ((y : HeldRead) → o ≡ Some y → (y.t ≡ t) × (y.op ≡ op) × (y.sid ≡ sid)) → IsDated d past t op sid → (IsIn h ever → IsDated d past h.t h.op h.sid) → IsIn h (with_held o ever) → IsDated d past h.t h.op h.sid
+held-new : (d : DocumentData) (past : List Act) (h : HeldRead) (o : Option HeldRead) (ever : List HeldRead) (t : TxId)
+    (op : ℕ) (sid : Ident) → ((y : HeldRead) → o ≡ Some y → (y.t ≡ t) × (y.op ≡ op) × (y.sid ≡ sid))
+    → IsDated d past t op sid → (IsIn h ever → IsDated d past h.t h.op h.sid) → IsIn h (with_held o ever)
+    → IsDated d past h.t h.op h.sid
 held-new d past h None ever t op sid is new go i = go i
 held-new d past h (Some y) ever t op sid is new go i = elim (in-append h y ever i) [
   | inl j ↦ go j
@@ -112,26 +121,34 @@ held-new d past h (Some y) ever t op sid is new go i = elim (in-append h y ever 
       subst P e (subst C (sym w.2) (subst B (sym w.1) (subst A (sym w.0) new)))
 ]
 
-held-at : (d : DocumentData) (past : List Act) (h : HeldRead) (o : Option HeldRead) (ever : List HeldRead) (t : TxId) (op : ℕ) (sid : Ident) (b : Bool) → ((y : HeldRead) → o ≡ Some y → (y.t ≡ t) × (y.op ≡ op) × (y.sid ≡ sid)) → IsDated d past t op sid → (IsIn h ever → IsDated d past h.t h.op h.sid) → IsIn h (if b then with_held o ever else ever) → IsDated d past h.t h.op h.sid
+held-at : (d : DocumentData) (past : List Act) (h : HeldRead) (o : Option HeldRead) (ever : List HeldRead) (t : TxId)
+    (op : ℕ) (sid : Ident) (b : Bool) → ((y : HeldRead) → o ≡ Some y → (y.t ≡ t) × (y.op ≡ op) × (y.sid ≡ sid))
+    → IsDated d past t op sid → (IsIn h ever → IsDated d past h.t h.op h.sid)
+    → IsIn h (if b then with_held o ever else ever) → IsDated d past h.t h.op h.sid
 held-at d past h o ever t op sid false is new go i = go i
 held-at d past h o ever t op sid true is new go i = held-new d past h o ever t op sid is new go i
 
-held-before : (d : DocumentData) (past : List Act) (a : Act) (n : NodeId) (h : HeldRead) → AllDue d past → IsDue d past a → (IsIn h (held_ever d past n) → IsDated d past h.t h.op h.sid) → IsIn h (held_ever d (a ∷ past) n) → IsDated d past h.t h.op h.sid
+held-before : (d : DocumentData) (past : List Act) (a : Act) (n : NodeId) (h : HeldRead) → AllDue d past
+    → IsDue d past a → (IsIn h (held_ever d past n) → IsDated d past h.t h.op h.sid) → IsIn h (held_ever d (a ∷ past) n)
+    → IsDated d past h.t h.op h.sid
 held-before d past (act.Held m t op sid) n h all due go i = held-at d past h (held_by (got past) t op sid) (held_ever d past n) t op sid (m == n) (λ y e. held-is (got past) t op sid y e) (requested-dated d past m (record { t = t; op = op; sid = sid; key = due.0; from = due.1 }) all due.2.requested) go i
 held-before d past a n h all due go i = go i
 
 -- each read that was held
-pub held-dated : (d : DocumentData) (past : List Act) → AllDue d past → (n : NodeId) (h : HeldRead) → IsIn h (held_ever d past n) → IsDated d past h.t h.op h.sid
+pub held-dated : (d : DocumentData) (past : List Act) → AllDue d past → (n : NodeId) (h : HeldRead)
+    → IsIn h (held_ever d past n) → IsDated d past h.t h.op h.sid
 held-dated d [] due n h i = absurd i
 held-dated d (a ∷ past) due n h i = dated-more d past a h.t h.op h.sid due (held-before d past a n h due.1 due.0 (held-dated d past due.1 n h) i)
 
 -- ---- replies
 
-served-dated : (d : DocumentData) (past : List Act) (n : NodeId) (h : HeldRead) → AllDue d past → MayServe d past n h → IsDated d past h.t h.op h.sid
+served-dated : (d : DocumentData) (past : List Act) (n : NodeId) (h : HeldRead) → AllDue d past → MayServe d past n h
+    → IsDated d past h.t h.op h.sid
 served-dated d past n h due (at_once asked cover) = requested-dated d past n h due asked
 served-dated d past n h due (held i) = held-dated d past due n h i
 
-reply-due : (d : DocumentData) (past : List Act) (n y : NodeId) (q : ReadRep) → AllDue d past → ReplyDue d past n y q.t q.op q.sid q.value → IsDated d past q.t q.op q.sid
+reply-due : (d : DocumentData) (past : List Act) (n y : NodeId) (q : ReadRep) → AllDue d past
+    → ReplyDue d past n y q.t q.op q.sid q.value → IsDated d past q.t q.op q.sid
 reply-due d past n y q all due =
     let a : Act = act.Served n q.t q.op due.key q.sid due.vn q.value in
     let P : List Act → Type 0 = λ p. AllDue d p in
@@ -143,16 +160,20 @@ abbrev RepliesDated : DocumentData → List Act → NodeId → NodeId → Messag
 RepliesDated d past n y (message.ReadRep q) = IsDated d past q.t q.op q.sid
 RepliesDated d past n y said = Unit {0}
 
-replies-more : (d : DocumentData) (past : List Act) (a : Act) (n y : NodeId) (said : Message) → AllDue d (a ∷ past) → RepliesDated d past n y said → RepliesDated d (a ∷ past) n y said
+replies-more : (d : DocumentData) (past : List Act) (a : Act) (n y : NodeId) (said : Message) → AllDue d (a ∷ past)
+    → RepliesDated d past n y said → RepliesDated d (a ∷ past) n y said
 replies-more d past a n y (message.ReadRep q) due h = dated-more d past a q.t q.op q.sid due h
 replies-more d past a n y said due h = tt
 
-replies-due : (d : DocumentData) (past : List Act) (n y : NodeId) (said : Message) → AllDue d past → SendDue d past n y said → RepliesDated d past n y said
+replies-due : (d : DocumentData) (past : List Act) (n y : NodeId) (said : Message) → AllDue d past
+    → SendDue d past n y said → RepliesDated d past n y said
 replies-due d past n y (message.ReadRep q) all due = reply-due d past n y q all due
 replies-due d past n y said all due = tt
 
 -- each reply that was sent
-pub reply-dated : (d : DocumentData) (past : List Act) (m : ℕ) (x y : NodeId) (q : ReadRep) → AllDue d past → sent_at m (sent past) ≡ Some (record { from = x; to = y; message = message.ReadRep q }) → IsDated d past q.t q.op q.sid
+pub reply-dated : (d : DocumentData) (past : List Act) (m : ℕ) (x y : NodeId) (q : ReadRep) → AllDue d past
+    → sent_at m (sent past) ≡ Some (record { from = x; to = y; message = message.ReadRep q })
+    → IsDated d past q.t q.op q.sid
 reply-dated d past m x y q due is = sent-hold (RepliesDated d) d past (λ now a n y said all h. replies-more d now a n y said all h) (λ now n y said all h. replies-due d now n y said all h) due m (record { from = x; to = y; message = message.ReadRep q }) is
 
 -- the reply that was got last

@@ -23,7 +23,8 @@ use Rattle.grid_laws.proofs.Snapshots.{HasFirst, snapshot-of, story-step}
 use Rattle.grid_laws.proofs.ReadsDated.{IsDated, reply-dated}
 
 -- who reads the first remote read has no value of it
-first-untaken : (ops : List Op) (o : Option Ident) (values : List (ℕ × Value)) (op : ℕ) → waiting ops [] ≡ Some op → waiting ops values ≡ Some op → HasFirst ops o values → ⊥
+first-untaken : (ops : List Op) (o : Option Ident) (values : List (ℕ × Value)) (op : ℕ) → waiting ops [] ≡ Some op
+    → waiting ops values ≡ Some op → HasFirst ops o values → ⊥
 first-untaken ops o values op first reads h =
     let same : h.op ≡ op = some-same h.op op (sym h.first ∙ first) in
     let P : ℕ → Type 0 = λ z. value_taken z values ≡ Some h.value in
@@ -43,7 +44,8 @@ some-same : (sid : Ident) (o : Option Ident) → o ≡ Some sid → is_same_iden
 some-same sid None e = cc
 some-same sid (Some s) e = grind (arith, nat_tests, e)
 
-same-ident : (d : DocumentData) (past : List Act) (n : NodeId) (t : TxId) (op : ℕ) (sid : Ident) (x : Open) → AllDue d past → IsDated d past t op sid → Opens d past n t x (Some op) → is_same_ident sid x.progress.sid ≡ true
+same-ident : (d : DocumentData) (past : List Act) (n : NodeId) (t : TxId) (op : ℕ) (sid : Ident) (x : Open)
+    → AllDue d past → IsDated d past t op sid → Opens d past n t x (Some op) → is_same_ident sid x.progress.sid ≡ true
 same-ident d past n t op sid x due h o =
     let same : h.script ≡ o.script = equal-script h.script o.script (sym h.is ∙ o.at.script) in
     let told : x.progress.sid ≡ o.story.progress.sid = ap (λ (z : Open). z.progress.sid) o.is in
@@ -60,7 +62,8 @@ same-ident d past n t op sid x due h o =
     equal-script : (y z : ScriptData) → Some y ≡ Some z → y ≡ z
     equal-script y z e = cc
 
-pub dated-fit : (d : DocumentData) (past : List Act) (n : NodeId) (q : ReadRep) (s : Stage) → stage (view d past n) q.t ≡ s → AllDue d past → IsDated d past q.t q.op q.sid → is_fit_reply q s ≡ true
+pub dated-fit : (d : DocumentData) (past : List Act) (n : NodeId) (q : ReadRep) (s : Stage)
+    → stage (view d past n) q.t ≡ s → AllDue d past → IsDated d past q.t q.op q.sid → is_fit_reply q s ≡ true
 dated-fit d past n q (Reads x j) is due h = go (j == q.op) refl
   where
     go : (b : Bool) → (j == q.op) ≡ b → (not b || is_same_ident q.sid x.progress.sid) ≡ true
@@ -74,5 +77,7 @@ dated-fit d past n q (Collects x) is due h = refl
 dated-fit d past n q (Commits x acks) is due h = refl
 
 -- each reply that was sent, at any node
-pub reply-fit : (d : DocumentData) (past : List Act) (m : ℕ) (x y n : NodeId) (q : ReadRep) → AllDue d past → sent_at m (sent past) ≡ Some (record { from = x; to = y; message = message.ReadRep q }) → is_fit_reply q (stage (view d past n) q.t) ≡ true
+pub reply-fit : (d : DocumentData) (past : List Act) (m : ℕ) (x y n : NodeId) (q : ReadRep) → AllDue d past
+    → sent_at m (sent past) ≡ Some (record { from = x; to = y; message = message.ReadRep q })
+    → is_fit_reply q (stage (view d past n) q.t) ≡ true
 reply-fit d past m x y n q due is = dated-fit d past n q (stage (view d past n) q.t) refl due (reply-dated d past m x y q due is)

@@ -24,7 +24,8 @@ use Rattle.grid_laws.proofs.PreparesFit.{body-most}
 abbrev pub is_placed : DocumentData → NodeId → ReadReq → Bool
 is_placed d y q = nat_le 1 q.op && (nat_le q.op 32 && holds d.cluster.places y q.key)
 
-request-due : (d : DocumentData) (past : List Act) (n y : NodeId) (q : ReadReq) → IsOne d → RequestDue d past n y q → is_placed d y q ≡ true
+request-due : (d : DocumentData) (past : List Act) (n y : NodeId) (q : ReadReq) → IsOne d → RequestDue d past n y q
+    → is_placed d y q ≡ true
 request-due d past n y q one due =
     let s : ScriptData = due.script in
     let short : length s.ops ≤ 32 = body-most d q.t s one due.at.script in
@@ -41,14 +42,18 @@ abbrev RequestPlaced : DocumentData → NodeId → Message → Type 0
 RequestPlaced d y (message.ReadReq q) = is_placed d y q ≡ true
 RequestPlaced d y said = Unit {0}
 
-placed-due : (d : DocumentData) (past : List Act) (n y : NodeId) (said : Message) → IsOne d → SendDue d past n y said → RequestPlaced d y said
+placed-due : (d : DocumentData) (past : List Act) (n y : NodeId) (said : Message) → IsOne d → SendDue d past n y said
+    → RequestPlaced d y said
 placed-due d past n y (message.ReadReq q) one due = request-due d past n y q one due
 placed-due d past n y said one due = tt
 
 -- each request that was sent
-pub request-placed : (d : DocumentData) (past : List Act) (m : ℕ) (x y : NodeId) (q : ReadReq) → IsOne d → AllDue d past → sent_at m (sent past) ≡ Some (record { from = x; to = y; message = message.ReadReq q }) → is_placed d y q ≡ true
+pub request-placed : (d : DocumentData) (past : List Act) (m : ℕ) (x y : NodeId) (q : ReadReq) → IsOne d → AllDue d past
+    → sent_at m (sent past) ≡ Some (record { from = x; to = y; message = message.ReadReq q }) → is_placed d y q ≡ true
 request-placed d past m x y q one due is = sent-hold (λ now n y said. RequestPlaced d y said) d past (λ now a n y said all h. h) (λ now n y said all h. placed-due d now n y said one h) due m (record { from = x; to = y; message = message.ReadReq q }) is
 
 -- it is fit, where its identifier is small
-pub request-fit : (d : DocumentData) (past : List Act) (m : ℕ) (x y : NodeId) (q : ReadReq) → IsOne d → AllDue d past → sent_at m (sent past) ≡ Some (record { from = x; to = y; message = message.ReadReq q }) → is_small (date_ident q.date) ≡ true → is_fit_request (view d past y).cluster y q ≡ true
+pub request-fit : (d : DocumentData) (past : List Act) (m : ℕ) (x y : NodeId) (q : ReadReq) → IsOne d → AllDue d past
+    → sent_at m (sent past) ≡ Some (record { from = x; to = y; message = message.ReadReq q })
+    → is_small (date_ident q.date) ≡ true → is_fit_request (view d past y).cluster y q ≡ true
 request-fit d past m x y q one due is small = rw small (request-placed d past m x y q one due is)

@@ -23,7 +23,8 @@ use Rattle.grid_laws.proofs.DecisionsRest.{decided-say, decision-stands}
 use Rattle.grid_laws.proofs.Answered.{AllTold, untaking-all}
 use Rattle.grid_laws.proofs.AnsweredRuns.{told-row, answered-told}
 
-told-none : (d : DocumentData) (past : List Act) (t : TxId) (s : ScriptData) (o : Option Decision) → AllDue d past → story d past t ≡ None → decision t (journal d past s.home) ≡ o → o ≡ None
+told-none : (d : DocumentData) (past : List Act) (t : TxId) (s : ScriptData) (o : Option Decision) → AllDue d past
+    → story d past t ≡ None → decision t (journal d past s.home) ≡ o → o ≡ None
 told-none d past t s None due new is = refl
 told-none d past t s (Some y) due new is =
     let has : has_decided t y.final (journal d past s.home) ≡ true = decision-has t y (journal d past s.home) is in
@@ -34,7 +35,8 @@ told-none d past t s (Some y) due new is =
 pub unbegun-undecided : (d : DocumentData) (past : List Act) → AllDue d past → UnbegunUndecided d past
 unbegun-undecided d past due t s is new = told-none d past t s (decision t (journal d past s.home)) due new refl
 
-pub due-rows : (d : DocumentData) (past : List Act) (es : List Item) (h : List Act) → AllDue d past → AllTold d past → Rows d past es h → AllDue d (after past h)
+pub due-rows : (d : DocumentData) (past : List Act) (es : List Item) (h : List Act) → AllDue d past → AllTold d past
+    → Rows d past es h → AllDue d (after past h)
 unfolding Rows
 due-rows d past [] h due told rows = rw rows due
 due-rows d past (e ∷ es) h due told rows =

@@ -29,13 +29,19 @@ OfStory N Q (Some x) = Q x.progress.sid x.progress.values
 pub of-stays : (N : Type 0) (Q : Option Ident → List (ℕ × Value) → Type 0) → Stays (OfStory N Q)
 of-stays N Q = record { votes = λ vs x i. i; acks = λ ns x i. i; turn = λ k x i. i; finished = λ x i. i; aborted = λ x i. i; lost = λ x i. i }
 
-began-of : (N : Type 0) (Q : Option Ident → List (ℕ × Value) → Type 0) (d : DocumentData) (past : List Act) (u t : TxId) (n : NodeId) (sid0 : Ident) → BeganDue d past u n sid0 → (N → Q None []) → OfStory N Q (story d past t) → (u == t) ≡ true → Q None []
+began-of : (N : Type 0) (Q : Option Ident → List (ℕ × Value) → Type 0) (d : DocumentData) (past : List Act) (u t : TxId)
+    (n : NodeId) (sid0 : Ident) → BeganDue d past u n sid0 → (N → Q None []) → OfStory N Q (story d past t)
+    → (u == t) ≡ true → Q None []
 began-of N Q d past u t n sid0 due began k e =
     let P : TxId → Type 0 = λ w. story d past w ≡ None in
     let R : Option Story → Type 0 = λ o. OfStory N Q o in
     began (subst R (subst P (eqb-true u t e) due.new) k)
 
-taken-of : (N : Type 0) (Q : Option Ident → List (ℕ × Value) → Type 0) (d : DocumentData) (past : List Act) (u t : TxId) (op : ℕ) (sid : Ident) (v : Value) (b : Bool) (o : Option Story) → (u == t) ≡ b → story d past t ≡ o → TakenDue d past u op sid v → ((w : TakenDue d past t op sid v) → Q w.story.progress.sid w.story.progress.values → Q (Some (first_sid w.story.progress.sid sid)) (w.story.progress.values ++ (op, v) ∷ [])) → OfStory N Q o → OfStory N Q (if_told b (progressed (with_value op sid v)) o)
+taken-of : (N : Type 0) (Q : Option Ident → List (ℕ × Value) → Type 0) (d : DocumentData) (past : List Act) (u t : TxId)
+    (op : ℕ) (sid : Ident) (v : Value) (b : Bool) (o : Option Story) → (u == t) ≡ b → story d past t ≡ o
+    → TakenDue d past u op sid v → ((w : TakenDue d past t op sid v) → Q w.story.progress.sid w.story.progress.values
+    → Q (Some (first_sid w.story.progress.sid sid)) (w.story.progress.values ++ (op, v) ∷ [])) → OfStory N Q o
+    → OfStory N Q (if_told b (progressed (with_value op sid v)) o)
 taken-of N Q d past u t op sid v b None e told due go k = k
 taken-of N Q d past u t op sid v false (Some x) e told due go k = k
 taken-of N Q d past u t op sid v true (Some x) e told due go k =
@@ -48,7 +54,11 @@ taken-of N Q d past u t op sid v true (Some x) e told due go k =
     same y z i = cc
 
 -- the claim stays, where it holds of a story that begins and of one that takes a value
-pub of-more : (N : Type 0) (Q : Option Ident → List (ℕ × Value) → Type 0) (d : DocumentData) (past : List Act) (a : Act) (t : TxId) → (N → Q None []) → ((op : ℕ) (sid : Ident) (v : Value) (w : TakenDue d past t op sid v) → Q w.story.progress.sid w.story.progress.values → Q (Some (first_sid w.story.progress.sid sid)) (w.story.progress.values ++ (op, v) ∷ [])) → AllDue d (a ∷ past) → OfStory N Q (story d past t) → OfStory N Q (story d (a ∷ past) t)
+pub of-more : (N : Type 0) (Q : Option Ident → List (ℕ × Value) → Type 0) (d : DocumentData) (past : List Act) (a : Act)
+    (t : TxId) → (N → Q None []) → ((op : ℕ) (sid : Ident) (v : Value) (w : TakenDue d past t op sid v)
+    → Q w.story.progress.sid w.story.progress.values
+    → Q (Some (first_sid w.story.progress.sid sid)) (w.story.progress.values ++ (op, v) ∷ [])) → AllDue d (a ∷ past)
+    → OfStory N Q (story d past t) → OfStory N Q (story d (a ∷ past) t)
 of-more N Q d past (act.Began u n sid0) t began taken due k =
     else-claim (OfStory N Q) (u == t) (Some (begun_in d (node d past) t sid0)) (story d past t)
     (λ e. began-of N Q d past u t n sid0 due.0 began k e) k
@@ -62,17 +72,20 @@ abbrev pub HasSnapshot : DocumentData → List Act → TxId → Ident → Type 0
 HasSnapshot d past t sid = OfStory ⊥ (λ o values. o ≡ Some sid) (story d past t)
 
 -- it never changes
-pub snapshot-more : (d : DocumentData) (past : List Act) (a : Act) (t : TxId) (sid : Ident) → AllDue d (a ∷ past) → HasSnapshot d past t sid → HasSnapshot d (a ∷ past) t sid
+pub snapshot-more : (d : DocumentData) (past : List Act) (a : Act) (t : TxId) (sid : Ident) → AllDue d (a ∷ past)
+    → HasSnapshot d past t sid → HasSnapshot d (a ∷ past) t sid
 snapshot-more d past a t sid due k = of-more ⊥ (λ o values. o ≡ Some sid) d past a t (λ n. absurd n) (λ op i v w e. stays w.story.progress.sid i e) due k
   where
     stays : (o : Option Ident) (i : Ident) → o ≡ Some sid → Some (first_sid o i) ≡ Some sid
     stays None i e = cc
     stays (Some s) i e = e
 
-pub snapshot-told : (d : DocumentData) (past : List Act) (t : TxId) (x : Story) (sid : Ident) → story d past t ≡ Some x → x.progress.sid ≡ Some sid → HasSnapshot d past t sid
+pub snapshot-told : (d : DocumentData) (past : List Act) (t : TxId) (x : Story) (sid : Ident) → story d past t ≡ Some x
+    → x.progress.sid ≡ Some sid → HasSnapshot d past t sid
 snapshot-told d past t x sid told e = let P : Option Story → Type 0 = λ o. OfStory ⊥ (λ o values. o ≡ Some sid) o in subst P (sym told) e
 
-pub snapshot-of : (d : DocumentData) (past : List Act) (t : TxId) (x : Story) (sid : Ident) → story d past t ≡ Some x → HasSnapshot d past t sid → x.progress.sid ≡ Some sid
+pub snapshot-of : (d : DocumentData) (past : List Act) (t : TxId) (x : Story) (sid : Ident) → story d past t ≡ Some x
+    → HasSnapshot d past t sid → x.progress.sid ≡ Some sid
 snapshot-of d past t x sid told k = let P : Option Story → Type 0 = λ o. OfStory ⊥ (λ o values. o ≡ Some sid) o in subst P told k
 
 -- ---- the first value
@@ -90,7 +103,9 @@ pub record HasFirst (ops : List Op) (o : Option Ident) (values : List (ℕ × Va
 abbrev pub IsInStep : List Op → Option Ident → List (ℕ × Value) → Type 0
 IsInStep ops o values = ((o ≡ None) × (values ≡ [])) ⊎ HasFirst ops o values
 
-step-more : (ops : List Op) (o : Option Ident) (values : List (ℕ × Value)) (op : ℕ) (sid : Ident) (v : Value) → waiting ops values ≡ Some op → IsInStep ops o values → IsInStep ops (Some (first_sid o sid)) (values ++ (op, v) ∷ [])
+step-more : (ops : List Op) (o : Option Ident) (values : List (ℕ × Value)) (op : ℕ) (sid : Ident) (v : Value)
+    → waiting ops values ≡ Some op → IsInStep ops o values
+    → IsInStep ops (Some (first_sid o sid)) (values ++ (op, v) ∷ [])
 step-more ops o values op sid v reads h = elim h [
   | inl none ↦
       inr (
@@ -107,7 +122,8 @@ step-more ops o values op sid v reads h = elim h [
 ]
 
 -- the snapshot and the values of each transaction go in step
-pub stories-step : (d : DocumentData) (past : List Act) (t : TxId) (s : ScriptData) → AllDue d past → script_of t d.scripts ≡ Some s → OfStory (Unit {0}) (IsInStep s.ops) (story d past t)
+pub stories-step : (d : DocumentData) (past : List Act) (t : TxId) (s : ScriptData) → AllDue d past
+    → script_of t d.scripts ≡ Some s → OfStory (Unit {0}) (IsInStep s.ops) (story d past t)
 stories-step d [] t s due is = tt
 stories-step d (a ∷ past) t s due is =
     of-more (Unit {0}) (IsInStep s.ops) d past a t (λ n. inl (refl, refl))
@@ -120,5 +136,6 @@ stories-step d (a ∷ past) t s due is =
     equal-script : (y z : ScriptData) → Some y ≡ Some z → y ≡ z
     equal-script y z e = cc
 
-pub story-step : (d : DocumentData) (past : List Act) (t : TxId) (s : ScriptData) (x : Story) → AllDue d past → script_of t d.scripts ≡ Some s → story d past t ≡ Some x → IsInStep s.ops x.progress.sid x.progress.values
+pub story-step : (d : DocumentData) (past : List Act) (t : TxId) (s : ScriptData) (x : Story) → AllDue d past
+    → script_of t d.scripts ≡ Some s → story d past t ≡ Some x → IsInStep s.ops x.progress.sid x.progress.values
 story-step d past t s x due is told = let P : Option Story → Type 0 = λ o. OfStory (Unit {0}) (IsInStep s.ops) o in subst P told (stories-step d past t s due is)

@@ -29,12 +29,14 @@ among-get [] i n e = cc
 among-get (m ∷ ns) zero n e = grind (arith, nat_tests)
 among-get (m ∷ ns) (suc i) n e = grind (arith, among-get ns i n)
 
-pub among-filter : (p : NodeId → Bool) (ns : List NodeId) (n : NodeId) → is_among n (filter p ns) ≡ true → is_among n ns ≡ true
+pub among-filter : (p : NodeId → Bool) (ns : List NodeId) (n : NodeId) → is_among n (filter p ns) ≡ true
+    → is_among n ns ≡ true
 among-filter p [] n e = e
 among-filter p (m ∷ ns) n e = grind (arith, nat_tests, among-filter p ns n)
 
 -- a node that a home prefers holds the key
-pub holds-preferred : (places : List (List NodeId)) (home : NodeId) (k : Key) (n : NodeId) → is_among n (preferred places home k) ≡ true → holds places n k ≡ true
+pub holds-preferred : (places : List (List NodeId)) (home : NodeId) (k : Key) (n : NodeId)
+    → is_among n (preferred places home k) ≡ true → holds places n k ≡ true
 holds-preferred places home k n e = grind (arith, nat_tests, among-filter)
 
 -- ---- a script
@@ -61,20 +63,26 @@ record OpenAt (n : NodeId) (h : Node) (o : Option ScriptData) (y : Option Story)
   unended : is_open (phase_at script (Some story) h) ≡ true
   is : x ≡ open_of script story
 
-open-told : (n : NodeId) (h : Node) (s : ScriptData) (y : Story) (x : Open) (b : Bool) → is_open (phase_at s (Some y) h) ≡ b → s.home ≡ n → (if b then Some (open_of s y) else None) ≡ Some x → OpenAt n h (Some s) (Some y) x
+open-told : (n : NodeId) (h : Node) (s : ScriptData) (y : Story) (x : Open) (b : Bool)
+    → is_open (phase_at s (Some y) h) ≡ b → s.home ≡ n → (if b then Some (open_of s y) else None) ≡ Some x
+    → OpenAt n h (Some s) (Some y) x
 open-told n h s y x true unended home e = record { script = s; story = y; some = refl; home = home; told = refl; unended = unended; is = cc }
 open-told n h s y x false unended home e = cc
 
-open-home : (n : NodeId) (h : Node) (s : ScriptData) (o : Option Story) (x : Open) (b : Bool) → (s.home == n) ≡ b → (if b then open_by s (phase_at s o h) o else None) ≡ Some x → OpenAt n h (Some s) o x
+open-home : (n : NodeId) (h : Node) (s : ScriptData) (o : Option Story) (x : Open) (b : Bool) → (s.home == n) ≡ b
+    → (if b then open_by s (phase_at s o h) o else None) ≡ Some x → OpenAt n h (Some s) o x
 open-home n h s None x true home e = cc
 open-home n h s (Some y) x true home e = open-told n h s y x (is_open (phase_at s (Some y) h)) refl (grind (arith, nat_tests)) e
 open-home n h s o x false home e = cc
 
-open-some : (n : NodeId) (h : Node) (o : Option ScriptData) (y : Option Story) (x : Open) → open_at n h o y ≡ Some x → OpenAt n h o y x
+open-some : (n : NodeId) (h : Node) (o : Option ScriptData) (y : Option Story) (x : Open) → open_at n h o y ≡ Some x
+    → OpenAt n h o y x
 open-some n h None y x e = cc
 open-some n h (Some s) y x e = open-home n h s y x (s.home == n) refl e
 
-opens-at : (d : DocumentData) (past : List Act) (n : NodeId) (t : TxId) (x : Open) (w : Option ℕ) → undone t (node d past n).journal ≡ None → OpenAt n (node d past n) (script_of t d.scripts) (story d past t) x → waiting x.script.ops x.progress.values ≡ w → Opens d past n t x w
+opens-at : (d : DocumentData) (past : List Act) (n : NodeId) (t : TxId) (x : Open) (w : Option ℕ)
+    → undone t (node d past n).journal ≡ None → OpenAt n (node d past n) (script_of t d.scripts) (story d past t) x
+    → waiting x.script.ops x.progress.values ≡ w → Opens d past n t x w
 opens-at d past n t x w new o reads =
     record {
       script = o.script;
@@ -86,14 +94,18 @@ opens-at d past n t x w new o reads =
       new = new;
     }
 
-stage-open : (d : DocumentData) (past : List Act) (n : NodeId) (t : TxId) (u : Option Decision) (o : Option Open) (acks : List NodeId) (x : Open) (w : Option ℕ) → undone t (node d past n).journal ≡ u → open_at n (node d past n) (script_of t d.scripts) (story d past t) ≡ o → stage_by u o acks ≡ open_stage x w → Opens d past n t x w
+stage-open : (d : DocumentData) (past : List Act) (n : NodeId) (t : TxId) (u : Option Decision) (o : Option Open)
+    (acks : List NodeId) (x : Open) (w : Option ℕ) → undone t (node d past n).journal ≡ u
+    → open_at n (node d past n) (script_of t d.scripts) (story d past t) ≡ o → stage_by u o acks ≡ open_stage x w
+    → Opens d past n t x w
 stage-open d past n t (Some y) o acks x None e f is = cc
 stage-open d past n t (Some y) o acks x (Some j) e f is = cc
 stage-open d past n t None None acks x None e f is = cc
 stage-open d past n t None None acks x (Some j) e f is = cc
 stage-open d past n t None (Some y) acks x w e f is = same (waiting y.script.ops y.progress.values) w refl is
   where
-    same : (v w : Option ℕ) → waiting y.script.ops y.progress.values ≡ v → open_stage y v ≡ open_stage x w → Opens d past n t x w
+    same : (v w : Option ℕ) → waiting y.script.ops y.progress.values ≡ v → open_stage y v ≡ open_stage x w
+        → Opens d past n t x w
     same None None r is = let s : y ≡ x = cc in opens-at d past n t x None e (open-some n (node d past n) (script_of t d.scripts) (story d past t) x (f ∙ ap (λ z. Some z) s)) (ap (λ (z : Open). waiting z.script.ops z.progress.values) (sym s) ∙ r)
     same (Some i) (Some j) r is =
         let s : y ≡ x = cc in
@@ -102,13 +114,16 @@ stage-open d past n t None (Some y) acks x w e f is = same (waiting y.script.ops
     same None (Some j) r is = cc
     same (Some i) None r is = cc
 
-pub opens-reads : (d : DocumentData) (past : List Act) (n : NodeId) (t : TxId) (x : Open) (j : ℕ) → stage (view d past n) t ≡ Reads x j → Opens d past n t x (Some j)
+pub opens-reads : (d : DocumentData) (past : List Act) (n : NodeId) (t : TxId) (x : Open) (j : ℕ)
+    → stage (view d past n) t ≡ Reads x j → Opens d past n t x (Some j)
 opens-reads d past n t x j e = stage-open d past n t (undone t (node d past n).journal) (open_at n (node d past n) (script_of t d.scripts) (story d past t)) _ x (Some j) refl refl e
 
-pub opens-collects : (d : DocumentData) (past : List Act) (n : NodeId) (t : TxId) (x : Open) → stage (view d past n) t ≡ Collects x → Opens d past n t x None
+pub opens-collects : (d : DocumentData) (past : List Act) (n : NodeId) (t : TxId) (x : Open)
+    → stage (view d past n) t ≡ Collects x → Opens d past n t x None
 opens-collects d past n t x e = stage-open d past n t (undone t (node d past n).journal) (open_at n (node d past n) (script_of t d.scripts) (story d past t)) _ x None refl refl e
 
-commits-by : (u : Option Decision) (o : Option Open) (acks : List NodeId) (y : Decision) (some : List NodeId) → stage_by u o acks ≡ Commits y some → u ≡ Some y
+commits-by : (u : Option Decision) (o : Option Open) (acks : List NodeId) (y : Decision) (some : List NodeId)
+    → stage_by u o acks ≡ Commits y some → u ≡ Some y
 commits-by (Some z) o acks y some e = cc
 commits-by None (Some x) acks y some e = other (waiting x.script.ops x.progress.values) e
   where
@@ -117,7 +132,8 @@ commits-by None (Some x) acks y some e = other (waiting x.script.ops x.progress.
     other (Some j) e = cc
 commits-by None None acks y some e = cc
 
-pub stage-commits : (d : DocumentData) (past : List Act) (n : NodeId) (t : TxId) (y : Decision) (acks : List NodeId) → stage (view d past n) t ≡ Commits y acks → undone t (node d past n).journal ≡ Some y
+pub stage-commits : (d : DocumentData) (past : List Act) (n : NodeId) (t : TxId) (y : Decision) (acks : List NodeId)
+    → stage (view d past n) t ≡ Commits y acks → undone t (node d past n).journal ≡ Some y
 stage-commits d past n t y acks e = commits-by _ _ _ y acks e
 
 -- ---- what a message leaves of a story
@@ -128,9 +144,13 @@ is_counted (message.Vote t (ballot.Yes p)) = true
 is_counted (message.Ack t) = true
 is_counted said = false
 
-heard-same : (d : DocumentData) (past : List Act) (s : Option ScriptData) (x n : NodeId) (said : Message) (o : Option Story) → is_counted said ≡ false → heard_at d past s (Some (record { from = x; to = n; message = said })) o ≡ o
+heard-same : (d : DocumentData) (past : List Act) (s : Option ScriptData) (x n : NodeId) (said : Message)
+    (o : Option Story) → is_counted said ≡ false
+    → heard_at d past s (Some (record { from = x; to = n; message = said })) o ≡ o
 heard-same d past None x n said o e = refl
 heard-same d past (Some s) x n said o e = grind (arith, e)
 
-pub story-quiet : (d : DocumentData) (past : List Act) (m : ℕ) (x n : NodeId) (said : Message) (t : TxId) → sent_at m (sent past) ≡ Some (record { from = x; to = n; message = said }) → is_counted said ≡ false → story d (act.Got m ∷ past) t ≡ story d past t
+pub story-quiet : (d : DocumentData) (past : List Act) (m : ℕ) (x n : NodeId) (said : Message) (t : TxId)
+    → sent_at m (sent past) ≡ Some (record { from = x; to = n; message = said }) → is_counted said ≡ false
+    → story d (act.Got m ∷ past) t ≡ story d past t
 story-quiet d past m x n said t is e = rw is (heard-same d past (script_of t d.scripts) x n said (story d past t) e)

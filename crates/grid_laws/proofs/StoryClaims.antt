@@ -78,7 +78,8 @@ hears-any P votes acks = record {
 }
 
 -- a message that is sent
-pub asked-claim : (P : Option Story → Type 0) → ((k : ℕ) (x : Story) → P (Some x) → P (Some (progressed (λ y. record y { turn = k }) x)))
+pub asked-claim : (P : Option Story → Type 0)
+    → ((k : ℕ) (x : Story) → P (Some x) → P (Some (progressed (λ y. record y { turn = k }) x)))
     → (d : DocumentData) (t : TxId) (said : Message) (o : Option Story) → P o → P (asked d t said o)
 asked-claim P turn d t (message.ReadReq q) o k = if-claim P (q.t == t) _ o (λ e x i. turn _ x i) k
 asked-claim P turn d t said o k = k

@@ -1,4 +1,5 @@
--- The premises of the laws are not empty: the documents of the worked runs are well formed, and their acts are runs of them.
+-- The premises of the laws are not empty: the documents of the worked runs are well formed, and their acts are runs of
+-- them.
 use Rattle.std.proofs.Common.{◌≤◌, ℕ, IsTrue, List, length, refl, arith}
 use Rattle.std.specs.Prelude.{nat_le, sum_by}
 use Rattle.std.specs.List.{list_all}
@@ -21,7 +22,10 @@ at-most : (m n : ℕ) → IsTrue (nat_le m n) → m ≤ n
 at-most m n is = grind (arith, nat_tests, is)
 
 -- a cluster by tests of its parts
-pub tested-cluster : (c : ClusterData) → IsTrue (nat_le 1 c.nodes) → IsTrue (nat_le c.nodes 16) → IsTrue (nat_le 1 (length c.places)) → IsTrue (nat_le (length c.places) 64) → IsTrue (list_all is_partition c.places) → IsTrue (list_all (list_all (λ n. nat_le n c.nodes)) c.places) → IsTrue (are_keys_distinct c.inits) → IsCluster c
+pub tested-cluster : (c : ClusterData) → IsTrue (nat_le 1 c.nodes) → IsTrue (nat_le c.nodes 16)
+    → IsTrue (nat_le 1 (length c.places)) → IsTrue (nat_le (length c.places) 64)
+    → IsTrue (list_all is_partition c.places) → IsTrue (list_all (list_all (λ n. nat_le n c.nodes)) c.places)
+    → IsTrue (are_keys_distinct c.inits) → IsCluster c
 tested-cluster c least most few many each inside inits = record {
   least = at-most 1 c.nodes least;
   most = at-most c.nodes 16 most;
@@ -31,7 +35,13 @@ tested-cluster c least most few many each inside inits = record {
 }
 
 -- a document by tests of its parts
-pub tested-document : (d : DocumentData) → IsCluster d.cluster → IsTrue (nat_le (length d.scripts) 4096) → IsTrue (are_numbers_distinct (script_numbers d.scripts)) → IsTrue (list_all (λ s. nat_le s.home d.cluster.nodes) d.scripts) → IsTrue (nat_le (length (key_order (keys_of_document d.cluster.inits d.scripts))) 4096) → IsTrue (list_all (is_item d.cluster.nodes (script_numbers d.scripts)) d.items) → IsTrue (nat_le (sum_by events_of d.items) 50000) → IsTrue (list_all (λ s. is_body s.ops) d.scripts) → IsTrue (are_numbered d) → IsOne d
+pub tested-document : (d : DocumentData) → IsCluster d.cluster → IsTrue (nat_le (length d.scripts) 4096)
+    → IsTrue (are_numbers_distinct (script_numbers d.scripts))
+    → IsTrue (list_all (λ s. nat_le s.home d.cluster.nodes) d.scripts)
+    → IsTrue (nat_le (length (key_order (keys_of_document d.cluster.inits d.scripts))) 4096)
+    → IsTrue (list_all (is_item d.cluster.nodes (script_numbers d.scripts)) d.items)
+    → IsTrue (nat_le (sum_by events_of d.items) 50000) → IsTrue (list_all (λ s. is_body s.ops) d.scripts)
+    → IsTrue (are_numbered d) → IsOne d
 tested-document d cluster count numbers homes keys items events bodies nodes = record {
   document = record {
     cluster = cluster;

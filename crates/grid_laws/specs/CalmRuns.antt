@@ -34,4 +34,6 @@ plays d past (e ∷ es) = played d past e ++ plays d (after past (played d past 
 -- the acts of a document's run in which no disk fails: every node comes up at the start, then the events
 -- are played one behind the other
 abbrev pub calm_run : DocumentData → List Act
-calm_run d = start_row d.cluster.nodes (λ n. true) ++ plays d (after [] (start_row d.cluster.nodes (λ n. true))) (flat_map events_in d.items)
+calm_run d =
+    start_row d.cluster.nodes (λ n. true)
+    ++ plays d (after [] (start_row d.cluster.nodes (λ n. true))) (flat_map events_in d.items)

@@ -1,1 +1,2 @@
 pub mod CalmRuns
+pub mod Cuts

@@ -82,7 +82,8 @@ pub fn law_aborts_final()
 
 /// After e events no act names an identifier above 64 e.
 pub fn law_identifiers()
-    ensures { (d : DocumentData) (h : List Act) → IsRun d d.items h → IdentifiersBelow (sum_by events_of d.items) (after [] h) }
+    ensures { (d : DocumentData) (h : List Act) → IsRun d d.items h
+        → IdentifiersBelow (sum_by events_of d.items) (after [] h) }
 {}
 
 /// Each message that a run delivers is fit where it is got.
@@ -100,7 +101,8 @@ pub fn law_begun_fit()
 /// transactions of that node that began and were not lost. So each message that is delivered behind a run
 /// may come to its node as `law_next_view` of `grid_model` asks it.
 pub fn law_own_decisions()
-    ensures { (d : DocumentData) (items : List Item) (h : List Act) → IsRun d items h → (n : ℕ) → OwnDecisions d (after [] h) n }
+    ensures { (d : DocumentData) (items : List Item) (h : List Act) → IsRun d items h → (n : ℕ)
+        → OwnDecisions d (after [] h) n }
 {}
 
 /// The facts on which one copy rests hold of every run, stops and restarts included.
@@ -117,5 +119,6 @@ pub fn law_calm_run()
 /// A document whose schedule sets no fuse has exactly one lawful run in which no disk fails.
 pub fn law_one_history()
     ensures some { (d : DocumentData) → AreUnfused d.items → (h : List Act) × Lawful d h (λ n. 0) }
-    ensures one { (d : DocumentData) (h h' : List Act) → AreUnfused d.items → Lawful d h (λ n. 0) → Lawful d h' (λ n. 0) → h ≡ h' }
+    ensures one { (d : DocumentData) (h h' : List Act) → AreUnfused d.items → Lawful d h (λ n. 0) → Lawful d h' (λ n. 0)
+        → h ≡ h' }
 {}

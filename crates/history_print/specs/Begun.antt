@@ -15,7 +15,8 @@ open_words (Some j) = codes "reading" ∷ decimal j ∷ []
 
 -- a transaction that is not decided
 unfoldable pub undecided_words : Bool → Bool → Option ℕ → Ident → List (List ℕ)
-undecided_words aborted answered waits sid = if aborted then codes "aborted" ∷ [] else (if answered then codes "read" ∷ decimal sid ∷ [] else open_words waits)
+undecided_words aborted answered waits sid =
+    if aborted then codes "aborted" ∷ [] else (if answered then codes "read" ∷ decimal sid ∷ [] else open_words waits)
 
 -- a committed transaction
 unfoldable pub final_words : Ident → List (List ℕ)
@@ -29,4 +30,6 @@ decided_words (Some f) rest = final_words f
 -- a transaction by its story and its final identifier
 unfoldable pub story_words : List Op → Option Story → Option Ident → List (List ℕ)
 story_words ops None f = codes "unbegun" ∷ []
-story_words ops (Some x) f = if x.lost then codes "lost" ∷ [] else decided_words f (undecided_words x.aborted (x.finished && not (is_update ops)) (waiting ops x.progress.values) (snapshot_in (Some x)))
+story_words ops (Some x) f =
+    if x.lost then codes "lost" ∷ [] else decided_words f (undecided_words x.aborted (x.finished && not (is_update ops))
+    (waiting ops x.progress.values) (snapshot_in (Some x)))

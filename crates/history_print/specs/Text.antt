@@ -36,7 +36,9 @@ phase_words Collecting sid = codes "collecting" ∷ []
 
 -- the line of a script's transaction, by its story and by the journal of its home
 unfoldable pub tx_line : ScriptData → Option Story → List Record → List ℕ
-tx_line s o r = line (codes "tx" ∷ decimal s.number ∷ phase_words (phase_by s.ops o (is_closed s.number r) (later_decision (skipped_in o) s.number r)) (snapshot_in o))
+tx_line s o r =
+    line (codes "tx" ∷ decimal s.number
+    ∷ phase_words (phase_by s.ops o (is_closed s.number r) (later_decision (skipped_in o) s.number r)) (snapshot_in o))
 
 -- the line of a transaction that has a script
 unfoldable pub script_line : (TxId → Option Story) → (NodeId → List Record) → Option ScriptData → List ℕ
@@ -45,7 +47,8 @@ script_line stories journals (Some s) = tx_line s (stories s.number) (journals s
 
 -- one line for each script, in rising number
 unfoldable pub tx_lines : List ScriptData → (TxId → Option Story) → (NodeId → List Record) → List ℕ
-tx_lines ss stories journals = flat_map (λ t. script_line stories journals (script_of t ss)) (number_order (script_numbers ss))
+tx_lines ss stories journals =
+    flat_map (λ t. script_line stories journals (script_of t ss)) (number_order (script_numbers ss))
 
 -- ---- keys
 
@@ -55,7 +58,8 @@ version_line k n w = line (codes "key" ∷ k ∷ node_word n ∷ decimal w.value
 
 -- the line of a key at a node that holds it, by the node's journal
 unfoldable pub holder_line : ClusterData → (NodeId → List Record) → Key → NodeId → List ℕ
-holder_line c journals k n = if holds c.places n k then version_line k n (newest_version (journals n) k (init c k)) else []
+holder_line c journals k n =
+    if holds c.places n k then version_line k n (newest_version (journals n) k (init c k)) else []
 
 -- one line for each node that holds the key, rising
 unfoldable pub key_lines : ClusterData → (NodeId → List Record) → Key → List ℕ
@@ -69,7 +73,8 @@ keys_lines d journals = flat_map (key_lines d.cluster journals) (key_order (keys
 
 -- the summary, by the stories of the transactions and the journals of the nodes
 unfoldable pub summary_by : DocumentData → (TxId → Option Story) → (NodeId → List Record) → List ℕ
-summary_by d stories journals = line (codes "summary" ∷ []) ++ tx_lines d.scripts stories journals ++ keys_lines d journals
+summary_by d stories journals =
+    line (codes "summary" ∷ []) ++ tx_lines d.scripts stories journals ++ keys_lines d journals
 
 -- the summary of these acts
 abbrev pub summary_text : DocumentData → List Act → List ℕ

@@ -94,7 +94,8 @@ fn put_version(
     vn: Ident,
     value: Value,
 ) -> Result<(), Memory>
-    ensures { OnOk result (out.new.items ≡ out.old.items ++ spaced (key.now ∷ decimal sid ∷ decimal vn ∷ decimal value ∷ [])) }
+    ensures { OnOk result
+        (out.new.items ≡ out.old.items ++ spaced (key.now ∷ decimal sid ∷ decimal vn ∷ decimal value ∷ [])) }
 {
     put_key(out, key)?;
     put_ident(out, sid)?;
@@ -103,7 +104,8 @@ fn put_version(
 }
 
 fn put_server(out: &mut Vec<u8>, n: NodeId, t: TxId, op: u8) -> Result<(), Memory>
-    ensures { OnOk result (out.new.items ≡ out.old.items ++ joined (codes "served" ∷ node_word n ∷ decimal t ∷ decimal op ∷ [])) }
+    ensures { OnOk result
+        (out.new.items ≡ out.old.items ++ joined (codes "served" ∷ node_word n ∷ decimal t ∷ decimal op ∷ [])) }
 {
     put_bytes(out, b"served")?;
     put_node(out, n)?;
@@ -122,7 +124,8 @@ fn put_served(
     vn: Ident,
     value: Value,
 ) -> Result<(), Memory>
-    ensures { OnOk result (out.new.items ≡ out.old.items ++ joined (act_words (Act.Served n t op key.now sid vn value))) }
+    ensures { OnOk result
+        (out.new.items ≡ out.old.items ++ joined (act_words (Act.Served n t op key.now sid vn value))) }
 {
     put_server(out, n, t, op)?;
     put_version(out, key, sid, vn, value)

@@ -17,4 +17,7 @@ mod words;
 
 pub use acts::write_act;
 pub use history::write_history;
-pub use summary::write_summary;
+pub use summary::{
+    add_numbers, key_set, put_final, put_undecided, put_version_line, write_summary,
+};
+pub use words::{put_tx, put_word};

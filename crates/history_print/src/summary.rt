@@ -45,8 +45,10 @@ fn put_open(out: &mut Vec<u8>, waits: Option<usize>) -> Result<(), Memory>
     }
 }
 
+/// Appends the words of a transaction that is not decided: whether it was aborted, whether its reader was
+/// answered, the operation that waits, and its snapshot identifier.
 #[tactic(auto, unfolding(crate::specs::Begun::undecided_words))]
-fn put_undecided(
+pub fn put_undecided(
     out: &mut Vec<u8>,
     aborted: bool,
     answered: bool,
@@ -75,8 +77,9 @@ fn snapshot_of(story: &Story) -> Ident
     }
 }
 
+/// Appends the words of a transaction that is decided, with its final identifier.
 #[tactic(auto, unfolding(crate::specs::Begun::final_words))]
-fn put_final(out: &mut Vec<u8>, f: Ident) -> Result<(), Memory>
+pub fn put_final(out: &mut Vec<u8>, f: Ident) -> Result<(), Memory>
     ensures { OnOk result (out.new.items ≡ out.old.items ++ spaced (final_words f)) }
 {
     put_word(out, b"committed")?;
@@ -114,7 +117,8 @@ fn put_story(
     story: Option<&Story>,
     final_ident: Option<Ident>,
 ) -> Result<(), Memory>
-    ensures { OnOk result (out.new.items ≡ out.old.items ++ spaced (story_words ops.now (option_copied story.entry) final_ident)) }
+    ensures { OnOk result
+        (out.new.items ≡ out.old.items ++ spaced (story_words ops.now (option_copied story.entry) final_ident)) }
 {
     match story {
         None => put_word(out, b"unbegun"),
@@ -139,7 +143,10 @@ fn put_phase(
     story: Option<&Story>,
     records: &[Record],
 ) -> Result<(), Memory>
-    ensures { OnOk result (out.new.items ≡ out.old.items ++ spaced (phase_words (phase_by script.now.ops (option_copied story.entry) (is_closed script.now.number (reverse records.now)) (later_decision (skipped_in (option_copied story.entry)) script.now.number (reverse records.now))) (snapshot_in (option_copied story.entry)))) }
+    ensures { OnOk result (out.new.items ≡ out.old.items ++ spaced (phase_words (phase_by script.now.ops
+        (option_copied story.entry) (is_closed script.now.number (reverse records.now))
+        (later_decision (skipped_in (option_copied story.entry)) script.now.number (reverse records.now)))
+        (snapshot_in (option_copied story.entry)))) }
 {
     let times = skipped_in(story);
     let final_ident = later_final(times, records, script.number);
@@ -153,7 +160,8 @@ fn put_tx_line(
     story: Option<&Story>,
     records: &[Record],
 ) -> Result<(), Memory>
-    ensures { OnOk result (out.new.items ≡ out.old.items ++ tx_line script.now (option_copied story.entry) (reverse records.now)) }
+    ensures { OnOk result
+        (out.new.items ≡ out.old.items ++ tx_line script.now (option_copied story.entry) (reverse records.now)) }
 {
     put_bytes(out, b"tx")?;
     put_tx(out, script.number)?;
@@ -163,7 +171,8 @@ fn put_tx_line(
 
 #[tactic(auto, unfolding(crate::specs::Text::script_line))]
 fn put_script_line(out: &mut Vec<u8>, script: Option<&Script>, run: &RunState) -> Result<(), Memory>
-    ensures { OnOk result (out.new.items ≡ out.old.items ++ script_line (story run.now.doc (past run.now)) (journal run.now.doc (past run.now)) (option_copied script.entry)) }
+    ensures { OnOk result (out.new.items ≡ out.old.items ++ script_line (story run.now.doc (past run.now))
+        (journal run.now.doc (past run.now)) (option_copied script.entry)) }
 {
     match script {
         None => Ok(()),
@@ -176,7 +185,8 @@ fn put_script_line(out: &mut Vec<u8>, script: Option<&Script>, run: &RunState) -
     }
 }
 
-fn add_numbers(numbers: &mut BTreeSet<TxId>, scripts: &[Script]) -> Result<(), Memory>
+/// Adds the numbers of the scripts.
+pub fn add_numbers(numbers: &mut BTreeSet<TxId>, scripts: &[Script]) -> Result<(), Memory>
     ensures { OnOk result (numbers.new.keys ≡ fold (insert_key nat_cmp) numbers.old.keys (script_numbers scripts.now)) }
 {
     for script in scripts {
@@ -191,7 +201,9 @@ fn put_numbered(
     scripts: &[Script],
     run: &RunState,
 ) -> Result<(), Memory>
-    ensures { OnOk result (out.new.items ≡ out.old.items ++ flat_map (λ t. script_line (story run.now.doc (past run.now)) (journal run.now.doc (past run.now)) (script_of t scripts.now)) numbers.now.keys) }
+    ensures { OnOk result (out.new.items ≡ out.old.items ++ flat_map (λ t. script_line
+        (story run.now.doc (past run.now)) (journal run.now.doc (past run.now)) (script_of t scripts.now))
+        numbers.now.keys) }
 {
     for number in numbers {
         put_script_line(out, script_of(scripts, *number), run)?;
@@ -201,15 +213,22 @@ fn put_numbered(
 
 #[tactic(auto, unfolding(crate::specs::Text::tx_lines))]
 fn put_tx_lines(out: &mut Vec<u8>, scripts: &[Script], run: &RunState) -> Result<(), Memory>
-    ensures { OnOk result (out.new.items ≡ out.old.items ++ tx_lines scripts.now (story run.now.doc (past run.now)) (journal run.now.doc (past run.now))) }
+    ensures { OnOk result (out.new.items ≡ out.old.items
+        ++ tx_lines scripts.now (story run.now.doc (past run.now)) (journal run.now.doc (past run.now))) }
 {
     let mut numbers = BTreeSet::new(*out.allocator());
     add_numbers(&mut numbers, scripts)?;
     put_numbered(out, &numbers, scripts, run)
 }
 
+/// Appends the line of a key at a node: the value and the identifier of this version.
 #[tactic(auto, unfolding(crate::specs::Text::version_line))]
-fn put_version_line(out: &mut Vec<u8>, key: &Key, n: NodeId, version: Version) -> Result<(), Memory>
+pub fn put_version_line(
+    out: &mut Vec<u8>,
+    key: &Key,
+    n: NodeId,
+    version: Version,
+) -> Result<(), Memory>
     ensures { OnOk result (out.new.items ≡ out.old.items ++ version_line key.now n version) }
 {
     put_bytes(out, b"key")?;
@@ -234,7 +253,8 @@ fn put_holder_line(
     key: &Key,
     n: NodeId,
 ) -> Result<(), Memory>
-    ensures { OnOk result (out.new.items ≡ out.old.items ++ holder_line cluster.now (journal run.now.doc (past run.now)) key.now n) }
+    ensures { OnOk result
+        (out.new.items ≡ out.old.items ++ holder_line cluster.now (journal run.now.doc (past run.now)) key.now n) }
 {
     if !is_among(n, cluster.places.holders(key)) {
         return Ok(());
@@ -257,7 +277,8 @@ fn put_holder_lines(
     count: u8,
 ) -> Result<(), Memory>
     requires { count ≤ 16 }
-    ensures { OnOk result (out.new.items ≡ out.old.items ++ flat_map (holder_line cluster.now (journal run.now.doc (past run.now)) key.now) (range_with_len 1 count)) }
+    ensures { OnOk result (out.new.items ≡ out.old.items ++ flat_map
+        (holder_line cluster.now (journal run.now.doc (past run.now)) key.now) (range_with_len 1 count)) }
 {
     for i in 0..count {
         put_holder_line(out, cluster, run, key, NodeId { number: i + 1 })?;
@@ -272,7 +293,8 @@ fn put_key_lines(
     run: &RunState,
     key: &Key,
 ) -> Result<(), Memory>
-    ensures { OnOk result (out.new.items ≡ out.old.items ++ key_lines cluster.now (journal run.now.doc (past run.now)) key.now) }
+    ensures { OnOk result
+        (out.new.items ≡ out.old.items ++ key_lines cluster.now (journal run.now.doc (past run.now)) key.now) }
 {
     put_holder_lines(out, cluster, run, key, MOST_NODES)
 }
@@ -283,7 +305,8 @@ fn put_each_key(
     cluster: &Cluster,
     run: &RunState,
 ) -> Result<(), Memory>
-    ensures { OnOk result (out.new.items ≡ out.old.items ++ flat_map (key_lines cluster.now (journal run.now.doc (past run.now))) keys.now.keys) }
+    ensures { OnOk result (out.new.items
+        ≡ out.old.items ++ flat_map (key_lines cluster.now (journal run.now.doc (past run.now))) keys.now.keys) }
 {
     for key in keys {
         put_key_lines(out, cluster, run, key)?;
@@ -310,7 +333,8 @@ fn add_ops(keys: &mut BTreeSet<Key>, ops: &[Op]) -> Result<(), Memory>
 }
 
 fn add_scripts(keys: &mut BTreeSet<Key>, scripts: &[Script]) -> Result<(), Memory>
-    ensures { OnOk result (keys.new.keys ≡ fold (insert_key (slice_cmp nat_cmp)) keys.old.keys (flat_map (λ s. keys_named s.ops) scripts.now)) }
+    ensures { OnOk result (keys.new.keys
+        ≡ fold (insert_key (slice_cmp nat_cmp)) keys.old.keys (flat_map (λ s. keys_named s.ops) scripts.now)) }
 {
     for script in scripts {
         add_ops(keys, script.ops())?;
@@ -319,7 +343,7 @@ fn add_scripts(keys: &mut BTreeSet<Key>, scripts: &[Script]) -> Result<(), Memor
 }
 
 /// The keys that an initial value or an operation names.
-fn key_set(alloc: Global, doc: &Document) -> Result<BTreeSet<Key>, Memory>
+pub fn key_set(alloc: Global, doc: &Document) -> Result<BTreeSet<Key>, Memory>
     ensures { IfOk result (λ s. s.keys ≡ key_order (keys_of_document doc.now.cluster.inits doc.now.scripts)) }
 {
     let mut keys = BTreeSet::new(alloc);
@@ -338,7 +362,8 @@ fn put_keys_lines(out: &mut Vec<u8>, doc: &Document, run: &RunState) -> Result<(
 
 #[tactic(auto, unfolding(crate::specs::Text::summary_by))]
 fn put_summary(out: &mut Vec<u8>, doc: &Document, run: &RunState) -> Result<(), Memory>
-    ensures { OnOk result (out.new.items ≡ out.old.items ++ summary_by doc.now (story run.now.doc (past run.now)) (journal run.now.doc (past run.now))) }
+    ensures { OnOk result (out.new.items ≡ out.old.items
+        ++ summary_by doc.now (story run.now.doc (past run.now)) (journal run.now.doc (past run.now))) }
 {
     put_bytes(out, b"summary\n")?;
     put_tx_lines(out, doc.scripts(), run)?;

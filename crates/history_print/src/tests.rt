@@ -370,7 +370,8 @@ fn places(alloc: Global) -> Result<Places, Memory>
 }
 
 fn cluster(alloc: Global) -> Result<Cluster, Memory>
-    ensures { IfOk result (λ c. c ≡ record { nodes = 2; places = (1 ∷ []) ∷ (2 ∷ []) ∷ []; inits = (codes "a", 10) ∷ (codes "b", 0) ∷ [] }) }
+    ensures { IfOk result (λ c. c
+        ≡ record { nodes = 2; places = (1 ∷ []) ∷ (2 ∷ []) ∷ []; inits = (codes "a", 10) ∷ (codes "b", 0) ∷ [] }) }
 {
     let mut inits = WriteList::new(alloc);
     inits.push((key(b"a")?, Value(10)))?;
@@ -445,8 +446,22 @@ fn text_of_a_first_read(rt: HostRuntime) -> Result<(), Fail> {
     let acts = first_read(alloc)?;
     let mut out = Vec::new(alloc);
     write_history(&doc, acts.as_slice(), &mut out)?;
-    let want =
-        "up n1 none\nup n2 none\nbegan 1 n1 0\nsent 1 n1 n2 readreq 1 1 a first 0\ngot 1\nserved n2 1 1 a 0 0 10\nsent 2 n2 n1 readrep 1 1 0 10\ngot 2\ntaken 1 1 0 10\nfinished 1\nsummary\ntx 1 read 0\nkey a n2 10 0\nkey b n1 0 0\n";
+    let want = "\
+up n1 none
+up n2 none
+began 1 n1 0
+sent 1 n1 n2 readreq 1 1 a first 0
+got 1
+served n2 1 1 a 0 0 10
+sent 2 n2 n1 readrep 1 1 0 10
+got 2
+taken 1 1 0 10
+finished 1
+summary
+tx 1 read 0
+key a n2 10 0
+key b n1 0 0
+";
     assert_eq!(rt; out.as_slice(), want.as_bytes());
     Ok(())
 }
@@ -459,7 +474,13 @@ fn summary_in_rising_number(rt: HostRuntime) -> Result<(), Fail> {
     acts.push(Act::Began(tx(10), node(1), Ident(0)))?;
     let mut out = Vec::new(alloc);
     write_summary(&doc, acts.as_slice(), &mut out)?;
-    let want = "summary\ntx 9 unbegun\ntx 10 reading 1\nkey a n2 10 0\nkey b n1 0 0\n";
+    let want = "\
+summary
+tx 9 unbegun
+tx 10 reading 1
+key a n2 10 0
+key b n1 0 0
+";
     assert_eq!(rt; out.as_slice(), want.as_bytes());
     Ok(())
 }

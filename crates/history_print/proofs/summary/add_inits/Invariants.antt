@@ -6,4 +6,6 @@ use Rattle.std.specs.Cmp.Lexicographic.{slice_cmp}
 use Rattle.history_print.proofs.summary.add_inits.Given as goal
 
 abbrev pub invariant-loop-init : goal.invariant-loop-init
-invariant-loop-init l = fold (insert_key (slice_cmp nat_cmp)) l.keys.keys (map (λ x. x.0) (drop l.init-index l.inits)) ≡ fold (insert_key (slice_cmp nat_cmp)) l.fn.keys.keys (map (λ x. x.0) l.inits)
+invariant-loop-init l =
+    fold (insert_key (slice_cmp nat_cmp)) l.keys.keys (map (λ x. x.0) (drop l.init-index l.inits))
+    ≡ fold (insert_key (slice_cmp nat_cmp)) l.fn.keys.keys (map (λ x. x.0) l.inits)

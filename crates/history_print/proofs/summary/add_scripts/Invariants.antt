@@ -8,4 +8,6 @@ use Rattle.script_lang.specs.Reads.{keys_named}
 use Rattle.history_print.proofs.summary.add_scripts.Given as goal
 
 abbrev pub invariant-loop-script : goal.invariant-loop-script
-invariant-loop-script l = fold (insert_key (slice_cmp nat_cmp)) l.keys.keys (flat_map (λ s. keys_named s.ops) (drop l.script-index l.scripts)) ≡ fold (insert_key (slice_cmp nat_cmp)) l.fn.keys.keys (flat_map (λ s. keys_named s.ops) l.scripts)
+invariant-loop-script l =
+    fold (insert_key (slice_cmp nat_cmp)) l.keys.keys (flat_map (λ s. keys_named s.ops) (drop l.script-index l.scripts))
+    ≡ fold (insert_key (slice_cmp nat_cmp)) l.fn.keys.keys (flat_map (λ s. keys_named s.ops) l.scripts)

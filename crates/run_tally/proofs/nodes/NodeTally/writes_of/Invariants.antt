@@ -1,0 +1,6 @@
+use Rattle.std.proofs.Common.{◌≡◌, drop}
+use Rattle.grid_model.specs.Keyed.{at_key}
+use Rattle.run_tally.proofs.nodes.NodeTally.writes_of.Given as goal
+
+abbrev pub invariant-loop-pair : goal.invariant-loop-pair
+invariant-loop-pair l = at_key l.t (drop l.pair-index l.pair-items) ≡ at_key l.t l.self.writes
