@@ -18,7 +18,7 @@ use Rattle.grid_model.specs.Schedules.{Choice, row, start_row, events_in}
 use Rattle.grid_model.specs.Runs.{Rows, IsRun, Lawful, Explains, is_let, are_let, is_stop, is_by_fuse, as_number, stops, faults}
 use Rattle.grid_model.proofs.EventShapes.{after-append}
 use Rattle.grid_model.proofs.Unarmed.{faults-stops}
-use Rattle.grid_laws.specs.Cuts.{events, cut, IsCutRun, IsCutFront, AreRowsOf}
+use Rattle.grid_model.specs.Cuts.{events, cut, IsCutRun, IsCutFront, AreRowsOf}
 
 -- ---- the events of events
 

@@ -14,7 +14,8 @@ use Rattle.grid_model.specs.declared.events.Out.{Out}
 use Rattle.grid_model.specs.declared.events.Out.TheVariants as out
 use Rattle.grid_model.specs.declared.messages.Message.{Message}
 use Rattle.grid_model.specs.declared.messages.Message.TheVariants as message
-use Rattle.grid_model.specs.Views.{stage, View, Participant, participant}
+use Rattle.grid_model.specs.Views.{stage, View, participant}
+use Rattle.journal_words.specs.Participants.{Participant}
 use Rattle.grid_model.specs.Fitness.{is_fit_at}
 use Rattle.grid_model.specs.Rows.{answer, begin_outs, judged, prepare_outs, prepared_outs}
 use Rattle.grid_model.specs.Schedules.{broken, kept, lost_at, numbered, start_act}

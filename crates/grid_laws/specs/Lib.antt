@@ -1,2 +1,1 @@
 pub mod CalmRuns
-pub mod Cuts

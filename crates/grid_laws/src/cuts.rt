@@ -11,7 +11,7 @@ ghost use Rattle.grid_model.specs.Nodes.{Node, node};
 ghost use Rattle.grid_model.specs.Stories.{story};
 ghost use Rattle.grid_model.specs.Schedules.{Choice, row, start_row};
 ghost use Rattle.grid_model.specs.Runs.{IsRun, Lawful, Explains, faults};
-ghost use Rattle.grid_laws.specs.Cuts.{events, cut, IsCutRun, IsCutFront, AreRowsOf};
+ghost use Rattle.grid_model.specs.Cuts.{events, cut, IsCutRun, IsCutFront, AreRowsOf};
 
 /// A document that is cut behind an event is one, and its events are the first ones of the document. Its
 /// nodes, its transactions and its rows are those of the document behind the same acts.

@@ -9,7 +9,7 @@
 //! a list in which every record fits those before it. What the laws say of records they say of the
 //! journal, and of the journal with the record in doubt behind it. [`law_calm_run`] and
 //! [`law_one_history`] speak of the run in which no disk fails, `calm_run` of `specs/CalmRuns.antt`.
-//! The laws of `cuts.rt` speak of documents that are cut behind an event (`specs/Cuts.antt`) and of
+//! The laws of `cuts.rt` speak of documents that are cut behind an event (`specs/Cuts.antt` of `grid_model`) and of
 //! their runs, of which every law of runs holds as of any document's.
 #![tactic(auto)]
 

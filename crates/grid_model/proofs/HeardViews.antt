@@ -24,7 +24,8 @@ use Rattle.grid_model.specs.Nodes.{Node, node, script_of, parts_of, is_home_in}
 use Rattle.grid_model.specs.Advances.{parts_now}
 use Rattle.grid_model.specs.Stories.{Decided, open_phase, story, skipped_in, heard, heard_at, if_told, phase_by, phase_at, is_small_node, is_counted_vote, with_vote, with_node, with_ack, progressed}
 use Rattle.script_runs.specs.Waits.{waiting}
-use Rattle.grid_model.specs.Views.{Stage, Open, Participant, participant_of, open_at, acks_by, acks_at, view, stage_by, open_stage}
+use Rattle.grid_model.specs.Views.{Stage, Open, participant_of, open_at, acks_by, acks_at, view, stage_by, open_stage}
+use Rattle.journal_words.specs.Participants.{Participant}
 use Rattle.grid_model.specs.Fitness.{counts_vote, counts_ack}
 use Rattle.grid_model.specs.NextViews.{changed_open, heard_view, OwnDecisions, is_running}
 use Rattle.grid_model.proofs.Undecided.{script-number, over-there, skipped-heard}

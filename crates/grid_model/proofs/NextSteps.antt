@@ -33,7 +33,7 @@ use Rattle.journal_words.specs.Journals.{names_part, Decision, commit_id, floor,
 use Rattle.grid_model.specs.Nodes.{node, is_home, journal, script_of}
 use Rattle.grid_model.specs.Stories.{is_small, story, has_voted, with_value, with_vote}
 use Rattle.script_runs.specs.Waits.{waiting}
-use Rattle.grid_model.specs.Views.{View, Open, Stage, Apart, Reads, Collects, Commits, view, stage, stage_by, open_stage, participant}
+use Rattle.grid_model.specs.Views.{View, Open, Stage, Apart, Reads, Collects, Commits, view, stage, is_apart, stage_by, open_stage, participant}
 use Rattle.grid_model.specs.Advances.{advance, advance_end, request_of, to_node, prepares, prepare_for, date_by, owns, parts_now}
 use Rattle.script_runs.specs.Walks.{op_at, own_reads, unread}
 use Rattle.grid_model.specs.Fitness.{is_fit_at, tx_in, counts_vote}
@@ -347,7 +347,7 @@ ask_peer-view d past n k t m = plain-view d past n false None None k (ask_peer_o
 pub event-view : (d : DocumentData) (past : List Act) (n m k : ℕ) (e : Event) → Comes d past n m e
     → view d (after (brought m e past) (numbered k n (outs_of n (view d past n) e))) n
     ≡ next_view n (view d past n) e (outs_of n (view d past n) e)
-event-view d past n m k (event.Begin s floor) script = go (s.home == n) refl (is_small floor && is_none ((view d past n).desk s.number))
+event-view d past n m k (event.Begin s floor) script = go (s.home == n) refl (is_small floor && is_apart (stage (view d past n) s.number))
   where
     outs : List Out
     outs = begin_outs n (participant (view d past n)) s floor

@@ -1,5 +1,5 @@
 -- Which messages are fit at a node. A message that is not fit has no act but its Got.
-use Rattle.std.specs.Prelude.{◌+◌, Bool, true, ◌&&◌, ◌||◌, ◌==◌, not, nat_lt, nat_le, List, [], ◌∷◌, length, Option, Some, None, is_none}
+use Rattle.std.specs.Prelude.{◌+◌, Bool, true, ◌&&◌, ◌||◌, ◌==◌, not, nat_lt, nat_le, List, [], ◌∷◌, length, Option, Some, None}
 use Rattle.score_base.specs.declared.ids.NodeId.{NodeId}
 use Rattle.score_base.specs.declared.ids.TxId.{TxId}
 use Rattle.score_base.specs.declared.ids.Ident.{Ident}
@@ -17,7 +17,8 @@ use Rattle.grid_model.specs.declared.messages.ReadReq.{ReadReq}
 use Rattle.grid_model.specs.declared.messages.ReadRep.{ReadRep}
 use Rattle.journal_words.specs.Journals.{are_own_keys, keys_of_writes, pending}
 use Rattle.grid_model.specs.Stories.{is_small, is_small_node, is_fit_ballot, is_part, is_counted_vote, is_counted_ack}
-use Rattle.grid_model.specs.Views.{Participant, View, participant, Stage, Reads, Collects, stage, phase_in}
+use Rattle.journal_words.specs.Participants.{Participant}
+use Rattle.grid_model.specs.Views.{View, participant, Stage, Reads, Collects, stage, is_apart, phase_in}
 use Rattle.grid_model.specs.Advances.{parts_now}
 
 -- the number of a date
@@ -113,4 +114,4 @@ is_fit n v x said = is_fit_at n (participant v) (stage v (tx_in said)) x said
 
 -- a begin is fit at n: n is its home, the floor of its session is small, and its number is not at the desk
 abbrev pub is_fit_begin : NodeId → View → ScriptData → Ident → Bool
-is_fit_begin n v s floor = (s.home == n) && (is_small floor && is_none (v.desk s.number))
+is_fit_begin n v s floor = (s.home == n) && (is_small floor && is_apart (stage v s.number))

@@ -20,3 +20,4 @@ pub mod Copies
 pub mod Facts
 pub mod Claims
 pub mod Excuses
+pub mod Cuts

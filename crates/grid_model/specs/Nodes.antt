@@ -24,6 +24,7 @@ use Rattle.grid_model.specs.Documents.{DocumentData}
 use Rattle.grid_model.specs.Histories.{sent, sent_at}
 use Rattle.journal_words.specs.Journals.{floor}
 pub use Rattle.journal_words.specs.Journals.{learnt}
+pub use Rattle.journal_words.specs.Participants.{written}
 
 -- ---- the document's words on a transaction
 
@@ -164,11 +165,6 @@ pub record Node : Type 0 where
 -- nothing happened yet
 abbrev pub blank : Node
 blank = record { journal = []; doubt = None; next = 0; held = []; up = false }
-
--- the journal with one record more, where there is one
-abbrev pub written : Option Record → List Record → List Record
-written None r = r
-written (Some x) r = x ∷ r
 
 -- the held reads with one more, where there is one
 abbrev pub with_held : Option HeldRead → List HeldRead → List HeldRead

@@ -34,7 +34,8 @@ use Rattle.grid_model.specs.declared.stories.Voted.{Voted}
 use Rattle.journal_words.specs.declared.versions.Version.{Version}
 use Rattle.journal_words.specs.Journals.{names_part, commit_id, floor, is_clear, version_at, ended, is_commit, pending, holder, newer, home_of}
 use Rattle.grid_model.specs.Stories.{has_voted, at_begin, with_value}
-use Rattle.grid_model.specs.Views.{Participant, View, participant, Open, Stage, Apart, Reads, Collects, Commits, stage}
+use Rattle.grid_model.specs.Views.{View, participant, Open, Stage, Apart, Reads, Collects, Commits, stage}
+use Rattle.journal_words.specs.Participants.{Participant}
 use Rattle.grid_model.specs.Advances.{advance, request, prepares, parts_now, to_node}
 use Rattle.grid_model.specs.Fitness.{is_fit_at, is_fit_begin, tx_in}
 

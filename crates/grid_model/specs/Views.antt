@@ -1,5 +1,5 @@
 -- What a node knows: its view.
-use Rattle.std.specs.Prelude.{ℕ, ◌&&◌, ◌==◌, List, [], Option, Some, None, is_some, if◌then◌else◌}
+use Rattle.std.specs.Prelude.{ℕ, Bool, true, false, ◌&&◌, ◌==◌, List, [], Option, Some, None, is_some, if◌then◌else◌}
 use Rattle.score_base.specs.declared.ids.TxId.{TxId}
 use Rattle.score_base.specs.declared.ids.NodeId.{NodeId}
 use Rattle.score_base.specs.declared.ids.Ident.{Ident}
@@ -12,6 +12,7 @@ use Rattle.grid_model.specs.declared.stories.Progress.{Progress}
 use Rattle.grid_model.specs.declared.stories.HeldRead.{HeldRead}
 use Rattle.grid_model.specs.Documents.{DocumentData}
 use Rattle.journal_words.specs.Journals.{Decision, undone}
+use Rattle.journal_words.specs.Participants.{Participant}
 use Rattle.grid_model.specs.Nodes.{Node, node, script_of}
 use Rattle.grid_model.specs.Stories.{Phase, Unbegun, Decided, Reading, Collecting, phase_at, is_open, story}
 use Rattle.script_runs.specs.Waits.{waiting}
@@ -20,12 +21,6 @@ use Rattle.script_runs.specs.Waits.{waiting}
 pub record Open : Type 0 where
   pub script : ScriptData
   pub progress : Progress
-
--- what a node knows as a participant: the cluster; the records of its journal, the newest first; its clock
-pub record Participant : Type 0 where
-  pub cluster : ClusterData
-  pub journal : List Record
-  pub next : Ident
 
 -- what a node knows: the cluster; the records of its journal, the newest first; its clock; the held
 -- reads in the order of their arrival; the transactions of this home that are reading or collecting;
@@ -115,6 +110,11 @@ stage_at n h t s o = stage_by (undone t h.journal) (open_at n h s o) (acks_at n 
 -- where t stands: decided with these acknowledgements, reading an operation, collecting, or none of these
 abbrev pub stage : View → TxId → Stage
 stage v t = stage_by (undone t v.journal) (v.desk t) (v.acks t)
+
+-- it is neither open nor decided: its number is not at the desk
+abbrev pub is_apart : Stage → Bool
+is_apart Apart = true
+is_apart s = false
 
 -- the phase of a transaction that stands so; of the others none is known
 abbrev pub phase_in : Stage → Phase

@@ -10,6 +10,7 @@ use Rattle.score_base.specs.declared.ids.Ident.{Ident}
 use Rattle.score_base.specs.declared.records.Record.{Record}
 use Rattle.score_base.specs.declared.records.Record.TheVariants as record'
 use Rattle.placement.specs.Clusters.{ClusterData}
+use Rattle.journal_words.specs.Participants.{Participant}
 use Rattle.journal_words.specs.Journals as words
 
 -- how many records may be admitted, how many keys they may lock, and of which keys how many versions they may write
@@ -72,3 +73,7 @@ writers_among r k (x ∷ xs) =
 -- how many applied commits wrote k
 abbrev pub times_written : List Record → Key → ℕ
 times_written r k = length (writers_among r k (words.applied r))
+
+-- what a store knows as a participant
+abbrev pub participant_in : Given → Participant
+participant_in s = record { cluster = s.cluster; journal = s.journal; next = s.next }

@@ -1,3 +1,4 @@
 pub mod Journals
 pub mod Small
 pub mod Orders
+pub mod Participants

@@ -21,6 +21,7 @@ pub use decisions::{
 };
 pub use endings::{ended, floor, names_part, pending};
 pub use fitting::{are_own_keys, fits, is_among};
+pub use pairs::PairList;
 pub use proposals::{Prepared, home_of, prepared_of};
 pub use smaller::small;
-pub use values::{newest, newest_version, version_at};
+pub use values::{later, newest, newest_version, version_at, written_value};

@@ -7,22 +7,16 @@ use Rattle.score_base.specs.declared.causes.Outcome.{Outcome}
 use Rattle.score_base.specs.declared.causes.Outcome.TheVariants as outcome
 use Rattle.score_base.specs.declared.records.Record.{Record}
 use Rattle.score_base.specs.declared.records.Record.TheVariants as record'
-use Rattle.journal_words.specs.Journals.{pending, ended, is_commit, home_of, fits, fits_outcome, learnt}
+use Rattle.journal_words.specs.Journals.{pending, ended, is_commit, home_of, fits, fits_outcome}
 use Rattle.grid_model.specs.declared.acts.Act.TheVariants as act
 use Rattle.grid_model.specs.declared.events.Out.{Out}
 use Rattle.grid_model.specs.declared.events.Out.TheVariants as out
 use Rattle.grid_model.specs.declared.messages.Message.TheVariants as message
-use Rattle.grid_model.specs.Nodes.{written}
-use Rattle.grid_model.specs.Views.{Participant}
 use Rattle.grid_model.specs.Advances.{to_node}
 use Rattle.grid_store.specs.Given.{Given, HasRoom}
 use Rattle.ordered_commit.specs.declared.dues.EndDue.{EndDue}
 use Rattle.ordered_commit.specs.declared.learning.Learnt.{Learnt}
 use Rattle.ordered_commit.specs.declared.learning.Learnt.TheVariants.{Due, Ack, Ignore}
-
--- what a store knows as a participant
-abbrev pub participant_in : Given → Participant
-participant_in s = record { cluster = s.cluster; journal = s.journal; next = s.next }
 
 -- an end can be learnt: where the transaction is pending, a final identifier is at least its proposal
 abbrev pub CanLearn : Given → TxId → Outcome → Type 0
@@ -92,7 +86,3 @@ abbrev pub record_in : Learnt → Option Record
 record_in (Due due rec) = Some rec
 record_in (Ack home) = None
 record_in Ignore = None
-
--- a participant behind a record, where there is one
-abbrev pub admitted : Option Record → Participant → Participant
-admitted x p = record { cluster = p.cluster; journal = written x p.journal; next = learnt x p.next }

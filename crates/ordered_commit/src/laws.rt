@@ -17,7 +17,9 @@ ghost use Rattle.grid_model.specs.NextViews.{next_view};
 ghost use Rattle.grid_store.specs.Given.{Given};
 ghost use Rattle.ordered_commit.specs.declared.dues.EndDue.{EndDue};
 ghost use Rattle.ordered_commit.specs.declared.learning.Learnt.{Learnt};
-ghost use Rattle.ordered_commit.specs.Ends.{participant_in, admitted, ack_of, repeat_of, record_in, learn_outs, CanLearn, IsDue, IsOf, IfDue};
+ghost use Rattle.ordered_commit.specs.Ends.{ack_of, repeat_of, record_in, learn_outs, CanLearn, IsDue, IsOf, IfDue};
+ghost use Rattle.journal_words.specs.Participants.{admitted};
+ghost use Rattle.grid_store.specs.Given.{participant_in};
 
 /// An end that is fit at the node of a store can be learnt, and its record can be encoded. The record that
 /// is handed out with an end is the one on which it is due. Behind the

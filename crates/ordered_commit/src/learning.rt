@@ -4,7 +4,8 @@ ghost use Rattle.std.specs.Prelude.{◌≡◌, true, IfOk, is_some};
 ghost use Rattle.journal_words.specs.Journals.{pending, is_commit};
 ghost use Rattle.grid_model.specs.Rows.{end_outs};
 ghost use Rattle.grid_store.specs.Given.{IsSame};
-ghost use Rattle.ordered_commit.specs.Ends.{repeat_of, ack_of, ack_in, is_due, learn_outs, participant_in, CanLearn, IsDue, IfDue};
+ghost use Rattle.ordered_commit.specs.Ends.{repeat_of, ack_of, ack_in, is_due, learn_outs, CanLearn, IsDue, IfDue};
+ghost use Rattle.grid_store.specs.Given.{participant_in};
 
 use crate::dues::EndDue;
 use grid_store::Store;

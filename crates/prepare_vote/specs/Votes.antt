@@ -10,23 +10,17 @@ use Rattle.score_base.specs.declared.causes.Cause.TheVariants as cause
 use Rattle.score_base.specs.declared.records.Record.{Record}
 use Rattle.score_base.specs.declared.records.Record.TheVariants as record'
 use Rattle.placement.specs.Places.{is_among}
-use Rattle.journal_words.specs.Journals.{pending, ended, holder, newer, are_lists, fits, learnt}
+use Rattle.journal_words.specs.Journals.{pending, ended, holder, newer, are_lists, fits}
 use Rattle.grid_model.specs.declared.acts.Act.TheVariants as act
 use Rattle.grid_model.specs.declared.events.Out.{Out}
 use Rattle.grid_model.specs.declared.events.Out.TheVariants as out
 use Rattle.grid_model.specs.declared.messages.Message.TheVariants as message
 use Rattle.grid_model.specs.declared.messages.Prepare.{Prepare}
-use Rattle.grid_model.specs.Nodes.{written}
-use Rattle.grid_model.specs.Views.{Participant}
 use Rattle.grid_model.specs.Rows.{refused}
 use Rattle.grid_store.specs.Given.{Given, HasRoom}
 use Rattle.prepare_vote.specs.declared.dues.Due.{Due}
 use Rattle.prepare_vote.specs.declared.judges.Judged.{Judged}
 use Rattle.prepare_vote.specs.declared.judges.Judged.TheVariants.{Done, Again, No, Yes}
-
--- what a store knows as a participant
-abbrev pub participant_in : Given → Participant
-participant_in s = record { cluster = s.cluster; journal = s.journal; next = s.next }
 
 -- a Prepare can be judged: its snapshot and the clock are small, the node is one of its parts, and each
 -- of its lists has distinct keys of the node, at least one in all
@@ -127,7 +121,3 @@ record_in Done = None
 record_in (Again p) = None
 record_in (No why) = None
 record_in (Yes due rec) = Some rec
-
--- a participant behind a record, where there is one
-abbrev pub admitted : Option Record → Participant → Participant
-admitted x p = record { cluster = p.cluster; journal = written x p.journal; next = learnt x p.next }

@@ -4,7 +4,8 @@ ghost use Rattle.std.specs.Prelude.{◌≡◌, None, IfOk, is_some};
 ghost use Rattle.journal_words.specs.Journals.{prepared_of, ended, holder, newer};
 ghost use Rattle.grid_model.specs.Rows.{prepare_outs};
 ghost use Rattle.grid_store.specs.Given.{IsSame};
-ghost use Rattle.prepare_vote.specs.Votes.{vote_record, refusal, refusal_of, refusal_in, is_done, again_of, again_in, judge_outs, participant_in, CanJudge, IsDue, IfYes};
+ghost use Rattle.prepare_vote.specs.Votes.{vote_record, refusal, refusal_of, refusal_in, is_done, again_of, again_in, judge_outs, CanJudge, IsDue, IfYes};
+ghost use Rattle.grid_store.specs.Given.{participant_in};
 
 use crate::dues::Due;
 use grid_model::Prepare;

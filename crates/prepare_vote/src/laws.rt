@@ -17,7 +17,9 @@ ghost use Rattle.grid_model.specs.NextViews.{next_view};
 ghost use Rattle.grid_store.specs.Given.{Given};
 ghost use Rattle.prepare_vote.specs.declared.dues.Due.{Due};
 ghost use Rattle.prepare_vote.specs.declared.judges.Judged.{Judged};
-ghost use Rattle.prepare_vote.specs.Votes.{participant_in, admitted, again_of, record_in, judge_outs, vote_record, CanJudge, IsDue, IsOf, IfYes};
+ghost use Rattle.prepare_vote.specs.Votes.{again_of, record_in, judge_outs, vote_record, CanJudge, IsDue, IsOf, IfYes};
+ghost use Rattle.journal_words.specs.Participants.{admitted};
+ghost use Rattle.grid_store.specs.Given.{participant_in};
 
 /// A Prepare that is fit at the node of a store can be judged, and the record of a yes on it can be
 /// encoded. The record that is handed out with a yes is the one on which it is due. Behind the outs of an answer the next view has the record that was due in front of its

@@ -1,5 +1,5 @@
 -- Each turn of a desk is the row of its event.
-use Rattle.std.proofs.Common.{◌≡◌, ◌==◌, ◌&&◌, nat_eq, Bool, true, false, List, ◌∷◌, Option, None, is_none, ap, sym, subst, ◌∙◌, refl, arith}
+use Rattle.std.proofs.Common.{◌≡◌, ◌==◌, ◌&&◌, nat_eq, Bool, true, false, List, ◌∷◌, Option, None, ap, sym, subst, ◌∙◌, refl, arith}
 use Rattle.std.proofs.lemmas.Bool.Decides.{nat_tests}
 use Rattle.std.specs.List.{IsDistinct}
 use Rattle.std.specs.Map.{keys_of}
@@ -20,7 +20,7 @@ use Rattle.grid_model.specs.declared.acts.Act.TheVariants as act
 use Rattle.grid_model.specs.declared.events.Out.TheVariants as out
 use Rattle.grid_model.specs.Stories.{is_small}
 use Rattle.grid_model.specs.Advances.{advance}
-use Rattle.grid_model.specs.Views.{View, Stage, Apart, Reads, Collects, Commits, participant, stage}
+use Rattle.grid_model.specs.Views.{View, Stage, Apart, Reads, Collects, Commits, participant, stage, is_apart}
 use Rattle.grid_model.specs.Rows.{answer, message_outs, reply_outs, vote_outs, ack_outs, asked_outs, retry_outs, first_ident, begun_at}
 use Rattle.presumed_abort.specs.declared.stands.Stand.{Stand}
 use Rattle.presumed_abort.specs.Stands.{standing}
@@ -96,29 +96,27 @@ retry-is-row n v desk t unique is own =
     (row-is n v desk (event.Retry t) t _ (retry_outs v.cluster t (stage v t)) unique is
     refl (retry-row v.cluster t (stage v t)) (retry-steps n v t own))
 
--- what is not at the desk is neither open nor decided
-kept-apart :
-    (c : ClusterData) (t : TxId) (s : Stage) → kept c t s ≡ None → s ≡ Apart
-kept-apart c t (Reads x j) is = absurd (grind (arith, is))
-kept-apart c t (Collects x) is = absurd (grind (arith, is))
-kept-apart c t (Commits y acks) is = absurd (grind (arith, is))
-kept-apart c t Apart is = refl
+-- what a fit begin says of its transaction: it is neither open nor decided
+apart-is : (a b : Bool) (s : Stage) → (a && (b && is_apart s)) ≡ true → s ≡ Apart
+apart-is a b (Reads x j) is = absurd (grind (arith, is))
+apart-is a b (Collects x) is = absurd (grind (arith, is))
+apart-is a b (Commits y acks) is = absurd (grind (arith, is))
+apart-is a b Apart is = refl
 
 home-is : (n : NodeId) (v : View) (s : ScriptData) (floor : Ident) → is_fit_begin n v s floor ≡ true → s.home ≡ n
 home-is n v s floor fit = go (s.home == n) refl fit
   where
-    go : (b : Bool) → (s.home == n) ≡ b → (b && (is_small floor && is_none (v.desk s.number))) ≡ true → s.home ≡ n
+    go : (b : Bool) → (s.home == n) ≡ b → (b && (is_small floor && is_apart (stage v s.number))) ≡ true → s.home ≡ n
     go true at is = grind (arith, nat_tests, at)
     go false at is = absurd (grind (arith, is))
 
 pub begin-is-row :
     (n : NodeId) (v : View) (desk : List (TxId × Stand)) (s : ScriptData) (floor : Ident)
     → IsDistinct nat_eq (keys_of desk) → IsDeskOf v desk → is_fit_begin n v s floor ≡ true
-    → standing desk s.number ≡ None
     → IsRow n v desk (event.Begin s floor) s.number (begin_turn v.cluster s (first_ident (participant v) floor))
-begin-is-row n v desk s floor unique is fit new =
+begin-is-row n v desk s floor unique is fit =
     let sid0 = first_ident (participant v) floor in
-    let apart = kept-apart v.cluster s.number (stage v s.number) (sym (ap (λ f. f s.number) is) ∙ new) in
+    let apart = apart-is (s.home == n) (is_small floor) (stage v s.number) fit in
     let undecided = (at-apart (undone s.number v.journal) (v.desk s.number) (v.acks s.number) apart).undecided in
     row-is n v desk (event.Begin s floor) s.number (begin_turn v.cluster s sid0) (begin_turn v.cluster s sid0).outs
     unique is

@@ -44,11 +44,10 @@ pub fn law_reply_row()
         → IsRow n v desk (event.Deliver x (message.ReadRep q)) q.t (reply_turn v.cluster q (standing desk q.t)) }
 {}
 
-/// A fit begin, of a transaction that is not at the desk.
+/// A fit begin: of a transaction that is not at the desk.
 pub fn law_begin_row()
     ensures { (n : ℕ) (v : View) (desk : List (ℕ × Stand)) (s : ScriptData) (floor : ℕ)
         → IsDistinct nat_eq (keys_of desk) → IsDeskOf v desk → is_fit_begin n v s floor ≡ true
-        → standing desk s.number ≡ None
         → IsRow n v desk (event.Begin s floor) s.number
         (begin_turn v.cluster s (first_ident (participant v) floor)) }
 {}

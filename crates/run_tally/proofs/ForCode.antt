@@ -5,7 +5,6 @@ pub use Rattle.journal_words.proofs.Later.{later-all}
 pub use Rattle.journal_words.proofs.Newest.{newest_more}
 pub use Rattle.journal_words.proofs.Once.{ended-prepared}
 pub use Rattle.journal_words.proofs.Pairs.{has_pair}
-pub use Rattle.journal_words.proofs.Removed.{without-reverse}
 pub use Rattle.grid_model.proofs.Places.{at-put, put-other, place_here}
 pub use Rattle.grid_model.proofs.EventShapes.{after-append}
 pub use Rattle.grid_laws.proofs.Causes.{IsDue, AllDue, RecordDue, StopDue}

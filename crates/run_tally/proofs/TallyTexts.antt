@@ -29,7 +29,7 @@ use Rattle.grid_model.specs.Copies.{snapshot_in}
 use Rattle.grid_model.specs.Runs.{IsRun, Rows}
 use Rattle.grid_model.specs.Schedules.{start_row, events_in}
 use Rattle.grid_model.specs.declared.items.Item.{Item}
-use Rattle.grid_laws.specs.Cuts.{IsCutRun, cut}
+use Rattle.grid_model.specs.Cuts.{IsCutRun, cut}
 use Rattle.history_print.specs.Acts.{line}
 use Rattle.history_print.specs.Begun.{story_words}
 use Rattle.history_print.specs.Text.{phase_words, tx_line, script_line, tx_lines, version_line, holder_line, key_lines, keys_lines, summary_by, summary_text}

@@ -4,7 +4,7 @@ ghost use Rattle.grid_model.specs.declared.acts.Act.{Act};
 ghost use Rattle.grid_model.specs.declared.items.Item.{Item};
 ghost use Rattle.grid_model.specs.Documents.{DocumentData};
 ghost use Rattle.grid_model.specs.Runs.{IsRun};
-ghost use Rattle.grid_laws.specs.Cuts.{IsCutRun};
+ghost use Rattle.grid_model.specs.Cuts.{IsCutRun};
 ghost use Rattle.history_print.specs.Text.{summary_text};
 ghost use Rattle.run_tally.specs.Tallies.{tally_of};
 ghost use Rattle.run_tally.specs.Texts.{TallyText};

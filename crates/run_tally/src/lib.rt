@@ -9,7 +9,6 @@
 mod laws;
 mod nodes;
 mod noted;
-mod pairs;
 mod tallies;
 mod text;
 mod txs;

@@ -4,9 +4,9 @@ ghost use Rattle.std.specs.Option.{option_copied};
 ghost use Rattle.grid_model.specs.Keyed.{at_key, put_key, IsPlace, IsAbsent};
 
 use crate::noted::Noted;
-use crate::pairs::{Pairs, later, written_value};
 use grid_model::{Act, Flag, Head, Message, Prepare};
 use journal_words::Version;
+use journal_words::records::{PairList, later, written_value};
 use score_base::{Ident, Key, Memory, Outcome, TryCopy, TxId, Value, push};
 use std::alloc::Global;
 use std::marker::Model;
@@ -16,9 +16,9 @@ use std::marker::Model;
 pub struct NodeTally {
     /// What the Prepare of a transaction writes there.
     writes: Vec<(TxId, Noted)>,
-    pending: Pairs,
-    commits: Pairs,
-    decided: Pairs,
+    pending: PairList,
+    commits: PairList,
+    decided: PairList,
     /// The head of the record that was being written when the node stopped, until it is opened.
     stopped: Option<Head>,
 }
@@ -64,6 +64,20 @@ fn put_writes(rows: &mut Vec<(TxId, Noted)>, t: TxId, noted: Noted) -> Result<()
     }
 }
 
+/// The identifier of the newest pair of t.
+#[tactic(auto, using(crate::proofs::ForCode::newest_more))]
+fn ident_of(pairs: &PairList, t: TxId) -> Option<Ident>
+    ensures { result ≡ at_key t pairs.now }
+{
+    let mut found = None;
+    for pair in pairs.oldest_first() {
+        if pair.0 == t {
+            found = Some(pair.1);
+        }
+    }
+    found
+}
+
 /// The initial version of a key, of the value `start`.
 pub fn initial(start: Value) -> Version
     ensures { result ≡ record { ident = 0; of = 0; value = start } }
@@ -85,9 +99,9 @@ impl NodeTally {
     {
         NodeTally {
             writes: Vec::new(alloc),
-            pending: Pairs::new(alloc),
-            commits: Pairs::new(alloc),
-            decided: Pairs::new(alloc),
+            pending: PairList::new(alloc),
+            commits: PairList::new(alloc),
+            decided: PairList::new(alloc),
             stopped: None,
         }
     }
@@ -167,7 +181,7 @@ impl NodeTally {
     pub fn decided(&self, t: TxId) -> Option<Ident>
         ensures { result ≡ at_key t self.now.decided }
     {
-        self.decided.of(t)
+        ident_of(&self.decided, t)
     }
 
     /// What is noted that a transaction writes.

@@ -29,7 +29,8 @@ use Rattle.journal_words.specs.declared.versions.Version.{Version}
 use Rattle.journal_words.specs.Journals.{names_part, floor, is_clear, ended, is_commit, pending, home_of}
 use Rattle.grid_model.specs.Stories.{has_voted, with_value}
 use Rattle.script_runs.specs.Waits.{waiting}
-use Rattle.grid_model.specs.Views.{Participant, Open, Stage, Apart, Reads, Collects, Commits}
+use Rattle.grid_model.specs.Views.{Open, Stage, Apart, Reads, Collects, Commits}
+use Rattle.journal_words.specs.Participants.{Participant}
 use Rattle.grid_model.specs.Advances.{advance, advance_end, owns, request, request_of, prepares, prepare_for, parts_now, to_node}
 use Rattle.script_runs.specs.Walks.{unread, own_reads}
 use Rattle.grid_model.specs.Fitness.{is_fit_at}

@@ -24,7 +24,8 @@ use Rattle.snapshot_read.specs.declared.answers.Promised.{Promised}
 use Rattle.snapshot_read.specs.declared.answers.Promised.TheVariants as promised
 use Rattle.snapshot_read.specs.Calls.{held_with}
 use Rattle.snapshot_read.specs.Outs.{arrived_outs}
-use Rattle.snapshot_read.specs.Reads.{participant_in, read_at, answer_to, at_once, ceiling_for, served_or_held, arrival}
+use Rattle.snapshot_read.specs.Reads.{read_at, answer_to, at_once, ceiling_for, served_or_held, arrival}
+use Rattle.grid_store.specs.Given.{participant_in}
 use Rattle.snapshot_read.specs.Views.{view_with, due_for}
 
 -- the row by its three tests: the read is above the floor, above the clock, free

@@ -7,7 +7,6 @@ use Rattle.score_base.specs.declared.records.Record.TheVariants as record'
 use Rattle.journal_words.specs.Journals.{commit_id, floor, is_clear}
 use Rattle.grid_model.specs.declared.messages.ReadReq.{ReadReq}
 use Rattle.grid_model.specs.declared.stories.HeldRead.{HeldRead}
-use Rattle.grid_model.specs.Views.{Participant}
 use Rattle.grid_model.specs.Rows.{ceiling_of, dated, version_for}
 use Rattle.grid_store.specs.Given.{Given}
 use Rattle.snapshot_read.specs.declared.answers.Answer.{Answer}
@@ -15,10 +14,6 @@ use Rattle.snapshot_read.specs.declared.answers.Arrived.{Arrived}
 use Rattle.snapshot_read.specs.declared.answers.Arrived.TheVariants as arrived
 use Rattle.snapshot_read.specs.declared.answers.Promised.{Promised}
 use Rattle.snapshot_read.specs.declared.answers.Promised.TheVariants as promised
-
--- what the node of a store knows as a participant
-abbrev pub participant_in : Given → Participant
-participant_in s = record { cluster = s.cluster; journal = s.journal; next = s.next }
 
 -- the read for which a request from x asks; a first read is dated by the node that is asked
 abbrev pub read_at : Given → NodeId → ReadReq → HeldRead

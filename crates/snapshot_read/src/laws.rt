@@ -19,7 +19,8 @@ ghost use Rattle.grid_store.specs.Given.{Given};
 ghost use Rattle.snapshot_read.specs.declared.answers.Answer.{Answer};
 ghost use Rattle.snapshot_read.specs.Calls.{held_with};
 ghost use Rattle.snapshot_read.specs.Outs.{arrived_outs, serve_outs, Releases};
-ghost use Rattle.snapshot_read.specs.Reads.{participant_in, read_at, arrival, served_or_held};
+ghost use Rattle.snapshot_read.specs.Reads.{read_at, arrival, served_or_held};
+ghost use Rattle.grid_store.specs.Given.{participant_in};
 ghost use Rattle.snapshot_read.specs.Views.{view_with, due_for};
 
 /// The outs of an arriving read, where a ceiling that is due is kept and then the read answered, are

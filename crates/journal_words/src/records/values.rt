@@ -10,7 +10,7 @@ use score_base::{Ident, Key, Memory, Record, TxId, Value};
 use std::alloc::Global;
 
 /// What is written to the key.
-fn written_value(key: &Key, writes: &[(Key, Value)]) -> Option<Value>
+pub fn written_value(key: &Key, writes: &[(Key, Value)]) -> Option<Value>
     ensures { result ≡ written_value key.now writes.now }
 {
     for write in writes {
@@ -32,7 +32,7 @@ fn wrote(records: &[Record], t: TxId, key: &Key) -> Option<Value>
 }
 
 /// The greater of a version and of what a commit wrote.
-fn later(ident: Ident, t: TxId, wrote: Option<Value>, best: Version) -> Version
+pub fn later(ident: Ident, t: TxId, wrote: Option<Value>, best: Version) -> Version
     ensures { result ≡ later ident t wrote best }
 {
     match wrote {
