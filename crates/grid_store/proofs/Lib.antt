@@ -11,6 +11,7 @@ pub mod StableSteps
 pub mod ChainReads
 pub mod ChainCounts
 pub mod ChainSteps
+pub mod ChainRooms
 pub mod ChainPuts
 pub mod Applying
 pub mod Fronts

@@ -1,5 +1,5 @@
 -- What ties the chains of a store's keys to the words over its records, the newest first.
-use Rattle.std.specs.Prelude.{◌≡◌, ◌≢◌, ℕ, ◌≤◌, ◌<◌, ◌++◌, ◌&&◌, ◌==◌, Bool, true, false, List, [], ◌∷◌, Option, Some, None, map, reverse}
+use Rattle.std.specs.Prelude.{◌≡◌, ◌≢◌, ℕ, ◌≤◌, ◌<◌, ◌++◌, ◌&&◌, ◌==◌, Bool, true, false, List, [], ◌∷◌, Option, Some, None, is_some, map, reverse}
 use Rattle.std.specs.List.{list_any}
 use Rattle.std.specs.FinSet as set
 use Rattle.score_base.specs.declared.ids.TxId.{TxId}
@@ -17,8 +17,10 @@ use Rattle.pending_queue.specs.Proposals.{Proposals}
 use Rattle.stable_queue.specs.Commits.{Commits}
 use Rattle.lock_table.specs.Keys.{Held}
 use Rattle.version_chain.specs.Versions.{newest_in_chain}
-use Rattle.version_chain.specs.Kept.{Kept, chain_at, versions_of, spare_in, spare_of, StartsBy}
+use Rattle.version_chain.specs.Kept.{Kept, place_of, chain_at, versions_of, spare_in, spare_of, StartsBy}
 use Rattle.journal_words.specs.Journals.{Prepared, prepared_of, ended, written_value, wrote_in, keys_of_writes, are_distinct_keys, are_apart, commit_id, all_fit}
+use Rattle.script_lang.specs.Reads.{is_key_among}
+use Rattle.grid_store.specs.Given.{all_keys}
 use Rattle.grid_store.specs.Keeping.{KeepsPending, KeepsPlaces, KeepsOutcomes, KeepsOpen, KeepsClock, highest, KeepsStable, KeepsLocks, Settles, is_holding}
 
 -- the version (f, v) is among these
@@ -37,6 +39,10 @@ pub record KeepsChains (commits : Commits) (kept : Kept) (r : List Record) : Typ
       → (t : TxId) × IsWritten commits r k t f v
   pub has : (k : Key) (t : TxId) (f : Ident) (v : Value) → IsWritten commits r k t f v
       → has_version f v (versions_of k kept) ≡ true
+
+-- the keys that have a chain are those that the records write
+abbrev pub KeepsKeys : List (Key × ℕ) → List Record → Type 0
+KeepsKeys places r = (k : Key) → is_some (place_of k places) ≡ is_key_among k (all_keys r)
 
 -- a version of k with an identifier from p on can be put
 pub record CanPut (k : Key) (p : Ident) (kept : Kept) : Type 0 where
@@ -73,6 +79,7 @@ version_for f (Some v) = (f, v) ∷ []
 pub record IsPut (writes : List (Key × Value)) (f : Ident) (old new : Kept) : Type 0 where
   pub versions : (k : Key) → versions_of k new ≡ versions_of k old ++ version_for f (written_value k writes)
   pub room : (k : Key) → written_value k writes ≡ None → spare_of k old ≤ spare_of k new
+  pub places : new.places ≡ old.places
   pub initial : (init : Key → Value) → StartsBy init old → StartsBy init new
 
 -- distinct keys are written, and each version can be put
@@ -89,6 +96,10 @@ writes_in (Some x) = x.writes
 pub record IsWider (old new : Kept) : Type 0 where
   pub versions : (k : Key) → versions_of k new ≡ versions_of k old
   pub room : (k : Key) → spare_of k old ≤ spare_of k new
+
+-- a key that has a chain has room for a version
+abbrev pub HasPlaceRoom : Key → Kept → Type 0
+HasPlaceRoom k kept = is_some (place_of k kept.places) ≡ true → 1 ≤ spare_of k kept
 
 -- there is room for a version of each key that a record writes
 abbrev pub HasWriteRoom : Record → Kept → Type 0
@@ -131,4 +142,5 @@ pub record Keeps (c : ClusterData) (n : NodeId) (rs : List Record) (places : Lis
   pub locks : KeepsLocks held (reverse rs)
   pub versions : KeepsChains commits kept (reverse rs)
   pub open' : HasPlaces commits kept (reverse rs)
+  pub keys : KeepsKeys kept.places (reverse rs)
   pub start : StartsBy (init c) kept

@@ -101,6 +101,7 @@ pub(crate) fn settle(
     ensures locks { KeepsLocks locks.new (reverse records.now) }
     ensures chains { KeepsChains stable.new.commits chains.new (reverse records.now) }
     ensures writable { HasPlaces stable.new.commits chains.new (reverse records.now) }
+    ensures places { chains.new.places ≡ chains.old.places }
     ensures initial { (init : Key → Value) → StartsBy init chains.old → StartsBy init chains.new }
 {
     while let Some(first) = stable.pop_below(pending.least()) {

@@ -8,10 +8,10 @@ ghost use Rattle.node_clock.specs.Clock.{IsCeiling};
 ghost use Rattle.stable_queue.specs.Commits.{is_below};
 ghost use Rattle.version_chain.specs.Kept.{AreTwoLookups};
 ghost use Rattle.journal_words.specs.Journals.{home_in, home_of, pending, names_part, is_clear, ended, commit_id, version_at, newest, holder, newer, floor, learnt, is_above, fits, all_fit};
-ghost use Rattle.grid_store.specs.Given.{HasRoom, IsSame, IsLeastPending, times_written};
+ghost use Rattle.grid_store.specs.Given.{HasRoom, IsSame, IsLeastPending, times_written, keys_written};
 ghost use Rattle.grid_store.specs.Keeping.{said_by, has_part};
 
-use crate::chained::widen;
+use crate::chained::{begin, widen};
 use crate::clocks::learn;
 use crate::fitness::fits_outcome;
 use crate::locks::{make_room, settle, take};
@@ -29,8 +29,8 @@ use placement::Cluster;
 use score_base::{Ident, Key, Memory, NodeId, Ordered, Outcome, Record, Steps, TxId, Value};
 use stable_queue::Stable;
 use std::alloc::Global;
-use std::marker::Model;
-use std::sync::ledger::Ledger;
+use std::marker::{Brand, Model};
+use std::sync::ledger::{Blank, Ledger};
 use version_chain::Chains;
 
 /// What a node knows by its records.
@@ -67,6 +67,7 @@ impl Model for Store {
         records = min (vec_capacity s.records - vec_len s.records)
             (min s.places.spare (min s.outcomes.spare (min s.opened.spare (min s.pending.spare s.stable.spare))));
         keys = s.locks.spare;
+        fresh = s.chains.fresh;
         versions = versions_room s.chains;
       };
     } };
@@ -220,11 +221,11 @@ impl Store {
         ensures { let seen = version_at self.now.journal key.now (init self.now.cluster key.now) sid in
             result ≡ (seen.ident, seen.value) }
     {
-        self.chains.at(key, self.cluster.init(key), sid)
+        at_alone::<Brand>(self, key, sid, Blank::new(1))
     }
 
-    /// As [`Store::at`], and counts its comparisons: a look-up by halving among the keys that have a
-    /// chain, and one among the versions of this key.
+    /// As [`Store::at`], and counts its comparisons: a look-up by halving among the distinct keys that the
+    /// records write, and one among the applied versions of this key.
     pub fn at_counted<L: Ledger>(
         &self,
         key: &Key,
@@ -235,8 +236,8 @@ impl Store {
         ensures version { let seen = version_at self.now.journal key.now (init self.now.cluster key.now) sid in
             result ≡ (seen.ident, seen.value) }
         ensures count { steps.old ≤ steps.new }
-        ensures cost { AreTwoLookups (length self.now.room.versions) (times_written self.now.journal key.now)
-            (steps.new - steps.old) }
+        ensures cost { AreTwoLookups (length (keys_written self.now.journal))
+            (times_written self.now.journal key.now) (steps.new - steps.old) }
     {
         self.chains
             .at_counted(key, self.cluster.init(key), sid, steps)
@@ -296,7 +297,7 @@ impl Store {
         self.opened.reserve(1)?;
         self.pending.reserve(1)?;
         self.stable.reserve(1)?;
-        widen(&mut self.chains, &self.cluster, rec)?;
+        widen(&mut self.chains, rec)?;
         make_room(&mut self.locks, rec)
     }
 
@@ -316,6 +317,7 @@ impl Store {
         learn(&mut self.clock, &rec);
         rise(&mut self.highest, &rec);
         take(&mut self.stable, &mut self.locks, &rec);
+        begin(&mut self.chains, &self.cluster, &rec);
         self.records.push_reserved(rec);
         settle(
             &mut self.stable,
@@ -335,6 +337,17 @@ impl Store {
     {
         self.clock.raise(sid)
     }
+}
+
+/// What a store answers at, by a counter that is opened here.
+fn at_alone<L: Ledger>(store: &Store, key: &Key, sid: Ident, blank: Blank) -> (Ident, Value)
+    requires { (blank.name ≡ L.name) × (blank.parts ≡ L.parts) × (0 < L.parts) }
+    ensures { let seen = version_at store.now.journal key.now (init store.now.cluster key.now) sid in
+        result ≡ (seen.ident, seen.value) }
+{
+    let (book, share) = blank.open::<L>();
+    let mut steps = Steps::new(book, share);
+    store.at_counted(key, sid, &mut steps)
 }
 
 /// The home that a Prepared record names.

@@ -1,14 +1,18 @@
 //! Stores of worked journals: what they answer, and where a record does not fit.
-ghost use Rattle.std.specs.Prelude.{◌≡◌, ◌≤◌, ◌∷◌, [], codes, IfOk, IsTrue};
+ghost use Rattle.std.specs.Prelude.{◌≡◌, ◌≤◌, ◌<◌, ◌∷◌, [], length, codes, IfOk, IsTrue};
 ghost use Rattle.score_base.specs.Keys.{is_key};
+ghost use Rattle.version_chain.specs.Kept.{AreTwoLookups};
+ghost use Rattle.grid_store.specs.Given.{keys_written, times_written};
 
 use super::*;
 use placement::{Cluster, Places};
 use score_base::{
-    Ident, Key, KeyList, Memory, NodeId, NodeList, Outcome, Record, TryCopy, TxId, Value,
+    Ident, Key, KeyList, Memory, NodeId, NodeList, Outcome, Record, Steps, TryCopy, TxId, Value,
     WriteList, push,
 };
 use std::alloc::Global;
+use std::marker::Brand;
+use std::sync::ledger::{Blank, Ledger};
 use std::test::Fail;
 
 fn node(number: u8) -> NodeId
@@ -436,5 +440,52 @@ fn decisions_that_do_not_fit(rt: HostRuntime) -> Result<(), Fail> {
     assert!(rt; is_strange(rt.alloc(), Record::Closed { t: tx(1) })?);
     assert!(rt; is_strange_behind(rt.alloc(), one_closed(rt.alloc())?, closed)?);
     assert!(rt; !is_strange_behind(rt.alloc(), one_closed(rt.alloc())?, decided(rt.alloc(), 7)?)?);
+    Ok(())
+}
+
+/// What a key is at `sid`, by a counter that stands at 0: so many comparisons as a look-up among the keys
+/// that the records write, and one among the versions of this key.
+fn read_counted<L: Ledger>(
+    store: &Store,
+    key: &Key,
+    sid: Ident,
+    steps: &mut Steps<L>,
+) -> (Ident, Value)
+    requires { steps.old ≡ 0 }
+    ensures { AreTwoLookups (length (keys_written store.now.journal))
+        (times_written store.now.journal key.now) steps.new }
+{
+    store.at_counted(key, sid, steps)
+}
+
+/// The read, by a counter that is opened here.
+fn read_alone<L: Ledger>(store: &Store, key: &Key, sid: Ident, blank: Blank) -> (Ident, Value)
+    requires { (blank.name ≡ L.name) × (blank.parts ≡ L.parts) × (0 < L.parts) }
+{
+    let (book, share) = blank.open::<L>();
+    let mut steps = Steps::new(book, share);
+    read_counted(store, key, sid, &mut steps)
+}
+
+/// The read, counted.
+fn counted_read(store: &Store, key: &Key, sid: Ident) -> (Ident, Value) {
+    read_alone::<Brand>(store, key, sid, Blank::new(1))
+}
+
+/// Behind the two commits: a key that is written, and one that is only read.
+fn counted_reads(alloc: Global) -> Result<bool, Fail> {
+    let records = two_commits(alloc)?;
+    let store = store_of(alloc, records.as_slice())?;
+    Ok(
+        counted_read(&store, &key(b"c"), Ident(6)) == (Ident(6), Value(11))
+            && counted_read(&store, &key(b"c"), Ident(5)) == (Ident(0), Value(0))
+            && counted_read(&store, &key(b"a"), Ident(9)) == (Ident(0), Value(10)),
+    )
+}
+
+// Reads by a counter answer as others do.
+#[test]
+fn counted_reads_of_two_keys(rt: HostRuntime) -> Result<(), Fail> {
+    assert!(rt; counted_reads(rt.alloc())?);
     Ok(())
 }

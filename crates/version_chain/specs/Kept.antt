@@ -5,10 +5,11 @@ use Rattle.std.specs.Cmp.Lexicographic.{slice_cmp}
 use Rattle.std.specs.FinMap as map
 use Rattle.version_chain.specs.Versions.{Versions}
 
--- the place of each key that has a chain, and the chains by place
+-- the place of each key that has a chain, the chains by place, and how many keys more may get a chain
 pub record Kept : Type 0 where
   pub places : List (List ℕ × ℕ)
   pub chains : List Versions
+  pub fresh : ℕ
 
 -- the place of a key
 abbrev pub place_of : List ℕ → List (List ℕ × ℕ) → Option ℕ
@@ -50,10 +51,23 @@ initial_in initial (Some c) = c.initial
 abbrev pub StartsBy : (List ℕ → ℕ) → Kept → Type 0
 StartsBy init kept = (k : List ℕ) → initial_in (init k) (chain_of k kept) ≡ init k
 
--- each place is one of a chain, and no two keys have the same
+-- a chain without versions that has room for one
+pub record IsBlank (c : Versions) : Type 0 where
+  pub none : c.versions ≡ []
+  pub room : 1 ≤ c.spare
+
+-- the chains of the keys come first, no two keys have the same, and those behind them are blank
 pub record ArePlaces (places : List (List ℕ × ℕ)) (chains : List Versions) : Type 0 where
-  pub inside : (k : List ℕ) (i : ℕ) → place_of k places ≡ Some i → i < length chains
+  pub inside : (k : List ℕ) (i : ℕ) → place_of k places ≡ Some i → i < length places
   pub apart : (k l : List ℕ) (i : ℕ) → place_of k places ≡ Some i → place_of l places ≡ Some i → k ≡ l
+  pub few : length places ≤ length chains
+  pub blank : (j : ℕ) (d : Versions) → length places ≤ j → j < length chains → IsBlank (slice_index_or chains j d)
+
+-- at least these chains, and each that is new is blank
+pub record IsLonger (old new : List Versions) : Type 0 where
+  pub more : length old ≤ length new
+  pub kept : (j : ℕ) (d : Versions) → j < length old → slice_index_or new j d ≡ slice_index_or old j d
+  pub blank : (j : ℕ) (d : Versions) → length old ≤ j → j < length new → IsBlank (slice_index_or new j d)
 
 -- so many comparisons are a look-up by halving among m keys, and one among n versions
 pub record AreTwoLookups (m n steps : ℕ) : Type 0 where

@@ -8,9 +8,10 @@
 //! A read halves what is left: in a chain of n versions it compares p identifiers, where 2^p is at
 //! most 2n + 1. A put goes at the end and moves no version.
 //!
-//! [`Chains`] keeps a chain for each key that it made room for, and finds it by the key.
+//! [`Chains`] keeps a chain for each key that began to have one, and finds it by the key. Room for more
+//! keys is blank chains that no look-up passes.
 //!
-//! Only `reserve` takes memory.
+//! Only `reserve` and `widen` take memory.
 #![tactic(auto)]
 
 ghost use Rattle.std.specs.Prelude.{◌≡◌, ℕ, ◌+◌, ◌-◌, ◌*◌, ◌<◌, ◌≤◌, ◌^◌, ◌++◌, ◌∷◌, [], length, slice_index_or, OnOk, IfOk, IfErr};
@@ -55,6 +56,13 @@ impl Chain {
             initial,
             versions: Ordered::new(alloc),
         }
+    }
+
+    /// Gives another initial value.
+    pub fn start(&mut self, initial: Value)
+        ensures { self.new ≡ record self.old { initial = initial } }
+    {
+        self.initial = initial;
     }
 
     /// Makes room for `n` more versions. After [`Memory`] there is at least the room that was there

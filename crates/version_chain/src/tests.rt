@@ -32,22 +32,45 @@ fn key(bytes: &[u8]) -> Key
     Key::new(bytes).unwrap()
 }
 
-/// `a`, with the initial value 10, has the value 3 from 2 on; `b` has room, and the initial value 20.
+/// `a`, with the initial value 10, has the value 3 from 2 on; `b` has room, and the initial value 20;
+/// `c` may get a chain.
 fn two_chains(alloc: Global) -> Result<Chains, Memory> {
     let a = key(b"a");
     let mut chains = Chains::new(alloc);
-    chains.reserve(&a, Value(10))?;
-    chains.reserve(&key(b"b"), Value(20))?;
+    chains.widen(3)?;
+    chains.begin(&a, Value(10));
+    chains.begin(&key(b"b"), Value(20));
     chains.put(&a, Ident(2), Value(3));
+    chains.begin(&a, Value(11));
+    chains.reserve(&a)?;
     Ok(chains)
+}
+
+/// What a read sees, by a counter of its own.
+fn read_by<L: Ledger>(
+    chains: &Chains,
+    key: &Key,
+    initial: Value,
+    sid: Ident,
+    blank: Blank,
+) -> (Ident, Value)
+    requires { (blank.name ≡ L.name) × (blank.parts ≡ L.parts) × (0 < L.parts) }
+{
+    let (book, share) = blank.open::<L>();
+    let mut steps = Steps::new(book, share);
+    chains.at_counted(key, initial, sid, &mut steps)
+}
+
+fn read(chains: &Chains, key: &Key, initial: Value, sid: Ident) -> (Ident, Value) {
+    read_by::<Brand>(chains, key, initial, sid, Blank::new(1))
 }
 
 /// Each key has its own versions, and one without a chain has the value that is handed in.
 fn are_apart(chains: &Chains) -> bool {
-    chains.at(&key(b"a"), Value(10), Ident(1)) == (Ident(0), Value(10))
-        && chains.at(&key(b"a"), Value(10), Ident(2)) == (Ident(2), Value(3))
-        && chains.at(&key(b"b"), Value(20), Ident(9)) == (Ident(0), Value(20))
-        && chains.at(&key(b"c"), Value(7), Ident(9)) == (Ident(0), Value(7))
+    read(chains, &key(b"a"), Value(10), Ident(1)) == (Ident(0), Value(10))
+        && read(chains, &key(b"a"), Value(10), Ident(2)) == (Ident(2), Value(3))
+        && read(chains, &key(b"b"), Value(20), Ident(9)) == (Ident(0), Value(20))
+        && read(chains, &key(b"c"), Value(7), Ident(9)) == (Ident(0), Value(7))
         && chains.newest(&key(b"a")) == Ident(2)
         && chains.newest(&key(b"b")) == Ident(0)
         && chains.newest(&key(b"c")) == Ident(0)

@@ -34,7 +34,7 @@ loop-write-preserved c =
     let is : drop i ws ≡ x ∷ drop (i + 1) ws = drop_more ws i x within ∙ ap (λ (y : Key × Value). y ∷ drop (i + 1) ws) (sym c.write-item.is) in
     let can = subst (λ (l : List (Key × Value)). CanPutAll l c.args.f c.loop-write.chains) is c.loop-write.invariant.can in
     let e = c.put.ensures in
-    let one : IsOnePut x.0 c.args.f x.1 c.loop-write.chains c.put.new.self = record { versions = e.versions; room = e.room; initial = e.initial } in
+    let one : IsOnePut x.0 c.args.f x.1 c.loop-write.chains c.put.new.self = record { versions = e.versions; room = e.room; places = e.places; initial = e.initial } in
     record {
       can = can-rest x (drop (i + 1) ws) c.args.f c.loop-write.chains c.put.new.self can one;
       put = λ last rest. c.loop-write.invariant.put last (subst (λ (l : List (Key × Value)). IsPut l c.args.f c.loop-write.chains last) (sym is) (put-rest x (drop (i + 1) ws) c.args.f c.loop-write.chains c.put.new.self can one last rest));

@@ -1,32 +1,20 @@
-use Rattle.std.proofs.Common.{◌≡◌, ◌<◌, ◌+◌, ◌∷◌, [], List, length, drop, inr, sym, ap, subst, ◌∙◌, arith}
-use Rattle.std.proofs.lemmas.Grind.{common_steps}
-use Rattle.std.proofs.lemmas.List.{drop_more}
-use Rattle.score_base.specs.declared.ids.Value.{Value}
-use Rattle.score_base.specs.declared.keys.Key.{Key}
-use Rattle.placement.specs.Clusters.{init}
-use Rattle.grid_store.proofs.ChainPuts.{IsMade, made-more, made-all, wider-same, wider-more}
+use Rattle.std.proofs.Common.{◌≡◌, ap, arith}
+use Rattle.version_chain.specs.Kept.{spare_in, spare_of}
+use Rattle.grid_store.specs.Chained.{versions_room}
+use Rattle.grid_store.proofs.ChainRooms.{on-ok, writes-room, new-few, place-room-alike}
 use Rattle.grid_store.proofs.chained.widen_all.Goals as goal
-
-pub loop-write-init : goal.loop-write-init
-loop-write-init c = record { made = λ k v w. inr (v, w); wider = wider-same c.args.chains.now; initial = λ starts. starts }
-
-pub loop-write-preserved : goal.loop-write-preserved
-loop-write-preserved c =
-    let ws = c.args.writes.now in
-    let i = c.loop-write.write-index in
-    let within : i < length ws = grind (arith, common_steps, c.loop-write-test.true) in
-    let x = c.write-item.result in
-    let is : drop i ws ≡ x ∷ drop (i + 1) ws = drop_more ws i x within ∙ ap (λ (y : Key × Value). y ∷ drop (i + 1) ws) (sym c.write-item.is) in
-    let made = subst (λ (l : List (Key × Value)). IsMade ws l c.loop-write.chains) is c.loop-write.invariant.made in
-    let e = c.reserve.ensures in
-    record {
-      made = made-more ws (drop (i + 1) ws) x c.loop-write.chains c.reserve.new.self made c.in_ok-reserve.ensures.room e.kept;
-      wider = wider-more c.args.chains.now c.loop-write.chains c.reserve.new.self c.loop-write.invariant.wider e.versions e.kept;
-      initial = λ starts. e.initial (init c.args.cluster.now) (sym c.init.ensures) (c.loop-write.invariant.initial starts);
-    }
 
 pub returns-clause-room : goal.returns-clause-room
 returns-clause-room c =
-    let ws = c.args.writes.now in
-    let none : drop c.loop-write.write-index ws ≡ [] = grind (arith, common_steps, c.loop-write-test.false) in
-    made-all ws c.loop-write.chains (subst (λ (l : List (Key × Value)). IsMade ws l c.loop-write.chains) none c.loop-write.invariant.made)
+    let mid = c.lengthen_all.new.chains in
+    let new = c.widen.new.self in
+    on-ok c.widen.result (λ h. writes-room c.args.writes.now new (λ k v w.
+    (let same : spare_of k new ≡ spare_of k mid = ap spare_in (c.widen.ensures.chains k) in
+    place-room-alike k mid new c.widen.ensures.places (omega (arith, same)) (c.in_ok-lengthen_all.ensures.room k v w))))
+    c.widen.ensures.room
+
+pub returns-clause-fresh : goal.returns-clause-fresh
+returns-clause-fresh c =
+    let new = c.widen.new.self in
+    on-ok c.widen.result (λ h. (let few = new-few c.args.writes.now (versions_room new) in omega (arith, few, h)))
+    c.widen.ensures.room

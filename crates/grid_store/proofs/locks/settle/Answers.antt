@@ -1,4 +1,4 @@
-use Rattle.std.proofs.Common.{◌≡◌, max, refl, arith}
+use Rattle.std.proofs.Common.{◌≡◌, max, refl, ◌∙◌, arith}
 use Rattle.std.proofs.lemmas.Grind.{common_steps}
 use Rattle.std.proofs.lemmas.Bool.Decides.{nat_tests}
 use Rattle.grid_store.proofs.StableSteps.{fewer}
@@ -6,7 +6,7 @@ use Rattle.grid_store.proofs.Applying.{may-apply, applied-one, all-applied}
 use Rattle.grid_store.proofs.locks.settle.Goals as goal
 
 pub loop-first-init : goal.loop-first-init
-loop-first-init c = record { applies = c.requires; initial = λ init starts. starts }
+loop-first-init c = record { applies = c.requires; places = refl; initial = λ init starts. starts }
 
 pub loop-first-smaller : goal.loop-first-smaller
 loop-first-smaller c =
@@ -28,6 +28,7 @@ loop-first-preserved c =
     let most : c.max.result ≡ max c.loop-first.applied c.in-Some.first.0 = grind (arith, common_steps, nat_tests, c.max.ensures) in
     record {
       applies = (i.0, i.1, rw most (applied-one i.0 i.1 _ _ _ _ _ _ _ i.2 c.in-Some.first.0 c.in-Some.first.1 c.least.result _ _ _ c.least.ensures.none c.least.ensures.least e.least.below e.least.member e.rest c.free.ensures.keys c.free.ensures.written c.apply.ensures));
+      places = c.apply.ensures.places ∙ c.loop-first.invariant.places;
       initial = λ init starts. c.apply.ensures.initial init (c.loop-first.invariant.initial init starts);
     }
 

@@ -1,3 +1,4 @@
+use Rattle.std.proofs.Common.{◌≡◌}
 use Rattle.std.specs.FinSet as set
 use Rattle.score_base.specs.declared.ids.NodeId.{NodeId}
 use Rattle.score_base.specs.declared.ids.Value.{Value}
@@ -10,6 +11,7 @@ use Rattle.grid_store.proofs.locks.settle.Given as goal
 abbrev pub invariant-loop-first : goal.invariant-loop-first
 invariant-loop-first l = record {
   applies : (c : ClusterData) × (n : NodeId) × Applies c n l.records l.places.pairs l.pending.proposals l.stable.commits l.locks l.applied l.chains;
+  places : l.chains.places ≡ l.fn.chains.places;
   initial : (init : Key → Value) → StartsBy init l.fn.chains → StartsBy init l.chains;
 }
 

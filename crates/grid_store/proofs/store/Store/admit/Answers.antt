@@ -8,8 +8,8 @@ use Rattle.grid_store.proofs.OpenSteps.{can-open}
 use Rattle.grid_store.proofs.QueueSteps.{can-pend}
 use Rattle.grid_store.proofs.LockSteps.{can-take}
 use Rattle.grid_store.proofs.StableSteps.{can-wait, top-applied}
-use Rattle.grid_store.proofs.ChainSteps.{chains-behind, places-behind, apart-behind}
-use Rattle.grid_store.proofs.ChainPuts.{has-write-room}
+use Rattle.grid_store.proofs.ChainSteps.{chains-same, places-same, chains-behind, places-behind, apart-behind}
+use Rattle.grid_store.proofs.ChainCounts.{keys-behind}
 use Rattle.placement.specs.Clusters.{init}
 use Rattle.grid_store.proofs.store.Store.admit.Goals as goal
 
@@ -60,19 +60,27 @@ take-requires-clause-new c =
     let one = room.one in
     can-wait s.cluster s.node (reverse s.records.items) s.stable c.args.rec c.self.invariant.stable (more-fits s.cluster s.node c.args.rec (reverse s.records.items) fit c.self.invariant.fit) (omega (arith, one))
 
+pub begin-requires-clause-fresh : goal.begin-requires-clause-fresh
+begin-requires-clause-fresh c = (let room = rw (← c.self.view_is) at c.requires.room in room.chains)
+
+pub begin-requires-clause-room : goal.begin-requires-clause-room
+begin-requires-clause-room c = (let room = rw (← c.self.view_is) at c.requires.room in room.writes)
+
 pub settle-requires : goal.settle-requires
 settle-requires c =
     let s = c.self.inside in
     let i = c.self.invariant in
     let r = reverse s.records.items in
     let fit = rw (← c.self.view_is) at c.requires.fits in
-    let room = rw (← c.self.view_is) at c.requires.room in
     let more : all_fit s.cluster s.node (c.args.rec ∷ r) ≡ true = more-fits s.cluster s.node c.args.rec r fit i.fit in
     let longer = reverse-append s.records.items (c.args.rec ∷ []) in
     let queue = c.pend.ensures r i.queue in
     let settles = c.take.ensures.settles s.cluster s.node r s.applied more (top-applied s.cluster s.node s.stable.commits s.applied r i.fit i.stable i.applied) i.stable i.locks in
     let waits = c.take.ensures.commits in
-    let write_room = has-write-room c.args.rec s.chains room.writes in (
+    let wider = c.begin.ensures.wider in
+    let now = c.begin.new.chains in
+    let versions = chains-same s.stable.commits s.chains now r wider.versions i.versions in
+    let places = places-same s.stable.commits s.chains now r wider.versions wider.room i.open' in (
       s.cluster,
       s.node,
       rw (c.as_slice.ensures.value, c.push_reserved.ensures.items) (record {
@@ -80,8 +88,8 @@ settle-requires c =
         placed = c.place.ensures s.records.items (grind (arith, common_steps, c.len.ensures)) i.placed;
         queue = rw longer queue;
         settles = rw longer settles;
-        versions = rw (longer, waits) (chains-behind s.cluster s.node s.stable.commits s.chains c.args.rec r more i.versions);
-        open' = rw (longer, waits) (places-behind s.cluster s.node s.stable.commits s.chains c.args.rec r more i.versions write_room i.open');
+        versions = rw (longer, waits) (chains-behind s.cluster s.node s.stable.commits now c.args.rec r more versions);
+        open' = rw (longer, waits) (places-behind s.cluster s.node s.stable.commits now c.args.rec r more versions c.begin.ensures.room places);
         apart = rw (longer, waits) (apart-behind s.cluster s.node s.stable.commits c.args.rec r more i.fit i.stable);
       }),
     )
@@ -108,5 +116,6 @@ invariant_of-self c =
       locks = rw c.as_slice.ensures.value at c.settle.ensures.locks;
       versions = rw c.as_slice.ensures.value at c.settle.ensures.chains;
       open' = rw c.as_slice.ensures.value at c.settle.ensures.writable;
-      start = c.settle.ensures.initial (init s.cluster) i.start;
+      keys = rw (c.settle.ensures.places, all, longer) (keys-behind s.chains.places c.begin.new.chains.places c.args.rec r c.begin.ensures.keys i.keys);
+      start = c.settle.ensures.initial (init s.cluster) (c.begin.ensures.initial i.start);
     }

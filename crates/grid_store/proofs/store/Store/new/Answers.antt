@@ -24,9 +24,10 @@ invariant_of-result c = rw c.new.ensures.items (record {
   stable = λ f t. rw c.new-7.ensures (set.contains-empty by_final (f, t));
   applied = refl;
   locks = record { keys = λ u k. rw c.new-8.ensures.keys (set.contains-empty by_transaction (u, k)); written = λ u k. rw c.new-8.ensures.written (set.contains-empty by_transaction (u, k)) };
-  versions = record { known = λ k f v h. absurd (no-version k f v (rw (c.new-9.ensures k) at h)); has = λ k t f v w. absurd (no-commit f t w.committed) };
+  versions = record { known = λ k f v h. absurd (no-version k f v (rw c.new-9.ensures at h)); has = λ k t f v w. absurd (no-commit f t w.committed) };
   open' = λ u x h e. absurd (no-prepared x e);
-  start = λ k. rw (c.new-9.ensures k) refl;
+  keys = λ k. rw c.new-9.ensures refl;
+  start = λ k. rw c.new-9.ensures refl;
 })
   where
     no-version : (k : Key) (f : Ident) (v : Value) → ¬ (false ≡ true)

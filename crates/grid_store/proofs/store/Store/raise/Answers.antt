@@ -22,5 +22,6 @@ invariant_of-self c =
       locks = i.locks;
       versions = i.versions;
       open' = i.open';
+      keys = i.keys;
       start = i.start;
     }

@@ -1,4 +1,5 @@
 use Rattle.std.proofs.Common.{reverse}
+use Rattle.placement.specs.Clusters.{init}
 use Rattle.grid_store.proofs.ChainSteps.{chains-same, places-same}
 use Rattle.grid_store.proofs.store.Store.reserve.Goals as goal
 
@@ -21,7 +22,8 @@ invariant_of-self-2 c =
       locks = record { keys = λ u k. rw c.make_room.ensures.keys (i.locks.keys u k); written = λ u k. rw c.make_room.ensures.written (i.locks.written u k) };
       versions = chains-same s.stable.commits s.chains c.widen.new.chains r w.versions i.versions;
       open' = places-same s.stable.commits s.chains c.widen.new.chains r w.versions w.room i.open';
-      start = c.widen.ensures.initial i.start;
+      keys = rw c.widen.ensures.places i.keys;
+      start = c.widen.ensures.initial (init s.cluster) i.start;
     })
 
 pub invariant_of-self-in_err-widen : goal.invariant_of-self-in_err-widen
@@ -43,5 +45,6 @@ invariant_of-self-in_err-widen c =
       locks = i.locks;
       versions = chains-same s.stable.commits s.chains c.widen.new.chains r w.versions i.versions;
       open' = places-same s.stable.commits s.chains c.widen.new.chains r w.versions w.room i.open';
-      start = c.widen.ensures.initial i.start;
+      keys = rw c.widen.ensures.places i.keys;
+      start = c.widen.ensures.initial (init s.cluster) i.start;
     })

@@ -1,6 +1,7 @@
-use Rattle.std.proofs.Common.{Some, sym, ap, ◌∙◌}
+use Rattle.std.proofs.Common.{◌≡◌, Some, sym, ap, ◌∙◌, arith}
 use Rattle.std.specs.Cmp.Lexicographic.{nat_list_cmp_total}
 use Rattle.score_base.proofs.TableMaps.{find_at, find_absent, gap_absent}
+use Rattle.version_chain.specs.Kept.{place_of}
 use Rattle.version_chain.proofs.chains.Chains.place.Goals as goal
 
 pub returns-in-Ok-clause-place : goal.returns-in-Ok-clause-place
@@ -14,7 +15,12 @@ pub returns-in-Ok-clause-inside : goal.returns-in-Ok-clause-inside
 returns-in-Ok-clause-inside c =
     let found = c.in-Ok.ensures.found in
     let places = c.self.inside.places.pairs in
-    rw (← c.self.view_is) (c.self.invariant.inside c.args.key.now c.pair.result.1 (find_at nat_list_cmp_total places c.in-Ok.i c.pair.result c.args.key.now c.in-Ok.ensures.rising found.0 (found.1 c.pair.result) ∙ ap (λ e. Some e.1) (sym c.pair.ensures)))
+    let is : place_of c.args.key.now places ≡ Some c.pair.result.1 =
+    find_at nat_list_cmp_total places c.in-Ok.i c.pair.result c.args.key.now c.in-Ok.ensures.rising found.0 (found.1 c.pair.result)
+    ∙ ap (λ e. Some e.1) (sym c.pair.ensures) in
+    let low = c.self.invariant.inside c.args.key.now c.pair.result.1 is in
+    let few = c.self.invariant.few in
+    rw (← c.self.view_is) (omega (arith, low, few))
 
 pub returns-in-Err-clause-place : goal.returns-in-Err-clause-place
 returns-in-Err-clause-place c =
