@@ -59,6 +59,8 @@ quiet-steps n v x t same =
     record {
       cluster = refl;
       journal = refl;
+      next = refl;
+      held = refl;
       others = λ u other. stage-is (acked_view n v x t []) u _ _ _ refl refl (heard-other v x t u other);
       same = ap (kept v.cluster t) (stage-is (acked_view n v x t []) t _ _ _ refl refl same);
     }
@@ -76,6 +78,8 @@ more-steps n v x t y acks decided heard =
     record {
       cluster = refl;
       journal = refl;
+      next = refl;
+      held = refl;
       others = λ u other. stage-is (acked_view n v x t []) u _ _ _ refl refl (heard-other v x t u other);
       same = ap (kept v.cluster t) (stage-is (acked_view n v x t []) t (Some y) (v.desk t) acks decided refl heard);
     }
@@ -91,6 +95,8 @@ last-steps n v x t apart =
     record {
       cluster = refl;
       journal = refl;
+      next = refl;
+      held = refl;
       others = λ u other.
           stage-is w u _ _ _ (closed-other t u v.journal other) refl (rw other refl);
       same = ap (kept v.cluster t) (stage-is w t None None _ (closed-done t v.journal) apart refl);

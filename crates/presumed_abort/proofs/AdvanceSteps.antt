@@ -59,6 +59,8 @@ prepares-behind e s v c x (n ∷ ns) = prepares-behind e s v c x ns
 pub record CameTo (v w : View) (t : TxId) (o : Open) : Type 0 where
   pub cluster : w.cluster ≡ v.cluster
   pub journal : w.journal ≡ v.journal
+  pub next : w.next ≡ v.next
+  pub held : w.held ≡ v.held
   pub desk : (u : TxId) → (t == u) ≡ false → w.desk u ≡ v.desk u
   pub acks : (u : TxId) → (t == u) ≡ false → w.acks u ≡ v.acks u
   pub undecided : undone t v.journal ≡ None
@@ -74,14 +76,16 @@ turning os x = record { outs = os; change = x; rec = None }
 rest-steps :
     (v w z : View) (t : TxId) (o : Open) → CameTo v w t o
     → (os : List Out) (change : Change) (y : Option Open)
-    → z.cluster ≡ w.cluster → z.journal ≡ w.journal → z.acks ≡ w.acks
+    → z.cluster ≡ w.cluster → z.journal ≡ w.journal → z.next ≡ w.next → z.held ≡ w.held → z.acks ≡ w.acks
     → ((u : TxId) → (t == u) ≡ false → z.desk u ≡ w.desk u) → z.desk t ≡ y
     → kept z.cluster t (stage_by None y (z.acks t)) ≡ behind_change change (kept v.cluster t (stage v t))
     → Steps v z t (turning os change)
-rest-steps v w z t o came os change y cluster journal acks other here stands =
+rest-steps v w z t o came os change y cluster journal next held acks other here stands =
     record {
       cluster = cluster ∙ came.cluster;
       journal = journal ∙ came.journal;
+      next = next ∙ came.next;
+      held = held ∙ came.held;
       others = λ u apart.
           stage-is z u _ _ _ (ap (undone u) (journal ∙ came.journal)) (other u apart ∙ came.desk u apart)
           (ap (λ f. f u) acks ∙ came.acks u apart);
@@ -132,7 +136,7 @@ request-steps e s v w t o os j came waits = by (op_at o.script.ops j)
 
     stays : (r : ℕ) → place_behind r o.progress.turn ≡ 0 → Steps v w t (turning os (read r))
     stays r none =
-        rest-steps v w w t o came os (read r) (Some (turned (place_behind r o.progress.turn))) refl refl refl
+        rest-steps v w w t o came os (read r) (Some (turned (place_behind r o.progress.turn))) refl refl refl refl refl
         (λ u apart. refl)
         (came.here ∙ ap Some (turn-stays o (place_behind r o.progress.turn) came.first none))
         (stands w (place_behind r o.progress.turn))
@@ -161,7 +165,8 @@ request-steps e s v w t o os j came waits = by (op_at o.script.ops j)
             (turning os (read r))
         to None none = stays r (none-holds w.cluster o.script.home (key_of op) o.progress.turn none)
         to (Some m) some =
-            rest-steps v w _ t o came os (read r) (Some (turned (place_behind r o.progress.turn))) refl refl refl
+            rest-steps v w _ t o came os (read r) (Some (turned (place_behind r o.progress.turn)))
+            refl refl refl refl refl
             (λ u apart. misses o.script.number t u _ _ came.number apart)
             (hits o.script.number t _ _ came.number ∙ ap (changed_open (with_request r)) came.here)
             (stands w (place_behind r o.progress.turn))
@@ -184,9 +189,10 @@ end-steps e s v w t o os None came waits = by (is_update o.script.ops) refl
         (turning os (if b then collects else Goes))
     by true update =
         rw (prepares-behind e s w w.cluster o (parts_now w.cluster o))
-        (rest-steps v w w t o came os collects (Some o) refl refl refl (λ u apart. refl) came.here (rw waits refl))
+        (rest-steps v w w t o came os collects (Some o) refl refl refl refl refl
+        (λ u apart. refl) came.here (rw waits refl))
     by false update =
-        rest-steps v w _ t o came os Goes None refl refl refl
+        rest-steps v w _ t o came os Goes None refl refl refl refl refl
         (λ u apart. misses o.script.number t u _ _ came.number apart)
         (hits o.script.number t _ _ came.number ∙ ap if_update came.here ∙ rw update refl)
         refl

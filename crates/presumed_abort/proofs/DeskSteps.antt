@@ -11,7 +11,7 @@ use Rattle.score_base.specs.declared.ids.TxId.{TxId}
 use Rattle.score_base.specs.declared.ids.NodeId.{NodeId}
 use Rattle.grid_model.specs.declared.events.Event.{Event}
 use Rattle.grid_model.specs.declared.events.Out.{Out}
-use Rattle.grid_model.specs.Nodes.{written}
+use Rattle.grid_model.specs.Nodes.{written, learnt}
 use Rattle.grid_model.specs.Rows.{outs_of}
 use Rattle.grid_model.specs.NextViews.{next_view}
 use Rattle.grid_model.specs.Views.{View, stage}
@@ -65,6 +65,8 @@ changed-other t u Goes desk other = removed-other t u desk other
 pub record Steps (v w : View) (t : TxId) (x : Turn) : Type 0 where
   pub cluster : w.cluster ≡ v.cluster
   pub journal : w.journal ≡ written x.rec v.journal
+  pub next : w.next ≡ learnt x.rec v.next
+  pub held : w.held ≡ v.held
   pub others : (u : TxId) → (t == u) ≡ false → stage w u ≡ stage v u
   pub same : kept w.cluster t (stage w t) ≡ behind_change x.change (kept v.cluster t (stage v t))
 
@@ -96,7 +98,10 @@ pub row-is :
 row-is n v desk e t x os unique is row outs steps =
     record {
       outs_are = outs ∙ row;
+      cluster = ap (λ (ys : List Out). (next_view n v e ys).cluster) (sym row) ∙ steps.cluster;
       journal = ap (λ (ys : List Out). (next_view n v e ys).journal) (sym row) ∙ steps.journal;
+      next = ap (λ (ys : List Out). (next_view n v e ys).next) (sym row) ∙ steps.next;
+      held = ap (λ (ys : List Out). (next_view n v e ys).held) (sym row) ∙ steps.held;
       desk_is =
           subst
           (λ (ys : List Out). IsDeskOf (next_view n v e ys) (changed t x.change desk)) row

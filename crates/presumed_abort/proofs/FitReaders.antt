@@ -5,7 +5,7 @@ use Rattle.score_base.specs.declared.ids.NodeId.{NodeId}
 use Rattle.placement.specs.Clusters.{ClusterData}
 use Rattle.grid_model.specs.declared.messages.ReadRep.{ReadRep}
 use Rattle.grid_model.specs.Fitness.{is_part_at, is_same_ident, is_fit_reply}
-use Rattle.grid_model.specs.Views.{Stage, Apart, Reads, Collects, Commits}
+use Rattle.grid_model.specs.Views.{Stage, Apart, Reads, Collects, Commits, is_apart}
 use Rattle.presumed_abort.specs.Stands.{is_here}
 use Rattle.presumed_abort.specs.Replays.{snapshot_of, is_stranger}
 use Rattle.presumed_abort.specs.Views.{kept}
@@ -36,6 +36,12 @@ fit-reply c q (Reads x j) = go (j == q.op)
 fit-reply c q (Collects x) = refl
 fit-reply c q (Commits y acks) = refl
 fit-reply c q Apart = refl
+
+pub begin-at : (c : ClusterData) (t : TxId) (s : Stage) → is_apart s ≡ not (is_here (kept c t s))
+begin-at c t (Reads x j) = refl
+begin-at c t (Collects x) = refl
+begin-at c t (Commits y acks) = refl
+begin-at c t Apart = refl
 
 pub not-here : (c : ClusterData) (t : TxId) (s : Stage) → is_here (kept c t s) ≡ false → kept c t s ≡ None
 not-here c t (Reads x j) is = absurd (grind (arith, is))

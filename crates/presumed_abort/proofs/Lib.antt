@@ -13,6 +13,10 @@ pub mod AdvanceSteps
 pub mod ReplySteps
 pub mod RetrySteps
 pub mod Apart
+pub mod Asides
+pub mod OtherRows
+pub mod UnfitRows
+pub mod KeptFacts
 pub mod DeskRows
 pub mod Replayed
 pub mod FitReaders

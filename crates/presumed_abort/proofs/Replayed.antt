@@ -17,7 +17,7 @@ use Rattle.grid_model.specs.Views.{View, stage_by}
 use Rattle.presumed_abort.specs.declared.stands.Stand.{Stand}
 use Rattle.presumed_abort.specs.declared.stands.Stand.TheVariants as stand
 use Rattle.presumed_abort.specs.Stands.{standing}
-use Rattle.presumed_abort.specs.Turns.{Change, Keeps, Goes, changed}
+use Rattle.presumed_abort.specs.Turns.{Change, Stays, Keeps, Goes, changed}
 use Rattle.presumed_abort.specs.Replays.{decided_desk}
 use Rattle.presumed_abort.specs.Views.{kept, IsDeskOf}
 use Rattle.presumed_abort.proofs.DeskSteps.{changed-same, changed-other}
@@ -79,7 +79,14 @@ module _ {A : Type 0} where
       go true rest = unique.1
       go false rest = (all-removed (λ y. nat_eq e.0 y ≡ false) t es unique.0, rest)
 
-decided-distinct : (r : List Record) → IsDistinct nat_eq (keys_of (decided_desk r))
+pub changed-distinct :
+    (t : TxId) (x : Change) (desk : List (TxId × Stand))
+    → IsDistinct nat_eq (keys_of desk) → IsDistinct nat_eq (keys_of (changed t x desk))
+changed-distinct t Stays desk unique = unique
+changed-distinct t (Keeps s) desk unique = distinct-inserted t s desk unique
+changed-distinct t Goes desk unique = distinct-removed t desk unique
+
+pub decided-distinct : (r : List Record) → IsDistinct nat_eq (keys_of (decided_desk r))
 unfolding IsDistinct
 decided-distinct [] = tt
 decided-distinct (record'.Decided t f parts ∷ r) = distinct-inserted t _ (decided_desk r) (decided-distinct r)

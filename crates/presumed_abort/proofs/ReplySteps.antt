@@ -51,7 +51,15 @@ replied q x = event.Deliver x (message.ReadRep q)
 
 quiet-steps :
     (n : NodeId) (v : View) (x : NodeId) (q : ReadRep) → Steps v (next_view n v (replied q x) []) q.t quiet
-quiet-steps n v x q = record { cluster = refl; journal = refl; others = λ u apart. refl; same = refl }
+quiet-steps n v x q =
+    record {
+      cluster = refl;
+      journal = refl;
+      next = refl;
+      held = refl;
+      others = λ u apart. refl;
+      same = refl;
+    }
 
 -- the view in which the reply's value is taken
 abbrev taken_view : NodeId → View → NodeId → ReadRep → View
@@ -65,6 +73,8 @@ taken-came n v x q o j at number =
     record {
       cluster = refl;
       journal = refl;
+      next = refl;
+      held = refl;
       desk = λ u apart. rw apart refl;
       acks = λ u apart. refl;
       undecided = at.undecided;
@@ -133,6 +143,8 @@ begun-came n v s floor sid0 undecided =
     record {
       cluster = refl;
       journal = refl;
+      next = refl;
+      held = refl;
       desk = λ u apart. rw apart refl;
       acks = λ u apart. rw apart refl;
       undecided = undecided;

@@ -51,7 +51,15 @@ ask-row c t x Apart = refl
 
 -- nothing changes
 same-steps : (v : View) (t : TxId) (os : List Out) → Steps v v t (sent_again os)
-same-steps v t os = record { cluster = refl; journal = refl; others = λ u apart. refl; same = refl }
+same-steps v t os =
+    record {
+      cluster = refl;
+      journal = refl;
+      next = refl;
+      held = refl;
+      others = λ u apart. refl;
+      same = refl;
+    }
 
 again-steps :
     (n : NodeId) (v : View) (t : TxId) (x : Open) (j : ℕ)
@@ -65,7 +73,15 @@ again-steps n v t x j undecided here waits number = by (op_at x.script.ops j) re
     r = record { tx = x; op = j }
 
     quiet-steps : Steps v v t quiet
-    quiet-steps = record { cluster = refl; journal = refl; others = λ u apart. refl; same = refl }
+    quiet-steps =
+        record {
+          cluster = refl;
+          journal = refl;
+          next = refl;
+          held = refl;
+          others = λ u apart. refl;
+          same = refl;
+        }
 
     by :
         (op : Option Op) → op_at x.script.ops j ≡ op
@@ -99,6 +115,8 @@ again-steps n v t x j undecided here waits number = by (op_at x.script.ops j) re
             record {
               cluster = refl;
               journal = refl;
+              next = refl;
+              held = refl;
               others = λ u apart. stage-is w u _ _ _ refl (misses x.script.number t u _ _ number apart) refl;
               same =
                   ap (kept v.cluster t)

@@ -24,7 +24,7 @@ use Rattle.grid_model.specs.Stories.{has_voted, is_collecting, with_vote}
 use Rattle.grid_model.specs.Fitness.{is_fit}
 use Rattle.grid_model.specs.Views.{View, Open, Stage, Apart, Reads, Collects, Commits, open_stage, stage, phase_in}
 use Rattle.grid_model.specs.Advances.{parts_now}
-use Rattle.grid_model.specs.Nodes.{written}
+use Rattle.grid_model.specs.Nodes.{written, learnt}
 use Rattle.grid_model.specs.Rows.{full_outs, ballot_outs, vote_outs, decides, greatest_vote, have_voted, tells}
 use Rattle.grid_model.specs.NextViews.{changed_open, desk_heard, decided_by, next_view}
 use Rattle.presumed_abort.specs.declared.states.Collecting.{Collecting}
@@ -110,6 +110,8 @@ quiet-steps n v x t b same =
     record {
       cluster = refl;
       journal = refl;
+      next = refl;
+      held = refl;
       others = λ u other. quiet-others n v x t u b other;
       same = ap (kept v.cluster t) (stage-is (voted_view n v x t b []) t _ _ _ refl same refl);
     }
@@ -130,6 +132,8 @@ more-steps n v x t p o at heard =
     record {
       cluster = refl;
       journal = refl;
+      next = refl;
+      held = refl;
       others = λ u other. quiet-others n v x t u (ballot.Yes p) other;
       same =
           ap (kept v.cluster t)
@@ -158,6 +162,8 @@ full-steps n v x t p f o heard =
     rw told (record {
       cluster = refl;
       journal = journal;
+      next = ap (λ d. learnt (decided_by d v.cluster t f) v.next) heard;
+      held = refl;
       others = λ u other.
           stage-is w u _ _ _ (ap (undone u) journal ∙ decided-other t u f ns v.journal other)
           (rw other refl) (rw other refl);
@@ -180,6 +186,8 @@ no-steps n v x t why ns os undecided =
     rw told (record {
       cluster = refl;
       journal = refl;
+      next = refl;
+      held = refl;
       others = λ u other. stage-is w u _ _ _ refl (rw other refl) refl;
       same = ap (kept v.cluster t) (stage-is w t None None (v.acks t) undecided (rw (self t) refl) refl);
     })

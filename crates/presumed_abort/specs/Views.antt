@@ -1,11 +1,15 @@
 -- How a desk meets the view of its node, and when a turn is the row of an event on that view.
-use Rattle.std.specs.Prelude.{◌≡◌, List, Option, Some, None}
+use Rattle.std.specs.Prelude.{◌≡◌, Bool, true, false, List, [], Option, Some, None}
 use Rattle.score_base.specs.declared.ids.TxId.{TxId}
 use Rattle.score_base.specs.declared.ids.NodeId.{NodeId}
+use Rattle.score_base.specs.declared.records.Record.{Record}
 use Rattle.placement.specs.Clusters.{ClusterData}
-use Rattle.journal_words.specs.Journals.{Decision, undone}
+use Rattle.journal_words.specs.Journals.{Decision, undone, floor}
 use Rattle.grid_model.specs.declared.events.Event.{Event}
-use Rattle.grid_model.specs.Nodes.{written}
+use Rattle.grid_model.specs.declared.events.Event.TheVariants as event
+use Rattle.grid_model.specs.declared.messages.Message.{Message}
+use Rattle.grid_model.specs.declared.messages.Message.TheVariants as message
+use Rattle.grid_model.specs.Nodes.{written, learnt}
 use Rattle.grid_model.specs.Views.{View, Open, Stage, Apart, Reads, Collects, Commits, stage}
 use Rattle.grid_model.specs.Advances.{parts_now}
 use Rattle.grid_model.specs.Rows.{outs_of}
@@ -39,8 +43,32 @@ abbrev pub OwnNumbers : View → Type 0
 OwnNumbers v = (t : TxId) (o : Open) → v.desk t ≡ Some o → o.script.number ≡ t
 
 -- The turn x of t is the row of this event at n on the view v, whose desk this is: it gives the outs of the
--- row, with its record, and leaves the desk of the next view.
+-- row, with its record, leaves the desk of the next view, and changes nothing else.
 pub record IsRow (n : NodeId) (v : View) (desk : List (TxId × Stand)) (e : Event) (t : TxId) (x : Turn) : Type 0 where
   pub outs_are : x.outs ≡ outs_of n v e
+  pub cluster : (next_view n v e (outs_of n v e)).cluster ≡ v.cluster
   pub journal : (next_view n v e (outs_of n v e)).journal ≡ written x.rec v.journal
+  pub next : (next_view n v e (outs_of n v e)).next ≡ learnt x.rec v.next
+  pub held : (next_view n v e (outs_of n v e)).held ≡ v.held
   pub desk_is : IsDeskOf (next_view n v e (outs_of n v e)) (changed t x.change desk)
+
+-- the message comes to a home: a read reply, a vote, an acknowledgement or a question
+abbrev pub is_for_home : Message → Bool
+is_for_home (message.ReadRep q) = true
+is_for_home (message.Vote t b) = true
+is_for_home (message.Ack t) = true
+is_for_home (message.Ask t) = true
+is_for_home said = false
+
+-- the event comes to a desk: a begin, a message that comes to a home, or a retry
+abbrev pub is_at_desk : Event → Bool
+is_at_desk (event.Begin s floor) = true
+is_at_desk (event.Deliver x said) = is_for_home said
+is_at_desk (event.Retry t) = true
+is_at_desk e = false
+
+-- the view of a node that has just been opened on these records, the newest first: no transaction is open,
+-- nothing is acknowledged, no read is held, and the clock is at the floor
+abbrev pub opened_view : ClusterData → List Record → View
+opened_view c r =
+    record { cluster = c; journal = r; next = floor r; held = []; desk = λ t. None; acks = λ t. [] }

@@ -1,8 +1,6 @@
 //! The desk: the transactions of a home, each with where it stands.
 
 ghost use Rattle.std.specs.Prelude.{◌≡◌, nat_eq, [], Some, is_some, true};
-ghost use Rattle.std.specs.List.{IsDistinct};
-ghost use Rattle.std.specs.Map.{keys_of};
 ghost use Rattle.std.specs.Option.{option_copied};
 ghost use Rattle.indexmap.specs.IndexMap.{insert_entry, shift_remove_entry};
 ghost use Rattle.presumed_abort.specs.Stands.{standing, is_here};
@@ -39,12 +37,10 @@ impl Desk {
         }
     }
 
-    /// Whether the transaction is reading, collecting or decided here. No number stands twice.
+    /// Whether the transaction is reading, collecting or decided here.
     pub fn has(&self, t: TxId) -> bool
-        ensures here { result ≡ is_here (standing self.now t) }
-        ensures unique { IsDistinct nat_eq (keys_of self.now) }
+        ensures { result ≡ is_here (standing self.now t) }
     {
-        let _place = self.stands.get_index_of(&t);
         match self.get(t) {
             None => false,
             Some(Stand::Away) => false,

@@ -28,8 +28,9 @@ mod votes;
 pub use desks::Desk;
 pub use dues::{DeskDue, DeskTurn, Due};
 pub use laws::{
-    law_ack_row, law_apart, law_ask_row, law_begin_row, law_fit, law_own_numbers, law_release,
-    law_reply_row, law_retry_row, law_vote_row,
+    law_ack_row, law_apart, law_ask_row, law_begin_row, law_fit, law_kept, law_opened,
+    law_other_row, law_own_numbers, law_release, law_replay, law_reply_row, law_retry_row,
+    law_unfit_row, law_vote_row,
 };
 pub use opens::Open;
 pub use parts::Parts;
