@@ -75,7 +75,7 @@ impl Store {
 
     /// Whether this node is among the parts, there is a key, and each list has distinct keys of this
     /// node.
-    pub(crate) fn are_sound(&self, parts: &[NodeId], reads: &[Key], writes: &[(Key, Value)]) -> bool
+    pub fn are_sound(&self, parts: &[NodeId], reads: &[Key], writes: &[(Key, Value)]) -> bool
         ensures { result ≡ (is_among self.now.node parts.now
             && are_lists self.now.cluster self.now.node reads.now writes.now) }
     {

@@ -1,5 +1,5 @@
 -- Each turn of a desk is the row of its event.
-use Rattle.std.proofs.Common.{◌≡◌, ◌==◌, ◌&&◌, nat_eq, Bool, true, false, List, ◌∷◌, Option, None, ap, sym, subst, ◌∙◌, refl, arith}
+use Rattle.std.proofs.Common.{◌≡◌, ◌==◌, ◌&&◌, nat_eq, Bool, true, false, List, ◌∷◌, Option, ap, sym, subst, refl, arith}
 use Rattle.std.proofs.lemmas.Bool.Decides.{nat_tests}
 use Rattle.std.specs.List.{IsDistinct}
 use Rattle.std.specs.Map.{keys_of}
@@ -9,7 +9,6 @@ use Rattle.score_base.specs.declared.ids.Ident.{Ident}
 use Rattle.score_base.specs.declared.causes.Ballot.{Ballot}
 use Rattle.script_lang.specs.Scripts.{ScriptData}
 use Rattle.journal_words.specs.Journals.{undone}
-use Rattle.placement.specs.Clusters.{ClusterData}
 use Rattle.grid_model.specs.declared.events.Event.{Event}
 use Rattle.grid_model.specs.declared.events.Event.TheVariants as event
 use Rattle.grid_model.specs.declared.messages.Message.{Message}
@@ -76,7 +75,7 @@ pub reply-is-row :
 reply-is-row n v desk x q unique is own fit =
     at-desk n v desk (event.Deliver x (message.ReadRep q)) q.t (reply_turn v.cluster q) is
     (row-is n v desk (event.Deliver x (message.ReadRep q)) q.t _ (reply_outs v.cluster q (stage v q.t)) unique is
-    (fit-answer n v x (message.ReadRep q) fit) (reply-row v.cluster q (stage v q.t)) (reply-steps n v x q own))
+    (fit-answer n v x (message.ReadRep q) fit) (reply-row v q own) (reply-steps n v x q own))
 
 pub ask-is-row :
     (n : NodeId) (v : View) (desk : List (TxId × Stand)) (x : NodeId) (t : TxId)

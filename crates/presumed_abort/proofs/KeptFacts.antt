@@ -1,6 +1,6 @@
 -- Every event keeps the desk of a view in order: no decided transaction is open besides, and each open one has
 -- its own number.
-use Rattle.std.proofs.Common.{◌≡◌, ◌==◌, ◌&&◌, ◌++◌, ℕ, nat_eq, nat_lt, map, filter, Bool, true, false, List, [], ◌∷◌, Option, Some, None, inl, inr, refl, sym, ap, subst, ◌∙◌, arith, if◌then◌else◌, slice_get}
+use Rattle.std.proofs.Common.{◌≡◌, ◌==◌, ◌&&◌, ◌++◌, ℕ, nat_lt, map, filter, Bool, true, false, List, [], ◌∷◌, Option, Some, None, inl, inr, refl, sym, ap, subst, ◌∙◌, arith, if◌then◌else◌, slice_get}
 use Rattle.std.specs.List.{list_all}
 use Rattle.std.proofs.lemmas.Bool.{cases_eq}
 use Rattle.std.proofs.lemmas.Bool.Decides.{nat_tests}
@@ -34,7 +34,7 @@ use Rattle.grid_model.specs.Fitness.{counts_vote, is_fit_begin}
 use Rattle.grid_model.specs.Views.{View, Open, participant, stage}
 use Rattle.grid_model.specs.Advances.{advance, advance_end, request_of, prepares, parts_now, to_node}
 use Rattle.grid_model.specs.Rows.{outs_of, begin_outs, begun_at, first_ident}
-use Rattle.grid_model.specs.NextViews.{changed_open, if_update, opened_by, decided_by, desk_heard, heard_view, view_heard, script_begun, envelope_of, behind, behind_all, next_view}
+use Rattle.grid_model.specs.NextViews.{changed_open, if_update, opened_by, decided_by, heard_view, view_heard, script_begun, envelope_of, behind, behind_all, next_view}
 use Rattle.presumed_abort.specs.Views.{AreApart, OwnNumbers}
 use Rattle.presumed_abort.proofs.Asides.{Aside, out-aside, both}
 use Rattle.presumed_abort.proofs.Undone.{decided-other, closed-done, closed-other}

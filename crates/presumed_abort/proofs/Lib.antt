@@ -1,6 +1,7 @@
 pub mod Places
 pub mod Newest
 pub mod Inserts
+pub mod Released
 pub mod Prepared
 pub mod PartNodes
 pub mod Undone

@@ -1,5 +1,5 @@
 -- The rows of a participant leave the desk as it is.
-use Rattle.std.proofs.Common.{◌≡◌, ℕ, Bool, true, false, ◌&&◌, List, [], ◌∷◌, ◌++◌, Option, Some, None, refl, arith, nat_lt, if◌then◌else◌}
+use Rattle.std.proofs.Common.{◌≡◌, Bool, true, false, ◌&&◌, List, [], ◌∷◌, ◌++◌, Option, Some, None, refl, arith, nat_lt, if◌then◌else◌}
 use Rattle.std.specs.Prelude.{◌+◌, max, is_some}
 use Rattle.score_base.specs.declared.ids.TxId.{TxId}
 use Rattle.score_base.specs.declared.ids.NodeId.{NodeId}
@@ -20,13 +20,12 @@ use Rattle.grid_model.specs.declared.events.Out.{Out}
 use Rattle.grid_model.specs.declared.events.Out.TheVariants as out
 use Rattle.grid_model.specs.declared.messages.Message.{Message}
 use Rattle.grid_model.specs.declared.messages.Message.TheVariants as message
-use Rattle.grid_model.specs.declared.messages.Prepare.{Prepare}
 use Rattle.grid_model.specs.declared.messages.ReadReq.{ReadReq}
 use Rattle.grid_model.specs.declared.stories.HeldRead.{HeldRead}
 use Rattle.grid_model.specs.Fitness.{is_fit}
-use Rattle.grid_model.specs.Views.{View, participant, stage}
+use Rattle.grid_model.specs.Views.{View, participant}
 use Rattle.grid_model.specs.Advances.{to_node}
-use Rattle.grid_model.specs.Rows.{served, version_for, release, ceilings, raises, ceiling_of, answered, read_outs, dated, freed_by, judged, prepared_outs, prepare_outs, peer_outs, commit_outs, abort_outs, end_outs, if_pending, tell_outs, message_outs, ask_outs, ask_peer_outs, outs_of}
+use Rattle.grid_model.specs.Rows.{served, version_for, release, ceilings, raises, ceiling_of, answered, read_outs, dated, freed_by, judged, prepared_outs, prepare_outs, peer_outs, commit_outs, abort_outs, end_outs, if_pending, tell_outs, ask_outs, ask_peer_outs, outs_of}
 use Rattle.grid_model.specs.NextViews.{envelope_of, heard_view, next_view}
 use Rattle.presumed_abort.specs.declared.stands.Stand.{Stand}
 use Rattle.presumed_abort.specs.Views.{is_for_home, is_at_desk, IsDeskOf}

@@ -1,5 +1,5 @@
 -- The view behind a begin and behind a read reply: its transaction alone stands otherwise, as the turn says.
-use Rattle.std.proofs.Common.{◌≡◌, ℕ, Bool, true, false, List, [], ◌∷◌, Option, Some, None, refl, ap, filter, arith, if◌then◌else◌}
+use Rattle.std.proofs.Common.{◌≡◌, ℕ, Bool, true, false, List, [], ◌∷◌, Option, Some, None, refl, sym, ap, subst, filter, arith, if◌then◌else◌}
 use Rattle.std.proofs.lemmas.Bool.Decides.{nat_tests}
 use Rattle.std.specs.Prelude.{◌==◌, nat_lt}
 use Rattle.score_base.specs.declared.ids.TxId.{TxId}
@@ -22,7 +22,7 @@ use Rattle.grid_model.specs.Views.{View, Open, Stage, Apart, Reads, Collects, Co
 use Rattle.grid_model.specs.Advances.{advance, advance_end}
 use Rattle.grid_model.specs.Rows.{reply_outs, begun_at}
 use Rattle.grid_model.specs.NextViews.{behind_all, next_view, opened_by}
-use Rattle.presumed_abort.specs.Turns.{quiet}
+use Rattle.presumed_abort.specs.Turns.{Turn, quiet}
 use Rattle.presumed_abort.specs.Replies.{with_reply, gone_on, begin_turn, taken_turn, reply_turn}
 use Rattle.presumed_abort.specs.Views.{kept, OwnNumbers}
 use Rattle.presumed_abort.proofs.DeskSteps.{Steps}
@@ -68,7 +68,7 @@ taken_view n v x q = next_view n v (replied q x) (out.Act (act.Taken q.t q.op q.
 taken-came :
     (n : NodeId) (v : View) (x : NodeId) (q : ReadRep) (o : Open) (j : ℕ)
     → AtReads (undone q.t v.journal) (v.desk q.t) o j → o.script.number ≡ q.t
-    → CameTo v (taken_view n v x q) q.t (with_reply q o)
+    → CameTo v (taken_view n v x q) q.t (with_reply q.op q.sid q.value o)
 taken-came n v x q o j at number =
     record {
       cluster = refl;
@@ -82,6 +82,33 @@ taken-came n v x q o j at number =
       number = number;
       first = refl;
     }
+
+-- the turn of a reply that the transaction q.t waits for
+abbrev taken_at : ClusterData → ReadRep → Open → Turn
+taken_at c q o =
+    record {
+      outs =
+          out.Act (act.Taken q.t q.op q.sid q.value)
+          ∷ advance c (with_reply q.op q.sid q.value o) q.op;
+      change = gone_on c q.t (with_reply q.op q.sid q.value o);
+      rec = None;
+    }
+
+taken-same :
+    (c : ClusterData) (q : ReadRep) (o : Open) (j : ℕ)
+    → o.script.number ≡ q.t → j ≡ q.op
+    → taken_turn c q.value q.sid (record { tx = o; op = j }) ≡ taken_at c q o
+taken-same c q o j number op =
+    λ i. record {
+      outs =
+          out.Act (act.Taken (number i) (op i) q.sid q.value)
+          ∷ advance c (with_reply (op i) q.sid q.value o) (op i);
+      change = gone_on c (number i) (with_reply (op i) q.sid q.value o);
+      rec = None;
+    }
+
+same-op : (i j : ℕ) → (i == j) ≡ true → i ≡ j
+same-op i j met = grind (arith, nat_tests, met)
 
 pub reply-steps :
     (n : NodeId) (v : View) (x : NodeId) (q : ReadRep)
@@ -97,36 +124,49 @@ reply-steps n v x q own = go (stage v q.t) refl
     go (Collects o) is = quiet-steps n v x q
     go (Commits y acks) is = quiet-steps n v x q
     go Apart is = quiet-steps n v x q
-    go (Reads o j) is = by (j == q.op)
+    go (Reads o j) is = by (j == q.op) refl
       where
         at : AtReads (undone q.t v.journal) (v.desk q.t) o j
         at = at-reads (undone q.t v.journal) (v.desk q.t) (v.acks q.t) o j is
 
         outs : List Out
-        outs = out.Act (act.Taken q.t q.op q.sid q.value) ∷ advance v.cluster (with_reply q o) q.op
+        outs = (taken_at v.cluster q o).outs
 
         by :
-            (b : Bool)
+            (b : Bool) → (j == q.op) ≡ b
             → Steps v (next_view n v (replied q x) (if b then outs else [])) q.t
-            (if b then taken_turn v.cluster q o else quiet)
-        by false = quiet-steps n v x q
-        by true =
-            went-steps (Some (record { from = x; to = n; message = message.ReadRep q })) None v (taken_view n v x q) q.t
-            (with_reply q o) q.op outs (taken-came n v x q o j at (own q.t o at.open'))
+            (if b then taken_turn v.cluster q.value q.sid (record { tx = o; op = j }) else quiet)
+        by false met = quiet-steps n v x q
+        by true met =
+            subst (λ y. Steps v (next_view n v (replied q x) outs) q.t y)
+            (sym (taken-same v.cluster q o j (own q.t o at.open') (same-op j q.op met)))
+            (went-steps (Some (record { from = x; to = n; message = message.ReadRep q })) None v (taken_view n v x q)
+            q.t (with_reply q.op q.sid q.value o) q.op outs (taken-came n v x q o j at (own q.t o at.open')))
 
 pub reply-row :
-    (c : ClusterData) (q : ReadRep) (s : Stage) → (reply_turn c q (kept c q.t s)).outs ≡ reply_outs c q s
-reply-row c q (Reads o j) = go (j == q.op)
+    (v : View) (q : ReadRep)
+    → OwnNumbers v
+    → (reply_turn v.cluster q (kept v.cluster q.t (stage v q.t))).outs ≡ reply_outs v.cluster q (stage v q.t)
+reply-row v q own = go (stage v q.t) refl
   where
-    outs : List Out
-    outs = out.Act (act.Taken q.t q.op q.sid q.value) ∷ advance c (with_reply q o) q.op
+    go :
+        (s : Stage) → stage v q.t ≡ s
+        → (reply_turn v.cluster q (kept v.cluster q.t s)).outs ≡ reply_outs v.cluster q s
+    go (Collects o) is = refl
+    go (Commits y acks) is = refl
+    go Apart is = refl
+    go (Reads o j) is = by (j == q.op) refl
+      where
+        at : AtReads (undone q.t v.journal) (v.desk q.t) o j
+        at = at-reads (undone q.t v.journal) (v.desk q.t) (v.acks q.t) o j is
 
-    go : (b : Bool) → (if b then taken_turn c q o else quiet).outs ≡ (if b then outs else [])
-    go true = refl
-    go false = refl
-reply-row c q (Collects o) = refl
-reply-row c q (Commits y acks) = refl
-reply-row c q Apart = refl
+        by :
+            (b : Bool) → (j == q.op) ≡ b
+            → (if b then taken_turn v.cluster q.value q.sid (record { tx = o; op = j }) else quiet).outs
+            ≡ (if b then (taken_at v.cluster q o).outs else [])
+        by true met =
+            ap (λ y. y.outs) (taken-same v.cluster q o j (own q.t o at.open') (same-op j q.op met))
+        by false met = refl
 
 -- ---- the begin
 

@@ -1,5 +1,5 @@
 -- A message or a begin that is not fit leaves the view as it is.
-use Rattle.std.proofs.Common.{◌≡◌, ◌==◌, ◌&&◌, nat_eq, Bool, true, false, List, [], inl, inr, refl, ap, subst, ◌∙◌, arith, if◌then◌else◌}
+use Rattle.std.proofs.Common.{◌≡◌, ◌==◌, ◌&&◌, Bool, true, false, [], inl, inr, refl, ap, subst, ◌∙◌, arith, if◌then◌else◌}
 use Rattle.std.proofs.lemmas.Bool.{cases_eq}
 use Rattle.std.proofs.lemmas.Bool.Decides.{nat_tests}
 use Rattle.score_base.specs.declared.ids.TxId.{TxId}

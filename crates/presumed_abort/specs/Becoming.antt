@@ -1,24 +1,14 @@
 -- What an open transaction becomes where it goes on.
-use Rattle.std.specs.Prelude.{ℕ, Option, Some, None}
+use Rattle.std.specs.Prelude.{Option, Some, None}
 use Rattle.score_base.specs.declared.ids.TxId.{TxId}
 use Rattle.script_lang.specs.Scripts.{ScriptData}
-use Rattle.grid_model.specs.declared.stories.Progress.{Progress}
 use Rattle.grid_model.specs.Views.{Open}
 use Rattle.presumed_abort.specs.declared.advances.Becomes.{Becomes}
 use Rattle.presumed_abort.specs.declared.advances.Becomes.TheVariants as becomes
 use Rattle.presumed_abort.specs.declared.advances.Step.{Step}
-use Rattle.presumed_abort.specs.declared.states.Reading.{Reading}
 use Rattle.presumed_abort.specs.declared.stands.Stand.{Stand}
 use Rattle.presumed_abort.specs.declared.stands.Stand.TheVariants as stand
 use Rattle.presumed_abort.specs.Turns.{Change, Keeps, Goes, Turn}
-
--- a transaction that came so far
-abbrev pub with_progress : Progress → Open → Open
-with_progress p x = record x { progress = p }
-
--- a transaction whose next holder to ask is this one
-abbrev pub with_turn : ℕ → Reading → Reading
-with_turn turn r = record r { tx = record r.tx { progress = record r.tx.progress { turn = turn } } }
 
 -- the change of t, which came so far, where it becomes this
 abbrev pub becomes_change : TxId → Open → Becomes → Change

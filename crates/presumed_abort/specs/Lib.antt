@@ -6,6 +6,7 @@ pub mod Tallies
 pub mod Dues
 pub mod Replies
 pub mod Retries
+pub mod Typed
 pub mod Becoming
 pub mod Replays
 pub mod Views

@@ -15,11 +15,15 @@ use Rattle.presumed_abort.specs.declared.stands.Stand.TheVariants as stand
 use Rattle.presumed_abort.specs.Turns.{Stays, Keeps, Turn, quiet}
 use Rattle.presumed_abort.specs.Replies.{with_asked}
 
+-- a read of which the next holder in turn comes next
+abbrev pub turned : ClusterData → Reading → Reading
+turned c r = record r { tx = with_asked c r.op r.tx }
+
 -- a read that is asked for again with this request: where there is one, the next holder in turn comes next
 abbrev pub asked_again : ClusterData → Reading → List Out → Turn
 asked_again c r [] = quiet
 asked_again c r (o ∷ os) =
-    record { outs = o ∷ os; change = Keeps (stand.Reading (record r { tx = with_asked c r.op r.tx })); rec = None }
+    record { outs = o ∷ os; change = Keeps (stand.Reading (turned c r)); rec = None }
 
 -- these are given, and nothing changes
 abbrev pub sent_again : List Out → Turn

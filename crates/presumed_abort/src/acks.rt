@@ -1,20 +1,23 @@
 //! Acknowledgements at a desk.
 
-ghost use Rattle.std.specs.Prelude.{◌≡◌, nat_eq, Some, is_some, true, IfOk, OnErr};
-ghost use Rattle.indexmap.specs.IndexMap.{insert_entry};
+ghost use Rattle.std.specs.Prelude.{◌≡◌, ◌++◌, ◌∷◌, [], ℕ, List, Some, is_some, true, false, IfOk, OnErr};
+ghost use Rattle.placement.specs.Places.{is_among};
 ghost use Rattle.presumed_abort.specs.Stands.{standing};
 ghost use Rattle.presumed_abort.specs.Tallies.{ack_tally_turn};
-ghost use Rattle.presumed_abort.specs.Turns.{ack_turn};
+ghost use Rattle.presumed_abort.specs.Turns.{Turn, Keeps, ack_turn, acked_turn, changed};
+ghost use Rattle.presumed_abort.specs.Typed.{IsAcked};
 ghost use Rattle.presumed_abort.specs.Dues.{IsTurn};
 ghost use Rattle.presumed_abort.specs.declared.states.Committed.{Committed};
+ghost use Rattle.presumed_abort.specs.declared.stands.Stand.{Stand};
 ghost use Rattle.presumed_abort.specs.declared.stands.Stand.TheVariants as stand;
 
 use crate::desks::Desk;
 use crate::dues::{DeskDue, DeskTurn, Due};
 use crate::stands::Stand;
-use crate::tallies::{AckTally, count_ack};
+use crate::tallies::AckTally;
+use crate::turns::Acked;
 use journal_words::records::is_among;
-use score_base::{Memory, NodeId, NodeList, Record, TxId};
+use score_base::{Memory, NodeId, TxId};
 use std::alloc::Global;
 
 impl Desk {
@@ -30,41 +33,45 @@ impl Desk {
         if is_among(from, tx.acks.as_slice()) {
             return Ok(DeskTurn::Outs(Vec::new(alloc)));
         }
-        let tally = count_ack(alloc, tx, from)?;
-        Ok(self.apply_ack(alloc, t, tally))
+        let tally = tx.tally(alloc, from)?;
+        Ok(self.take_ack(alloc, from, t, tally))
     }
 
-    /// The transaction has these acknowledgements.
-    fn more_acks(&mut self, t: TxId, acks: NodeList)
-        requires { is_some (standing self.old t) ≡ true }
+    /// An acknowledgement that is the first of its node, of a decided transaction, which was counted.
+    fn take_ack(&mut self, alloc: Global, from: NodeId, t: TxId, tally: AckTally) -> DeskTurn
+        requires there { is_some (standing self.old t) ≡ true }
+        requires first { (c : Committed) → standing self.old t ≡ Some (stand.Committed c)
+            → is_among from c.acks ≡ false }
+        requires counted { (c : Committed) → standing self.old t ≡ Some (stand.Committed c)
+            → ack_tally_turn c tally ≡ acked_turn c (c.acks ++ from ∷ []) }
         ensures { (c : Committed) → standing self.old t ≡ Some (stand.Committed c)
-            → self.new ≡ insert_entry nat_eq self.old t (stand.Committed (record c { acks = acks })) }
+            → IsTurn (acked_turn c (c.acks ++ from ∷ [])) t self.old self.new result }
     {
-        if let Some(Stand::Committed(tx)) = self.take(t) {
-            self.put(t, Stand::Committed(tx.more(acks)));
+        match self.take(t) {
+            Some(Stand::Committed(tx)) => {
+                let acked = tx.ack(from, tally);
+                self.acked(alloc, t, acked)
+            }
+            _other => DeskTurn::Outs(Vec::new(alloc)),
         }
     }
 
-    /// What an acknowledgement that was counted makes of its transaction.
-    fn apply_ack(&mut self, alloc: Global, t: TxId, tally: AckTally) -> DeskTurn
-        requires { is_some (standing self.old t) ≡ true }
-        ensures { (c : Committed) → standing self.old t ≡ Some (stand.Committed c)
-            → IsTurn (ack_tally_turn c tally) t self.old self.new result }
+    /// What an acknowledgement made of a transaction that was taken away.
+    fn acked(&mut self, alloc: Global, t: TxId, acked: Acked) -> DeskTurn
+        requires { standing self.old t ≡ Some stand.Away }
+        ensures { (x : Turn) (desk : List (ℕ × Stand)) → IsAcked x acked → is_some (standing desk t) ≡ true
+            → self.old ≡ changed t (Keeps stand.Away) desk → IsTurn x t desk self.new result }
     {
-        match tally {
-            AckTally::More(acks) => {
-                self.more_acks(t, acks);
+        match acked {
+            Acked::More(tx) => {
+                self.put(t, Stand::Committed(tx));
                 DeskTurn::Outs(Vec::new(alloc))
             }
-            AckTally::Last(outs) => match self.take(t) {
-                Some(Stand::Committed(tx)) => {
-                    let closing = tx.last();
-                    let rec = Record::Closed { t: closing.t };
-                    let due = Due::Close(closing);
-                    DeskTurn::Due(DeskDue { t, due, outs }, rec)
-                }
-                _ => DeskTurn::Outs(outs),
-            },
+            Acked::Last(tx, rec) => {
+                let (closing, outs) = tx.part(alloc);
+                let due = Due::Close(closing);
+                DeskTurn::Due(DeskDue { t, due, outs }, rec)
+            }
         }
     }
 }

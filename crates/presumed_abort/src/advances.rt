@@ -10,11 +10,12 @@ ghost use Rattle.grid_model.specs.Advances.{advance_end, owns, advance, prepares
 ghost use Rattle.presumed_abort.specs.Replies.{advanced, gone_on, begin_turn, taken_turn};
 ghost use Rattle.presumed_abort.specs.Becoming.{becomes_change, step_turn};
 
-use crate::opens::{Open, OpenRef, at_begin, with_reply};
+use crate::opens::{OpenRef, at_begin, with_reply};
 use crate::parts::Parts;
 use crate::prepares::push_prepares;
-use crate::requests::{holders_of, place_behind, push_request};
-use grid_model::{Act, Out, Progress, ReadRep};
+use crate::requests::{holders_of, place_behind, push_request, request};
+use crate::states::Reading;
+use grid_model::{Act, Out, Progress};
 use placement::Cluster;
 use score_base::{Ident, Memory, TxId, Value, push};
 use script_lang::{Reads, Script, is_update};
@@ -61,18 +62,12 @@ fn push_owns(outs: &mut Vec<Out>, t: TxId, i: u8, reads: &[(u8, Value)]) -> Resu
 }
 
 /// Adds the request of operation `j`, to the first holder of its key.
-fn read_on(
-    alloc: Global,
-    outs: &mut Vec<Out>,
-    cluster: &Cluster,
-    tx: &OpenRef,
-    j: u8,
-) -> Result<Becomes, Memory>
+fn read_on(outs: &mut Vec<Out>, cluster: &Cluster, tx: &OpenRef, j: u8) -> Result<Becomes, Memory>
     ensures outs { OnOk result (outs.new.items ≡ outs.old.items ++ advance_end cluster.now tx.now (Some j)) }
     ensures becomes { IfOk result (λ x.
         (t : TxId) → becomes_change t tx.now x ≡ advanced cluster.now t tx.now (Some j)) }
 {
-    push_request(alloc, outs, cluster, tx, j, 0)?;
+    push_request(outs, request(cluster, tx, j, 0))?;
     let turn = place_behind(holders_of(cluster, tx, j), tx.progress.turn);
     Ok(Becomes::Reads(j, turn))
 }
@@ -115,7 +110,7 @@ pub(crate) fn advance(
     let trail = walk(alloc, script, progress.values.as_slice())?;
     push_owns(outs, script.number, i, trail.own.as_slice())?;
     match trail.waiting {
-        Some(j) => read_on(alloc, outs, cluster, tx, j),
+        Some(j) => read_on(outs, cluster, tx, j),
         None => end_on(alloc, outs, cluster, tx, &trail.mine),
     }
 }
@@ -147,23 +142,29 @@ pub(crate) fn begin(
     })
 }
 
-/// A reply to the operation for which the transaction waits.
+/// The reply for which the transaction waits.
 pub(crate) fn take_reply(
     alloc: Global,
     cluster: &Cluster,
-    tx: &Open,
-    q: &ReadRep,
+    tx: &Reading,
+    value: Value,
+    sid: Ident,
 ) -> Result<Step, Memory>
-    ensures { IfOk result (λ y. step_turn q.now.t tx.now.script y ≡ taken_turn cluster.now q.now tx.now) }
+    ensures { IfOk result (λ y.
+        step_turn tx.now.tx.script.number tx.now.tx.script y ≡ taken_turn cluster.now value sid tx.now) }
 {
-    let progress = with_reply(&tx.progress, q)?;
+    let (script, op) = (&tx.tx.script, tx.op);
+    let progress = with_reply(&tx.tx.progress, op, sid, value)?;
     let next = OpenRef {
-        script: &tx.script,
+        script,
         progress: &progress,
     };
     let mut outs = Vec::new(alloc);
-    push(&mut outs, Out::Act(Act::Taken(q.t, q.op, q.sid, q.value)))?;
-    let becomes = advance(alloc, &mut outs, cluster, &next, q.op)?;
+    push(
+        &mut outs,
+        Out::Act(Act::Taken(script.number, op, sid, value)),
+    )?;
+    let becomes = advance(alloc, &mut outs, cluster, &next, op)?;
     Ok(Step {
         progress,
         becomes,

@@ -20,7 +20,8 @@ pub enum Due {
     Close(Closing),
 }
 
-/// A change that waits for its record to be kept, with its outs. It must be spent.
+/// A change that waits for its record to be kept, with its outs, which its state has given up to it. It must be
+/// spent.
 pub struct DeskDue {
     pub(crate) t: TxId,
     pub(crate) due: Due,
@@ -39,22 +40,28 @@ impl DeskDue {
     ghost use Rattle.presumed_abort.specs.Dues.{IsOf, change_due};
 
     /// Makes the change, whose record is kept, in the transaction's place at the desk, and gives the
-    /// outs. It takes no memory.
-    pub fn release(self, desk: &mut Desk, kept: Kept) -> Vec<Out>
+    /// outs, and the record for the store. It takes no memory.
+    pub fn release(self, desk: &mut Desk, kept: Kept) -> (Vec<Out>, Record)
         requires of { IsOf self.due kept.rec }
         requires place { standing desk.old self.t ≡ Some stand.Away }
-        ensures outs { result.items ≡ self.outs.items }
+        ensures outs { result.0.items ≡ self.outs.items }
+        ensures rec { result.1 ≡ kept.rec }
         ensures desk { desk.new ≡ changed self.t (change_due self.due) desk.old }
     {
         let DeskDue { t, due, outs } = self;
-        match due {
-            Due::Commit(ready) => desk.put(t, Stand::Committed(ready.commit(kept))),
-            Due::Close(closing) => {
-                closing.close(kept);
-                desk.remove(t);
+        let rec = match due {
+            Due::Commit(ready) => {
+                let (tx, _none, rec) = ready.commit(kept);
+                desk.put(t, Stand::Committed(tx));
+                rec
             }
-        }
-        outs
+            Due::Close(closing) => {
+                let (_none, rec) = closing.close(kept);
+                desk.remove(t);
+                rec
+            }
+        };
+        (outs, rec)
     }
 
     /// There is no change, since the journal stopped at its record, and the node with it.
@@ -67,10 +74,11 @@ impl DeskDue {
                     f: _,
                     parts: _,
                     acks: _,
+                    outs: _,
                 } = ready;
             }
             Due::Close(closing) => {
-                let Closing { t: _ } = closing;
+                let Closing { t: _, outs: _ } = closing;
             }
         }
     }

@@ -23,6 +23,7 @@ mod retries;
 mod stands;
 mod states;
 mod tallies;
+mod turns;
 mod votes;
 
 pub use desks::Desk;
@@ -36,3 +37,5 @@ pub use opens::Open;
 pub use parts::Parts;
 pub use stands::Stand;
 pub use states::{Aborted, Closing, Collecting, Committed, Reading, Ready};
+pub use tallies::{AckTally, Tally};
+pub use turns::{Acked, Then, Turn, Voted};

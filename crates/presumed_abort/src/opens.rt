@@ -3,8 +3,8 @@
 ghost use Rattle.std.specs.Prelude.{◌≡◌, IfOk};
 ghost use Rattle.grid_model.specs.Stories.{at_begin, with_value};
 
-use grid_model::{Progress, ReadRep};
-use score_base::{Ident, Members, Memory, TryCopy};
+use grid_model::Progress;
+use score_base::{Ident, Members, Memory, TryCopy, Value};
 use script_lang::Script;
 use std::alloc::Global;
 use std::marker::Model;
@@ -65,19 +65,24 @@ pub(crate) fn at_begin(alloc: Global, sid0: Ident) -> Progress
 }
 
 /// How far a transaction came that takes this reply; the first one fixes its snapshot.
-pub(crate) fn with_reply(progress: &Progress, q: &ReadRep) -> Result<Progress, Memory>
-    ensures { IfOk result (λ x. x ≡ with_value q.now.op q.now.sid q.now.value progress.now) }
+pub(crate) fn with_reply(
+    progress: &Progress,
+    op: u8,
+    sid: Ident,
+    value: Value,
+) -> Result<Progress, Memory>
+    ensures { IfOk result (λ x. x ≡ with_value op sid value progress.now) }
 {
-    let sid = match progress.sid {
-        None => q.sid,
+    let snapshot = match progress.sid {
+        None => sid,
         Some(first) => first,
     };
     let mut values = progress.values.copy()?;
-    values.push((q.op, q.value))?;
+    values.push((op, value))?;
     Ok(Progress {
         sid0: progress.sid0,
         turn: 0,
-        sid: Some(sid),
+        sid: Some(snapshot),
         values,
         votes: progress.votes.copy()?,
     })

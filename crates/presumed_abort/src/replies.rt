@@ -1,41 +1,33 @@
 //! A begin and a read reply at a desk.
 
-ghost use Rattle.std.specs.Prelude.{◌≡◌, nat_eq, Some, None, is_some, true, IfOk, OnOk, OnErr};
+ghost use Rattle.std.specs.Prelude.{◌≡◌, Some, None, is_some, true, IfOk, OnOk, OnErr};
 ghost use Rattle.presumed_abort.specs.Stands.{standing};
 ghost use Rattle.presumed_abort.specs.Turns.{changed};
-ghost use Rattle.presumed_abort.specs.Becoming.{becomes_change, change_of, with_progress};
-ghost use Rattle.presumed_abort.specs.Replies.{begin_turn, reply_turn};
+ghost use Rattle.presumed_abort.specs.Becoming.{change_of};
+ghost use Rattle.presumed_abort.specs.Typed.{change_then};
+ghost use Rattle.presumed_abort.specs.Replies.{begin_turn, taken_turn, reply_turn};
 ghost use Rattle.presumed_abort.specs.Dues.{IsDone};
-ghost use Rattle.presumed_abort.specs.declared.advances.Becomes.TheVariants as becomes;
 ghost use Rattle.presumed_abort.specs.declared.states.Reading.{Reading};
 ghost use Rattle.presumed_abort.specs.declared.stands.Stand.TheVariants as stand;
 
-use crate::advances::{Becomes, Step, begin, take_reply};
 use crate::desks::Desk;
-use crate::opens::Open;
-use crate::parts::Parts;
 use crate::stands::Stand;
-use crate::states::{Collecting, Reading};
-use grid_model::{Out, Progress, ReadRep};
+use crate::states::Reading;
+use crate::turns::{Then, Turn};
+use grid_model::{Out, ReadRep};
 use placement::Cluster;
 use score_base::{Ident, Memory, TxId};
 use script_lang::Script;
 use std::alloc::Global;
 
-/// Where a transaction stands that begins, and becomes this; none where it is over.
-fn begun(script: Script, progress: Progress, becomes: Becomes) -> Option<Stand>
-    ensures { change_of result
-        ≡ becomes_change script.number (record { script = script; progress = progress }) becomes }
+/// Where a transaction stands that becomes this; none where it is over.
+fn stand_of(goes: Then) -> Option<Stand>
+    ensures { change_of result ≡ change_then goes }
 {
-    let t = script.number;
-    let mut tx = Open { script, progress };
-    match becomes {
-        Becomes::Reads(op, turn) => {
-            tx.progress.turn = turn;
-            Some(Stand::Reading(Reading { tx, op }))
-        }
-        Becomes::Collects(parts) => Some(Stand::Collecting(Collecting { t, tx, parts })),
-        Becomes::Ends => None,
+    match goes {
+        Then::Ask(tx) => Some(Stand::Reading(tx)),
+        Then::Collect(tx) => Some(Stand::Collecting(tx)),
+        Then::Answered(_) => None,
     }
 }
 
@@ -55,13 +47,13 @@ impl Desk {
         ensures err { OnErr result (self.new ≡ self.old) }
     {
         let t = script.number;
-        let Step {
-            progress,
-            becomes,
-            outs,
-        } = begin(alloc, cluster, &script, sid0)?;
-        self.admit(t, begun(script, progress, becomes))?;
-        Ok(outs)
+        match Reading::start(alloc, cluster, script, sid0) {
+            Ok(Turn { outs, goes }) => {
+                self.admit(t, stand_of(goes))?;
+                Ok(outs)
+            }
+            Err(_) => Err(Memory),
+        }
     }
 
     /// The transaction comes to the desk behind all others, where it stands somewhere.
@@ -97,49 +89,41 @@ impl Desk {
         if tx.op != q.op {
             return Ok(Vec::new(alloc));
         }
-        let Step {
-            progress,
-            becomes,
-            outs,
-        } = take_reply(alloc, cluster, &tx.tx, q)?;
-        self.go_on(q.t, progress, becomes);
-        Ok(outs)
+        self.go_on(alloc, cluster, q)
     }
 
-    /// A transaction that is reading came so far, and becomes this.
-    fn go_on(&mut self, t: TxId, progress: Progress, becomes: Becomes)
-        requires { is_some (standing self.old t) ≡ true }
-        ensures { (r : Reading) → standing self.old t ≡ Some (stand.Reading r)
-            → self.new ≡ changed t (becomes_change t (with_progress progress r.tx) becomes) self.old }
+    /// The reply that a transaction waits for.
+    fn go_on(&mut self, alloc: Global, cluster: &Cluster, q: &ReadRep) -> Result<Vec<Out>, Memory>
+        requires { is_some (standing self.old q.now.t) ≡ true }
+        ensures turn { (r : Reading) → standing self.old q.now.t ≡ Some (stand.Reading r)
+            → IfOk result (λ outs.
+            IsDone (taken_turn cluster.now q.now.value q.now.sid r) q.now.t self.old self.new outs.items) }
+        ensures err { (r : Reading) → standing self.old q.now.t ≡ Some (stand.Reading r)
+            → OnErr result (self.new ≡ self.old) }
     {
-        match becomes {
-            Becomes::Reads(op, turn) => self.read_on(t, progress, op, turn),
-            Becomes::Collects(parts) => self.collect_on(t, progress, parts),
-            Becomes::Ends => self.remove(t),
+        let Some(Stand::Reading(tx)) = self.take(q.t) else {
+            return Ok(Vec::new(alloc));
+        };
+        match tx.take(alloc, cluster, q.value, q.sid) {
+            Ok(Turn { outs, goes }) => {
+                self.settle(q.t, stand_of(goes));
+                Ok(outs)
+            }
+            Err((tx, memory)) => {
+                self.put(q.t, Stand::Reading(tx));
+                Err(memory)
+            }
         }
     }
 
-    /// A transaction that is reading came so far, and reads this operation; that holder is asked next.
-    fn read_on(&mut self, t: TxId, progress: Progress, op: u8, turn: usize)
+    /// A transaction that was taken away stands so in its place, or is taken out.
+    fn settle(&mut self, t: TxId, stand: Option<Stand>)
         requires { is_some (standing self.old t) ≡ true }
-        ensures { (r : Reading) → standing self.old t ≡ Some (stand.Reading r)
-            → self.new ≡ changed t (becomes_change t (with_progress progress r.tx) (becomes.Reads op turn)) self.old }
+        ensures { self.new ≡ changed t (change_of stand) self.old }
     {
-        let mut progress = progress;
-        progress.turn = turn;
-        if let Some(Stand::Reading(tx)) = self.take(t) {
-            self.put(t, Stand::Reading(tx.next(progress, op)));
-        }
-    }
-
-    /// A transaction that is reading came so far, and collects the votes of these parts.
-    fn collect_on(&mut self, t: TxId, progress: Progress, parts: Parts)
-        requires { is_some (standing self.old t) ≡ true }
-        ensures { (r : Reading) → standing self.old t ≡ Some (stand.Reading r)
-            → self.new ≡ changed t (becomes_change t (with_progress progress r.tx) (becomes.Collects parts)) self.old }
-    {
-        if let Some(Stand::Reading(tx)) = self.take(t) {
-            self.put(t, Stand::Collecting(tx.collect(t, progress, parts)));
+        match stand {
+            Some(stand) => self.put(t, stand),
+            None => self.remove(t),
         }
     }
 }

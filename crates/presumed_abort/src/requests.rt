@@ -1,20 +1,20 @@
 //! The read request of a home.
 
-ghost use Rattle.std.specs.Prelude.{◌≡◌, ◌++◌, OnOk, IfOk, slice_get};
+ghost use Rattle.std.specs.Prelude.{◌≡◌, ◌++◌, OnOk, slice_get};
 ghost use Rattle.std.specs.Option.{option_copied};
-ghost use Rattle.placement.specs.Places.{preferred};
+ghost use Rattle.placement.specs.Places.{others, preferred};
 ghost use Rattle.script_runs.specs.Walks.{op_at};
-ghost use Rattle.grid_model.specs.Advances.{date_by, to_node, request_of, request};
+ghost use Rattle.grid_model.specs.Advances.{date_by, request_of, request};
 ghost use Rattle.grid_model.specs.Stories.{place_behind};
-ghost use Rattle.presumed_abort.specs.Replies.{holders_of};
+ghost use Rattle.presumed_abort.specs.Replies.{holders_of, request_sent};
 
 use crate::opens::OpenRef;
 use grid_model::{Message, Out, ReadReq};
+use journal_words::records::is_among;
 use placement::Cluster;
 use score_base::{Date, Ident, Key, Memory, NodeId, push};
 use script_lang::{Op, key_of};
 use script_runs::op_at;
-use std::alloc::Global;
 
 /// How a read is dated: the first by the identifier of the begin, a later one by the snapshot.
 fn date_by(sid0: Ident, sid: Option<Ident>) -> Date
@@ -26,84 +26,88 @@ fn date_by(sid0: Ident, sid: Option<Ident>) -> Date
     }
 }
 
-/// Adds a message to the node, where there is one.
-fn push_to(outs: &mut Vec<Out>, to: Option<NodeId>, message: Message) -> Result<(), Memory>
-    ensures { OnOk result (outs.new.items ≡ outs.old.items ++ to_node to message) }
+/// The node at this place of the nodes but for one.
+fn other_at(but: NodeId, nodes: &[NodeId], place: usize) -> Option<NodeId>
+    ensures { result ≡ slice_get (others but nodes.now) place }
 {
-    match to {
-        None => Ok(()),
-        Some(n) => push(outs, Out::Send(n, message)),
+    let mut left = place;
+    for node in nodes {
+        if *node != but {
+            if left == 0 {
+                return Some(*node);
+            }
+            left -= 1;
+        }
     }
+    None
 }
 
 /// The holder of a key at this place of the order that the home prefers.
-fn holder_at(
-    alloc: Global,
-    cluster: &Cluster,
-    home: NodeId,
-    key: &Key,
-    place: usize,
-) -> Result<Option<NodeId>, Memory>
-    ensures { IfOk result (λ to. to ≡ slice_get (preferred cluster.now.places home key.now) place) }
+fn holder_at(cluster: &Cluster, home: NodeId, key: &Key, place: usize) -> Option<NodeId>
+    ensures { result ≡ slice_get (preferred cluster.now.places home key.now) place }
 {
-    let nodes = cluster.places.preferred(alloc, home, key)?;
-    Ok(nodes.as_slice().get(place).copied())
+    let holders = cluster.places.holders(key);
+    if !is_among(home, holders) {
+        return holders.get(place).copied();
+    }
+    if place == 0 {
+        return Some(home);
+    }
+    other_at(home, holders, place - 1)
 }
 
-/// Adds the request of an operation, where there is one, to the holder of its key at this place of
-/// the order that the home prefers.
-fn push_request_of(
-    alloc: Global,
-    outs: &mut Vec<Out>,
+/// The request of an operation, where there is one, to the holder of its key at this place of the order
+/// that the home prefers.
+fn request_of(
     cluster: &Cluster,
     tx: &OpenRef,
     j: u8,
     place: usize,
     op: Option<&Op>,
-) -> Result<(), Memory>
-    ensures { OnOk result
-        (outs.new.items ≡ outs.old.items ++ request_of cluster.now tx.now j place (option_copied op.entry)) }
+) -> Option<(NodeId, ReadReq)>
+    ensures { request_sent result ≡ request_of cluster.now tx.now j place (option_copied op.entry) }
 {
     let Some(op) = op else {
-        return Ok(());
+        return None;
     };
     let (script, progress) = (tx.script, tx.progress);
-    let (t, key) = (script.number, key_of(op));
-    let date = date_by(progress.sid0, progress.sid);
-    let to = holder_at(alloc, cluster, script.home, &key, place)?;
-    push_to(
-        outs,
-        to,
-        Message::ReadReq(ReadReq {
-            t,
-            op: j,
-            key,
-            date,
-        }),
-    )
+    let key = key_of(op);
+    let Some(to) = holder_at(cluster, script.home, &key, place) else {
+        return None;
+    };
+    let q = ReadReq {
+        t: script.number,
+        op: j,
+        key,
+        date: date_by(progress.sid0, progress.sid),
+    };
+    Some((to, q))
 }
 
-/// Adds the request of operation `j`, to the holder of its key at this place of the order that the
-/// home prefers.
-pub(crate) fn push_request(
-    alloc: Global,
-    outs: &mut Vec<Out>,
+/// The request of operation `j`, to the holder of its key at this place of the order that the home
+/// prefers.
+pub(crate) fn request(
     cluster: &Cluster,
     tx: &OpenRef,
     j: u8,
     place: usize,
-) -> Result<(), Memory>
-    ensures { OnOk result (outs.new.items ≡ outs.old.items ++ request cluster.now tx.now j place) }
+) -> Option<(NodeId, ReadReq)>
+    ensures { request_sent result ≡ request cluster.now tx.now j place }
 {
-    push_request_of(
-        alloc,
-        outs,
-        cluster,
-        tx,
-        j,
-        place,
-        op_at(tx.script.ops(), j),
-    )
+    request_of(cluster, tx, j, place, op_at(tx.script.ops(), j))
+}
+
+/// Adds a request, where there is one.
+pub(crate) fn push_request(
+    outs: &mut Vec<Out>,
+    request: Option<(NodeId, ReadReq)>,
+) -> Result<(), Memory>
+    ensures { OnOk result (outs.new.items ≡ outs.old.items ++ request_sent request) }
+{
+    let Some((to, q)) = request else {
+        return Ok(());
+    };
+    push(outs, Out::Send(to, Message::ReadReq(q)))
 }
 
 /// How many nodes hold the key of operation `j`.

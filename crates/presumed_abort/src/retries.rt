@@ -1,12 +1,10 @@
 //! What a desk sends again, and what it answers where it is asked.
 
-ghost use Rattle.std.specs.Prelude.{◌≡◌, ◌++◌, nat_eq, Some, is_some, true, IfOk, OnOk, OnErr};
-ghost use Rattle.indexmap.specs.IndexMap.{insert_entry};
+ghost use Rattle.std.specs.Prelude.{◌≡◌, ◌<◌, ◌++◌, [], Some, is_some, true, IfOk, OnErr, vec_len, vec_capacity};
 ghost use Rattle.grid_model.specs.Advances.{request, prepares};
 ghost use Rattle.grid_model.specs.Rows.{tells, not_voted, not_among};
 ghost use Rattle.presumed_abort.specs.Stands.{standing};
-ghost use Rattle.presumed_abort.specs.Becoming.{with_turn};
-ghost use Rattle.presumed_abort.specs.Replies.{with_asked};
+ghost use Rattle.presumed_abort.specs.Replies.{request_sent};
 ghost use Rattle.presumed_abort.specs.Retries.{retry_turn, asked_again, told_of};
 ghost use Rattle.presumed_abort.specs.Dues.{IsDone};
 ghost use Rattle.presumed_abort.specs.declared.states.Reading.{Reading};
@@ -16,10 +14,9 @@ ghost use Rattle.score_base.specs.declared.causes.Outcome.TheVariants as outcome
 use crate::counts::{not_among, not_voted, push_tells};
 use crate::desks::Desk;
 use crate::prepares::push_prepares_again;
-use crate::requests::{holders_of, place_behind, push_request};
 use crate::stands::Stand;
-use crate::states::{Collecting, Committed, Reading};
-use grid_model::{Message, Out};
+use crate::states::{Collecting, Committed};
+use grid_model::{Message, Out, ReadReq};
 use placement::Cluster;
 use score_base::{Memory, NodeId, Outcome, TxId, push};
 use std::alloc::Global;
@@ -46,19 +43,23 @@ fn tell_again(alloc: Global, tx: &Committed) -> Result<Vec<Out>, Memory>
     Ok(outs)
 }
 
-/// The request of a read, for the holder whose turn it is.
-fn request_again(alloc: Global, cluster: &Cluster, tx: &Reading) -> Result<Vec<Out>, Memory>
-    ensures { IfOk result (λ outs. outs.items ≡ request cluster.now tx.now.tx tx.now.op tx.now.tx.progress.turn) }
+/// Adds a request, where there is one, in its room.
+fn put_request(outs: &mut Vec<Out>, request: Option<(NodeId, ReadReq)>)
+    requires { vec_len outs.old < vec_capacity outs.old }
+    ensures { outs.new.items ≡ outs.old.items ++ request_sent request }
+{
+    if let Some((to, q)) = request {
+        let _ = outs.push(Out::Send(to, Message::ReadReq(q)));
+    }
+}
+
+/// Room for one out.
+fn room_for_one(alloc: Global) -> Result<Vec<Out>, Memory>
+    ensures none { IfOk result (λ outs. outs.items ≡ []) }
+    ensures room { IfOk result (λ outs. vec_len outs < vec_capacity outs) }
 {
     let mut outs = Vec::new(alloc);
-    push_request(
-        alloc,
-        &mut outs,
-        cluster,
-        &tx.tx.lend(),
-        tx.op,
-        tx.tx.progress.turn,
-    )?;
+    outs.reserve(1)?;
     Ok(outs)
 }
 
@@ -74,29 +75,28 @@ impl Desk {
             Some(Stand::Away) => Ok(Vec::new(alloc)),
             Some(Stand::Collecting(tx)) => prepare_again(alloc, cluster, tx),
             Some(Stand::Committed(tx)) => tell_again(alloc, tx),
-            Some(Stand::Reading(tx)) => {
-                let outs = request_again(alloc, cluster, tx)?;
-                if !outs.is_empty() {
-                    let turn = place_behind(
-                        holders_of(cluster, &tx.tx.lend(), tx.op),
-                        tx.tx.progress.turn,
-                    );
-                    self.turn_to(t, turn);
-                }
-                Ok(outs)
-            }
+            Some(Stand::Reading(_)) => self.ask_again(alloc, cluster, t),
         }
     }
 
-    /// This holder is asked next.
-    fn turn_to(&mut self, t: TxId, turn: usize)
+    /// The request of a read, for the holder whose turn it is.
+    fn ask_again(&mut self, alloc: Global, cluster: &Cluster, t: TxId) -> Result<Vec<Out>, Memory>
         requires { is_some (standing self.old t) ≡ true }
-        ensures { (r : Reading) → standing self.old t ≡ Some (stand.Reading r)
-            → self.new ≡ insert_entry nat_eq self.old t (stand.Reading (with_turn turn r)) }
+        ensures turn { (r : Reading) → standing self.old t ≡ Some (stand.Reading r)
+            → IfOk result (λ outs.
+            IsDone (asked_again cluster.now r (request cluster.now r.tx r.op r.tx.progress.turn)) t self.old self.new
+            outs.items) }
+        ensures err { OnErr result (self.new ≡ self.old) }
     {
-        if let Some(Stand::Reading(tx)) = self.take(t) {
-            self.put(t, Stand::Reading(tx.turn_to(turn)));
-        }
+        let mut outs = room_for_one(alloc)?;
+        let Some(Stand::Reading(tx)) = self.take(t) else {
+            return Ok(outs);
+        };
+        let mut tx = tx;
+        let request = tx.again(cluster);
+        self.put(t, Stand::Reading(tx));
+        put_request(&mut outs, request);
+        Ok(outs)
     }
 
     /// What is answered where `from` asks how the transaction ended: no record and no open transaction

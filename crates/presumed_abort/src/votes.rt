@@ -1,22 +1,23 @@
 //! Votes at a desk.
 
-ghost use Rattle.std.specs.Prelude.{◌≡◌, nat_eq, Some, is_some, true, IfOk, OnErr};
-ghost use Rattle.indexmap.specs.IndexMap.{insert_entry, shift_remove_entry};
+ghost use Rattle.std.specs.Prelude.{◌≡◌, ℕ, List, Some, is_some, true, false, IfOk, OnErr};
+ghost use Rattle.grid_model.specs.Stories.{has_voted};
 ghost use Rattle.presumed_abort.specs.Stands.{standing};
-ghost use Rattle.presumed_abort.specs.States.{with_votes};
 ghost use Rattle.presumed_abort.specs.Tallies.{tally_turn};
-ghost use Rattle.presumed_abort.specs.Turns.{vote_turn};
+ghost use Rattle.presumed_abort.specs.Turns.{Turn, Keeps, ballot_turn, changed, vote_turn};
+ghost use Rattle.presumed_abort.specs.Typed.{IsVoted};
 ghost use Rattle.presumed_abort.specs.Dues.{IsTurn};
 ghost use Rattle.presumed_abort.specs.declared.states.Collecting.{Collecting};
+ghost use Rattle.presumed_abort.specs.declared.stands.Stand.{Stand};
 ghost use Rattle.presumed_abort.specs.declared.stands.Stand.TheVariants as stand;
 
 use crate::counts::has_voted;
 use crate::desks::Desk;
 use crate::dues::{DeskDue, DeskTurn, Due};
 use crate::stands::Stand;
-use crate::tallies::{Tally, count};
-use grid_model::{Out, Voted};
-use score_base::{Ballot, Members, Memory, NodeId, Record, TxId};
+use crate::tallies::Tally;
+use crate::turns::Voted;
+use score_base::{Ballot, Memory, NodeId, TxId};
 use std::alloc::Global;
 
 impl Desk {
@@ -38,60 +39,56 @@ impl Desk {
         if has_voted(from, tx.tx.progress.votes.as_slice()) {
             return Ok(DeskTurn::Outs(Vec::new(alloc)));
         }
-        let tally = count(alloc, tx, from, ballot)?;
-        Ok(self.apply(alloc, t, tally))
+        let tally = tx.tally(alloc, from, ballot)?;
+        Ok(self.take_vote(alloc, from, t, ballot, tally))
     }
 
-    /// The transaction has these votes.
-    fn more(&mut self, t: TxId, votes: Members<Voted>)
-        requires { is_some (standing self.old t) ≡ true }
+    /// A vote that is the first of its node, on a transaction that collects, which was counted.
+    fn take_vote(
+        &mut self,
+        alloc: Global,
+        from: NodeId,
+        t: TxId,
+        ballot: &Ballot,
+        tally: Tally,
+    ) -> DeskTurn
+        requires there { is_some (standing self.old t) ≡ true }
+        requires first { (c : Collecting) → standing self.old t ≡ Some (stand.Collecting c)
+            → has_voted from c.tx.progress.votes ≡ false }
+        requires counted { (c : Collecting) → standing self.old t ≡ Some (stand.Collecting c)
+            → tally_turn c tally ≡ ballot_turn c from ballot.now }
         ensures { (c : Collecting) → standing self.old t ≡ Some (stand.Collecting c)
-            → self.new ≡ insert_entry nat_eq self.old t (stand.Collecting (with_votes votes c)) }
+            → IsTurn (ballot_turn c from ballot.now) t self.old self.new result }
     {
-        if let Some(Stand::Collecting(tx)) = self.take(t) {
-            self.put(t, Stand::Collecting(tx.more(votes)));
+        match self.take(t) {
+            Some(Stand::Collecting(tx)) => {
+                let voted = tx.vote(from, ballot, tally);
+                self.voted(alloc, t, voted)
+            }
+            _other => DeskTurn::Outs(Vec::new(alloc)),
         }
     }
 
-    /// The transaction is aborted and taken out, and these are given.
-    fn abort(&mut self, t: TxId, outs: Vec<Out>) -> Vec<Out>
-        requires { is_some (standing self.old t) ≡ true }
-        ensures desk { self.new ≡ shift_remove_entry (nat_eq t) self.old }
-        ensures outs { result.items ≡ outs.items }
+    /// What a vote made of a transaction that was taken away.
+    fn voted(&mut self, alloc: Global, t: TxId, voted: Voted) -> DeskTurn
+        requires { standing self.old t ≡ Some stand.Away }
+        ensures { (x : Turn) (desk : List (ℕ × Stand)) → IsVoted x voted → is_some (standing desk t) ≡ true
+            → self.old ≡ changed t (Keeps stand.Away) desk → IsTurn x t desk self.new result }
     {
-        let told = match self.take(t) {
-            Some(Stand::Collecting(tx)) => tx.refused(outs).told(),
-            _other => outs,
-        };
-        self.remove(t);
-        told
-    }
-
-    /// What a vote that was counted makes of its transaction.
-    fn apply(&mut self, alloc: Global, t: TxId, tally: Tally) -> DeskTurn
-        requires { is_some (standing self.old t) ≡ true }
-        ensures { (c : Collecting) → standing self.old t ≡ Some (stand.Collecting c)
-            → IsTurn (tally_turn c tally) t self.old self.new result }
-    {
-        match tally {
-            Tally::No(outs) => DeskTurn::Outs(self.abort(t, outs)),
-            Tally::More(votes) => {
-                self.more(t, votes);
+        match voted {
+            Voted::More(tx) => {
+                self.put(t, Stand::Collecting(tx));
                 DeskTurn::Outs(Vec::new(alloc))
             }
-            Tally::Full(f, parts, acks, outs) => match self.take(t) {
-                Some(Stand::Collecting(tx)) => {
-                    let ready = tx.full(f, acks);
-                    let rec = Record::Decided {
-                        t: ready.t,
-                        f,
-                        parts: parts.into_list(),
-                    };
-                    let due = Due::Commit(ready);
-                    DeskTurn::Due(DeskDue { t, due, outs }, rec)
-                }
-                _ => DeskTurn::Outs(outs),
-            },
+            Voted::Full(tx, rec) => {
+                let (ready, outs) = tx.part(alloc);
+                let due = Due::Commit(ready);
+                DeskTurn::Due(DeskDue { t, due, outs }, rec)
+            }
+            Voted::Refused(tx) => {
+                self.remove(t);
+                DeskTurn::Outs(tx.told())
+            }
         }
     }
 }

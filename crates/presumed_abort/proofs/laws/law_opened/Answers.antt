@@ -1,5 +1,4 @@
 use Rattle.std.proofs.Common.{refl, arith}
-use Rattle.grid_model.specs.Views.{View}
 use Rattle.presumed_abort.specs.Views.{opened_view}
 use Rattle.presumed_abort.proofs.Replayed.{opened-desk, decided-distinct}
 use Rattle.presumed_abort.proofs.laws.law_opened.Goals as goal
