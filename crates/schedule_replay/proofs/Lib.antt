@@ -1,10 +1,7 @@
 pub mod ForCode
 pub mod Told
 pub mod Clocks
-pub mod Counts
-pub mod Posts
-pub mod Shorts
-pub mod Reopened
+pub mod Retries
 pub mod Openings
 pub mod Events
 pub mod Ranges

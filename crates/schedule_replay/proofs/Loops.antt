@@ -11,9 +11,8 @@ use Rattle.grid_model.specs.Histories.{after}
 use Rattle.grid_model.specs.Schedules.{start_row, start_act, events_in}
 use Rattle.grid_laws.specs.CalmRuns.{played, plays}
 use Rattle.schedule_replay.specs.Replays.{HasRoom}
-use Rattle.schedule_replay.proofs.Posts.{posts, holdings, sent-after, held-after}
 use Rattle.schedule_replay.proofs.Events.{plays-more, room-event, room-events, room-less}
-use Rattle.schedule_replay.proofs.ForCode.{after-append, length-events_in}
+use Rattle.schedule_replay.proofs.ForCode.{after-append, length-events_in, posts, holdings, sent-after, held-after}
 
 pub told-event : (d : DocumentData) (acts acts' : List Act) (x : Item) (es : List Item) (all : List Act)
     → acts' ≡ acts ++ played d (after [] acts) x → acts ++ plays d (after [] acts) (x ∷ es) ≡ all

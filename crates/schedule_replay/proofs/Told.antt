@@ -20,8 +20,8 @@ use Rattle.grid_model.specs.Views.{Open, open_of, Reads}
 use Rattle.script_runs.specs.Walks.{own_map}
 use Rattle.grid_model.specs.Advances.{parts_now, prepare_for, advance}
 use Rattle.grid_model.specs.Rows.{reply_outs}
-use Rattle.schedule_replay.specs.Numbering.{sends}
-use Rattle.schedule_replay.proofs.Counts.{counts-advance}
+use Rattle.schedule_replay.proofs.ForCode.{counts-advance}
+use Rattle.count_laws.specs.Few.{sends}
 
 -- the parts of the same places and keys
 pub parts-told : {E : Type 0} (r : Result (List NodeId) E) (p q : List (List NodeId)) (ks ls : List Key) → p ≡ q

@@ -6,7 +6,7 @@ ghost use Rattle.placement.specs.Clusters.{ClusterData};
 ghost use Rattle.grid_model.specs.Fitness.{is_fit_at, tx_in};
 ghost use Rattle.grid_model.specs.Rows.{message_outs, answer_at, begin_outs, retry_outs, ask_outs, ask_peer_outs};
 ghost use Rattle.grid_model.specs.Views.{stage_at, participant_of};
-ghost use Rattle.schedule_replay.specs.Numbering.{sends};
+ghost use Rattle.count_laws.specs.Few.{sends};
 ghost use Rattle.schedule_replay.specs.Stages.{shown, parts_left};
 
 use crate::advances::{advance, push_prepares_again, push_request, push_to};

@@ -1,7 +1,7 @@
 //! The numbers of messages.
 ghost use Rattle.std.specs.Prelude.{◌≡◌, ◌+◌, ◌<◌, ◌^◌, ◌++◌, ◌∷◌, [], IfOk, OnOk};
 ghost use Rattle.grid_model.specs.Schedules.{numbered};
-ghost use Rattle.schedule_replay.specs.Numbering.{sends};
+ghost use Rattle.count_laws.specs.Few.{sends};
 
 use grid_model::{Act, Out};
 use score_base::{Memory, NodeId, push};

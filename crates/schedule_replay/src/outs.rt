@@ -5,7 +5,7 @@ ghost use Rattle.grid_model.specs.Views.{participant, view, stage};
 ghost use Rattle.grid_model.specs.Rows.{answer, begin_outs, retry_outs, ask_outs, ask_peer_outs};
 ghost use Rattle.grid_model.specs.Sessions.{floor_at};
 ghost use Rattle.run_state.specs.Kept.{past};
-ghost use Rattle.schedule_replay.specs.Numbering.{sends};
+ghost use Rattle.count_laws.specs.Few.{sends};
 ghost use Rattle.schedule_replay.specs.Replays.{HasRoom};
 
 use crate::answers::{answer, ask_outs, ask_peer_outs, begin_outs, retry_outs, tx_in};

@@ -6,7 +6,7 @@ ghost use Rattle.grid_model.specs.Stories.{story};
 ghost use Rattle.grid_model.specs.Schedules.{next_left, or_void, acts_of, begin_row, deliver_row, drop_row, next_row, retry_row, ask_row, ask_peer_row, compact_row, crash_row};
 ghost use Rattle.grid_model.specs.Voids.{void_code};
 ghost use Rattle.run_state.specs.Kept.{past};
-ghost use Rattle.schedule_replay.specs.Numbering.{sends};
+ghost use Rattle.count_laws.specs.Few.{sends};
 ghost use Rattle.grid_laws.specs.CalmRuns.{calm, played};
 ghost use Rattle.schedule_replay.specs.Replays.{HasRoom};
 

@@ -1,8 +1,8 @@
 use Rattle.std.proofs.Common.{◌+◌, length}
+use Rattle.schedule_replay.proofs.ForCode.{counts-row}
 use Rattle.schedule_replay.specs.Stages.{shown}
 use Rattle.grid_model.specs.Rows.{message_outs}
 use Rattle.grid_model.specs.Views.{participant_of}
-use Rattle.schedule_replay.proofs.Counts.{counts-row}
 use Rattle.schedule_replay.proofs.Told.{few-told}
 use Rattle.schedule_replay.proofs.answers.answer.Goals as goal
 

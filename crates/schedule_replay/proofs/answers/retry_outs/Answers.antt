@@ -1,9 +1,9 @@
 use Rattle.std.proofs.Common.{◌+◌, ◌≤◌, IfOk, length, subst}
 use Rattle.grid_model.specs.Rows.{retry_outs}
 use Rattle.grid_model.specs.Views.{Stage}
-use Rattle.schedule_replay.specs.Numbering.{sends}
+use Rattle.count_laws.specs.Few.{sends}
 use Rattle.schedule_replay.specs.Stages.{shown, parts_left}
-use Rattle.schedule_replay.proofs.Counts.{retry-few}
+use Rattle.schedule_replay.proofs.Retries.{retry-few}
 use Rattle.schedule_replay.proofs.Told.{few-told}
 use Rattle.schedule_replay.proofs.answers.retry_outs.Goals as goal
 

@@ -1,7 +1,7 @@
 use Rattle.std.proofs.Common.{◌≡◌, ◌+◌, ◌≤◌, ◌++◌}
 use Rattle.std.specs.Vec.Iter.{into_iter_items}
 use Rattle.grid_model.specs.Schedules.{numbered}
-use Rattle.schedule_replay.specs.Numbering.{sends}
+use Rattle.count_laws.specs.Few.{sends}
 use Rattle.schedule_replay.proofs.numbering.number_all.Given as goal
 
 abbrev pub invariant-loop-out : goal.invariant-loop-out

@@ -1,4 +1,4 @@
--- How many messages the outs of a row are, how many reads they hold, and that their acts are a node's own.
+-- How many messages the outs of a row are, how many reads they hold, and that no act among them is a message.
 use Rattle.std.proofs.Common.{◌≡◌, ℕ, ◌+◌, ◌≤◌, ◌&&◌, ◌==◌, Bool, true, false, List, [], ◌∷◌, ◌++◌, length, refl, Option, Some, None, arith, nat_lt, not, map, filter, if◌then◌else◌, is_some}
 use Rattle.std.specs.List.{list_any, range_with_len}
 use Rattle.std.proofs.lemmas.List.Filters.{length-filter_both}
@@ -35,8 +35,9 @@ use Rattle.grid_model.specs.Advances.{advance, advance_end, owns, request, reque
 use Rattle.script_runs.specs.Walks.{unread, own_reads}
 use Rattle.grid_model.specs.Fitness.{is_fit_at}
 use Rattle.grid_model.specs.Rows.{compact_outs, peer_outs, ask_peer_outs, first_ident, served, version_for, release, ceilings, raises, answered, read_outs, reply_outs, judged, prepared_outs, tells, decides, ballot_outs, vote_outs, are_all_among, closed_outs, ack_outs, asked_outs, commit_outs, abort_outs, freed_by, tell_outs, message_outs, answer_at, begun_at, begin_outs, not_voted, not_among, retry_outs, ask_outs, if_pending}
-use Rattle.schedule_replay.specs.Numbering.{sends}
-use Rattle.schedule_replay.specs.Stages.{parts_left}
+use Rattle.grid_model.specs.declared.acts.Head.{Head}
+use Rattle.grid_model.specs.Schedules.{head_of, kept, stopped, broken}
+use Rattle.count_laws.specs.Few.{sends}
 
 -- the reads that some outs hold
 abbrev pub helds : List Out → ℕ
@@ -44,13 +45,12 @@ helds [] = 0
 helds (out.Act (act.Held n t op sid) ∷ os) = 1 + helds os
 helds (o ∷ os) = helds os
 
--- an act that a node's row has: no message, no stop, no opening, no fuse
+-- an act that neither sends a message nor takes one away: a node's row has its messages as sends
 abbrev pub is_own : Act → Bool
 is_own (act.Sent m x y said) = false
-is_own (act.Armed n k how) = false
-is_own (act.Down n h) = false
-is_own (act.Up n f) = false
-is_own (act.StillDown n) = false
+is_own (act.Got m) = false
+is_own (act.Missed m) = false
+is_own (act.Dropped m) = false
 is_own a = true
 
 abbrev pub are_own : List Out → Bool
@@ -58,19 +58,19 @@ are_own [] = true
 are_own (out.Act a ∷ os) = is_own a && are_own os
 are_own (out.Send to said ∷ os) = are_own os
 
--- at most k messages, at most j reads held, and the acts are a node's own
+-- at most k messages, at most j reads held, and no act sends a message or takes one away
 pub record Counts (k j : ℕ) (outs : List Out) : Type 0 where
   pub sent : sends outs ≤ k
   pub held : helds outs ≤ j
   pub own : are_own outs ≡ true
 
-counts-none : (k j : ℕ) → Counts k j []
+pub counts-none : (k j : ℕ) → Counts k j []
 counts-none k j = record { sent = omega arith; held = omega arith; own = refl }
 
 pub counts-more : (k j k' j' : ℕ) (os : List Out) → k ≤ k' → j ≤ j' → Counts k j os → Counts k' j' os
 counts-more k j k' j' os p q c = record { sent = omega (arith, p, c.sent); held = omega (arith, q, c.held); own = c.own }
 
-counts-if : (b : Bool) (k j : ℕ) (xs ys : List Out) → Counts k j xs → Counts k j ys → Counts k j (if b then xs else ys)
+pub counts-if : (b : Bool) (k j : ℕ) (xs ys : List Out) → Counts k j xs → Counts k j ys → Counts k j (if b then xs else ys)
 counts-if true k j xs ys p q = p
 counts-if false k j xs ys p q = q
 
@@ -98,11 +98,11 @@ counts-append k j k' j' xs ys p q = record {
 }
 
 -- a message to each of these nodes
-counts-sends : (f : ℕ → Message) (ns : List ℕ) → Counts (length ns) 0 (map (λ n. out.Send n (f n)) ns)
+pub counts-sends : (f : ℕ → Message) (ns : List ℕ) → Counts (length ns) 0 (map (λ n. out.Send n (f n)) ns)
 counts-sends f [] = counts-none 0 0
 counts-sends f (n ∷ ns) = let p : Counts (length ns) 0 (map (λ m. out.Send m (f m)) ns) = counts-sends f ns in record { sent = omega (arith, p.sent); held = p.held; own = p.own }
 
-filter-short : {A : Type 0} (p : A → Bool) (xs : List A) → length (filter p xs) ≤ length xs
+pub filter-short : {A : Type 0} (p : A → Bool) (xs : List A) → length (filter p xs) ≤ length xs
 filter-short p xs = omega (arith, length-filter_both p (λ x. not (p x)) (λ x. refl) xs)
 
 rising-short : (p : ℕ → Bool) → length (rising_nodes p) ≤ 16
@@ -285,11 +285,43 @@ counts-ask_peer p t m = counts-if (is_some (pending t p.journal) && names_part t
 pub counts-compact : (n : ℕ) → Counts 0 0 (compact_outs n)
 counts-compact n = record { sent = omega arith; held = omega arith; own = refl }
 
--- a transaction that is decided is told to each of its parts, however many
-pub retry-few : (c : ClusterData) (t : ℕ) (s : Stage) → sends (retry_outs c t s) ≤ 16 + length (parts_left s)
-retry-few c t Apart = omega arith
-retry-few c t (Reads x j) = omega (arith, (counts-retry c t (Reads x j) (omega arith)).sent)
-retry-few c t (Collects x) = omega (arith, (counts-retry c t (Collects x) (omega arith)).sent)
-retry-few c t (Commits y acks) =
-    let told : sends (tells t (outcome.Commit y.final) (not_among y.parts acks)) ≤ length (not_among y.parts acks) = (counts-sends (λ n. message.Tell t (outcome.Commit y.final)) (not_among y.parts acks)).sent in
-    omega (arith, told, filter-short (λ n. not (is_among n acks)) y.parts)
+-- ---- outs that end where a record is not kept
+
+sends-broken : (n : ℕ) (os : List Out) → sends (broken n os) ≤ sends os
+sends-broken n [] = omega arith
+sends-broken n (out.Act a ∷ os) = go (head_of a) (sends-broken n os)
+  where
+    go : (h : Option Head) → sends (broken n os) ≤ sends os → sends (stopped n h (out.Act a) (broken n os)) ≤ sends os
+    go None p = p
+    go (Some h) p = omega arith
+sends-broken n (out.Send to said ∷ os) = omega (arith, sends-broken n os)
+
+-- an act that holds no read
+helds-stopped : (n : ℕ) (h : Option Head) (a : Act) (rest os : List Out)
+    → helds (out.Act a ∷ rest) ≡ helds rest → helds rest ≤ helds os → helds (stopped n h (out.Act a) rest) ≤ helds os
+helds-stopped n None a rest os same p = omega (arith, same, p)
+helds-stopped n (Some h) a rest os same p = omega arith
+
+helds-broken : (n : ℕ) (os : List Out) → helds (broken n os) ≤ helds os
+helds-broken n [] = omega arith
+helds-broken n (out.Act (act.Held m t op sid) ∷ os) = omega (arith, helds-broken n os)
+helds-broken n (out.Act a ∷ os) = helds-stopped n (head_of a) a (broken n os) os refl (helds-broken n os)
+helds-broken n (out.Send to said ∷ os) = helds-broken n os
+
+own-stopped : (n : ℕ) (h : Option Head) (a : Act) (rest : List Out) → is_own a ≡ true → are_own rest ≡ true
+    → are_own (stopped n h (out.Act a) rest) ≡ true
+own-stopped n None a rest p q = grind (arith, p, q)
+own-stopped n (Some h) a rest p q = refl
+
+own-broken : (n : ℕ) (os : List Out) → are_own os ≡ true → are_own (broken n os) ≡ true
+own-broken n [] e = refl
+own-broken n (out.Act a ∷ os) e = own-stopped n (head_of a) a (broken n os) (grind (arith, e)) (own-broken n os (grind (arith, e)))
+own-broken n (out.Send to said ∷ os) e = own-broken n os e
+
+pub counts-kept : (b : Bool) (k j n : ℕ) (os : List Out) → Counts k j os → Counts k j (kept b n os)
+counts-kept true k j n os c = c
+counts-kept false k j n os c = record {
+  sent = omega (arith, sends-broken n os, c.sent);
+  held = omega (arith, helds-broken n os, c.held);
+  own = own-broken n os c.own;
+}

@@ -16,7 +16,7 @@ use Rattle.journal_words.specs.Journals.{Decision, decision, is_closed, undone}
 use Rattle.grid_model.specs.Nodes.{Node, node, got, Change, Writes, Stops, Starts, where_at, change, changed, freed, written, found, prepared_by, prepared_from, record_of, doubt_of, parts_in, script_of, is_home, is_kept, is_request, said_by}
 use Rattle.grid_model.specs.Views.{Open, stage_by, open_stage}
 use Rattle.script_runs.specs.Waits.{waiting}
-use Rattle.schedule_replay.proofs.Counts.{IsShort, parts-short}
+use Rattle.count_laws.proofs.Counts.{IsShort, parts-short}
 
 -- a Decided has at most 16 parts
 abbrev IsShortRecord : Record → Type 0

@@ -8,7 +8,7 @@ use Rattle.grid_model.specs.Documents.{DocumentData, number_order, script_number
 use Rattle.grid_model.specs.Nodes.{script_of}
 use Rattle.grid_model.specs.Stories.{phase, is_open}
 use Rattle.grid_model.specs.Schedules.{lost_at, losses}
-use Rattle.schedule_replay.proofs.Posts.{posts, holdings}
+use Rattle.count_laws.proofs.Posts.{posts, holdings}
 
 abbrev pub are_lost : List Act → Bool
 are_lost [] = true

@@ -12,8 +12,8 @@ use Rattle.grid_model.specs.Documents.{DocumentData}
 use Rattle.grid_model.specs.Histories.{after, sent}
 use Rattle.grid_model.specs.Nodes.{Node, node, got, Change, Writes, Raises, Holds, Stops, Starts, Stays, where_at, change, changed, with_held, without_read, is_read, freed, held_by, is_request, said_by, is_home, prepared_by, parts_in, script_of, doubt_of, is_kept}
 use Rattle.grid_model.specs.Schedules.{numbered}
-use Rattle.schedule_replay.specs.Numbering.{sends}
-use Rattle.schedule_replay.proofs.Counts.{helds, is_own, are_own, Counts}
+use Rattle.count_laws.specs.Few.{sends}
+use Rattle.count_laws.proofs.Counts.{helds, is_own, are_own, Counts}
 
 -- how many messages these acts send, and how many reads they hold
 abbrev pub posts : List Act → ℕ
