@@ -6,6 +6,8 @@ use Rattle.score_base.specs.declared.records.Record.{Record}
 use Rattle.score_disk.specs.declared.disk.Disk.{Ghosts}
 use Rattle.node_journal.specs.declared.pair.Pair.{Pair}
 use Rattle.node_journal.specs.Calls.{lowered}
+use Rattle.node_journal.specs.Log.{generation}
+use Rattle.node_journal.specs.Torn.{LeavesVersion}
 use Rattle.node_journal.specs.Pairs.{in_order, LeavesPair, LeavesPairOneOf}
 use Rattle.node_journal.specs.PairDisks.{TellsBoth, IsPairAtRest, list_of}
 use Rattle.node_journal.specs.Spending.{Spent, Halted, Untouched}
@@ -61,6 +63,10 @@ module _ {D : Type 0} {g : Ghosts D} where
             (c.images (tells-then p m u t));
         early = λ t k is le. subst (λ rs. LeavesPair rs (g.file first) (g.file second)) u.list
             (c.early (tells-then p m u t) k (u.live.left ∙ is) le);
+        version = λ t. subst (λ b. LeavesVersion (generation (g.file p.live.disk).seen)
+            (g.file (in_order b (λ live _. live) first second))) u.second
+            (subst (λ f. LeavesVersion (generation f.seen) (g.file (in_order m.second (λ live _. live) first second)))
+            u.live.file (c.version (tells-then p m u t)));
         other = subst (λ b. in_order b (λ _ other. other) first second ≡ p.other) u.second (c.other ∙ u.other);
         halted = then-halted 4 p.live.disk m.live.disk (in_order p.second (λ live _. live) first second) u.live
             (subst (λ b. Halted g 4 m.live.disk (in_order b (λ live _. live) first second)) u.second c.halted);

@@ -6,7 +6,7 @@ use Rattle.score_disk.specs.declared.disk.Disk.{Ghosts}
 use Rattle.journal_words.specs.Small.{small_in_time}
 use Rattle.node_journal.specs.declared.journal.Journal.{Journal}
 use Rattle.node_journal.specs.declared.pair.Pair.{Pair}
-use Rattle.node_journal.specs.Pairs.{in_order, LeavesPair, LeavesPairOneOf}
+use Rattle.node_journal.specs.Pairs.{in_order, LeavesPair, LeavesPairOneOf, LeavesLog, LeavesLogOr}
 use Rattle.node_journal.specs.PairDisks.{TellsBoth, IsPairAtRest, list_of}
 use Rattle.node_journal.specs.Spending.{Spent, Halted, Untouched}
 use Rattle.grid_model.specs.declared.acts.Head.TheVariants as head
@@ -116,13 +116,17 @@ module _ {D : Type 0} {g : Ghosts D} where
   -- room was made on the other disk, and then a call failed
   pub then-small : (old : Node D g) (m : Pair D g) (first second : D) → m.live ≡ old.pair.live
       → Untouched g old.pair.other m.other → m.second ≡ old.pair.second → list_of m ≡ list_of old.pair
+      → m.number ≡ old.pair.number
       → (TellsBoth m → LeavesPairOneOf (list_of m) (small_in_time (list_of m)) (g.file first) (g.file second))
       → (TellsBoth m → (k : ℕ) → g.left m.other ≡ Some k → k ≤ 4
       → LeavesPair (list_of m) (g.file first) (g.file second))
+      → (TellsBoth m → LeavesLogOr (list_of m) m.number (small_in_time (list_of m)) (m.number + 1) (g.file first)
+      (g.file second)) → (TellsBoth m → (k : ℕ) → g.left m.other ≡ Some k → k ≤ 4
+      → LeavesLog (list_of m) m.number (g.file first) (g.file second))
       → in_order m.second (λ live _. live) first second ≡ m.live.disk
       → Halted g 8 m.other (in_order m.second (λ _ other. other) first second)
       → IsDown old event.Compact first second head.Compact
-  then-small old m first second live room turned list images early kept halted =
+  then-small old m first second live room turned list number images early logs early_logs kept halted =
       let p = old.pair in
       inr (
         refl,
@@ -134,6 +138,14 @@ module _ {D : Type 0} {g : Ghosts D} where
           early = λ t k is le.
               subst (λ rs. LeavesPair rs (g.file first) (g.file second)) list
               (early (tells-other p m live room t) k (room.left ∙ is) le);
+          stopped_log = λ t.
+              subst (λ k. LeavesLogOr (list_of p) k (small_in_time (list_of p)) (k + 1) (g.file first) (g.file second))
+              number (subst (λ rs. LeavesLogOr rs m.number (small_in_time rs) (m.number + 1) (g.file first)
+              (g.file second)) list (logs (tells-other p m live room t)));
+          early_log = λ t k is le.
+              subst (λ j. LeavesLog (list_of p) j (g.file first) (g.file second)) number
+              (subst (λ rs. LeavesLog rs m.number (g.file first) (g.file second)) list
+              (early_logs (tells-other p m live room t) k (room.left ∙ is) le));
           live =
               subst (λ b. in_order b (λ live _. live) first second ≡ p.live.disk) turned
               (kept ∙ ap (λ (j : Journal D g). j.disk) live);

@@ -9,8 +9,8 @@ use Rattle.score_disk.specs.Files.{synced, written}
 use Rattle.score_disk.specs.declared.disk.Disk.{Ghosts}
 use Rattle.node_journal.specs.declared.pair.Pair.{Pair}
 use Rattle.node_journal.specs.Pairs.{pair_log, second_lives}
-use Rattle.node_journal.specs.PairDisks.{IsPairAtRest, first_of, last_of, list_of}
-use Rattle.node_journal.specs.Spending.{Halted, Untouched}
+use Rattle.node_journal.specs.PairDisks.{PairFailed, IsPairAtRest, first_of, last_of, list_of}
+use Rattle.node_journal.specs.Spending.{Halted, Untouched, Opened as OpenedDisk}
 use Rattle.node_journal.specs.Torn.{LeavesAsBefore}
 use Rattle.placement.specs.Clusters.{ClusterData}
 use Rattle.journal_words.specs.Journals.{floor}
@@ -62,6 +62,7 @@ module _ {D : Type 0} (g : Ghosts D) where
     pub log : TellBoth g first second → pair_log (g.file first).seen (g.file second).seen ≡ Ok rs
     pub rest : TellBoth g first second → IsPairAtRest p rs
     pub disks : AreOpened g first second (first_of p) (last_of p)
+    pub first_only : TellBoth g first second → OpenedDisk g first (first_of p) × Untouched g second (last_of p)
     pub kept : TellBoth g first second
         → (second_lives (g.file first).seen (g.file second).seen ≡ true) ⊎ (2 < length (g.file first).seen)
         → Untouched g first (first_of p) × Untouched g second (last_of p)
@@ -80,6 +81,8 @@ module _ {D : Type 0} (g : Ghosts D) where
         log = λ t. of.log t ∙ ap Ok (sym is);
         rest = λ t. subst (IsPairAtRest node.pair) (sym is) (subst (λ q. IsPairAtRest q rs) (sym same) (of.rest t));
         disks = subst (λ q. AreOpened g first second (first_of q) (last_of q)) (sym same) of.disks;
+        first_only = λ t.
+            subst (λ q. OpenedDisk g first (first_of q) × Untouched g second (last_of q)) (sym same) (of.first_only t);
         kept = λ t how.
             subst (λ q. Untouched g first (first_of q) × Untouched g second (last_of q)) (sym same) (of.kept t how);
         anew = λ t live short.
@@ -109,8 +112,8 @@ module _ {D : Type 0} (g : Ghosts D) where
   pub failed-of : (first second a b : D)
       → (Halted g 2 first a × Untouched g second b) ⊎ (Untouched g first a × Halted g 2 second b)
       → (TellBoth g first second → LeavesAsBefore (g.file first) (g.file a) × (g.file b ≡ g.file second))
-      → HasFailed g first second a b
-  failed-of first second a b halted images = record { halted = halted; images = images }
+      → (TellBoth g first second → PairFailed g first second a b) → HasFailed g first second a b
+  failed-of first second a b halted images failed = record { halted = halted; images = images; failed = failed }
 
   pub no-memory : (first second a b : D) → Untouched g first a → Untouched g second b → AreOpened g first second a b
   no-memory first second a b one two = inl (inl one, two)

@@ -9,7 +9,7 @@ use Rattle.grid_store.specs.Replay.{IsReplayed, IsStrange}
 use Rattle.presumed_abort.specs.Views.{opened_view}
 use Rattle.node_journal.specs.declared.pair.Pair.{Pair}
 use Rattle.node_journal.specs.Pairs.{pair_log, second_lives}
-use Rattle.node_journal.specs.PairDisks.{IsPairAtRest, first_of, last_of, list_of}
+use Rattle.node_journal.specs.PairDisks.{PairFailed, IsPairAtRest, first_of, last_of, list_of}
 use Rattle.node_journal.specs.Spending.{Halted, Untouched, Opened as OpenedDisk}
 use Rattle.node_journal.specs.Torn.{LeavesAsBefore}
 use Rattle.node_core.specs.declared.nodes.Node.{Node}
@@ -36,6 +36,8 @@ module _ {D : Type 0} (g : Ghosts D) where
     pub log : TellBoth first second → pair_log (g.file first).seen (g.file second).seen ≡ Ok (list_of node.pair)
     pub rest : TellBoth first second → IsPairAtRest node.pair (list_of node.pair)
     pub disks : AreOpened first second (first_of node.pair) (last_of node.pair)
+    pub first_only : TellBoth first second
+        → OpenedDisk g first (first_of node.pair) × Untouched g second (last_of node.pair)
     pub kept : TellBoth first second
         → (second_lives (g.file first).seen (g.file second).seen ≡ true) ⊎ (2 < length (g.file first).seen)
         → Untouched g first (first_of node.pair) × Untouched g second (last_of node.pair)
@@ -48,6 +50,7 @@ module _ {D : Type 0} (g : Ghosts D) where
     pub halted : (Halted g 2 first first' × Untouched g second second') ⊎ (Untouched g first first' × Halted g 2 second second')
     pub images : TellBoth first second
         → LeavesAsBefore (g.file first) (g.file first') × (g.file second' ≡ g.file second)
+    pub failed : TellBoth first second → PairFailed g first second first' second'
 
   -- the live file is no gate log, from this place on
   pub record IsNotJournal (first second first' second' : D) (at : ℕ) : Type 0 where

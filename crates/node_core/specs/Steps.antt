@@ -6,7 +6,9 @@ use Rattle.score_disk.specs.declared.disk.Disk.{Ghosts}
 use Rattle.journal_words.specs.Participants.{written}
 use Rattle.journal_words.specs.Small.{small_in_time}
 use Rattle.node_journal.specs.declared.pair.Pair.{Pair}
-use Rattle.node_journal.specs.Pairs.{in_order, LeavesPair, LeavesPairOneOf}
+use Rattle.node_journal.specs.Pairs.{in_order, LeavesPair, LeavesPairOneOf, LeavesLog, LeavesLogOr}
+use Rattle.node_journal.specs.Log.{generation}
+use Rattle.node_journal.specs.Torn.{LeavesVersion}
 use Rattle.node_journal.specs.PairDisks.{TellsBoth, IsPairAtRest, list_of}
 use Rattle.node_journal.specs.Spending.{Spent, Halted, Untouched}
 use Rattle.grid_model.specs.declared.acts.Head.{Head}
@@ -116,11 +118,14 @@ module _ {D : Type 0} {g : Ghosts D} where
     pub moves : Moves e old new
 
   -- What a stop leaves where the record x was being written: each pair of images has the list before it, alone or
-  -- with the record behind it, and alone where the fuse stopped one of the first two calls.
+  -- with the record behind it, and alone where the fuse stopped one of the first two calls; and each image of the live
+  -- disk has its generation.
   pub record IsCut (p : Pair D g) (x : Record) (first second : D) : Type 0 where
     pub images : TellsBoth p → LeavesPairOneOf (list_of p) (list_of p ++ x ∷ []) (g.file first) (g.file second)
     pub early : TellsBoth p → (k : ℕ) → g.left p.live.disk ≡ Some k → k ≤ 2
         → LeavesPair (list_of p) (g.file first) (g.file second)
+    pub version : TellsBoth p → LeavesVersion (generation (g.file p.live.disk).seen)
+        (g.file (in_order p.second (λ live _. live) first second))
     pub other : in_order p.second (λ _ other. other) first second ≡ p.other
     pub halted : Halted g 4 p.live.disk (in_order p.second (λ live _. live) first second)
 
@@ -131,12 +136,16 @@ module _ {D : Type 0} {g : Ghosts D} where
     pub disks : IsCut old.pair x first second
 
   -- The node stopped in a compaction: each pair of images has the list before it or what a compaction keeps of it,
-  -- and the list before it where the fuse stopped one of the first four calls.
+  -- and the list before it where the fuse stopped one of the first four calls; what it keeps has the next generation.
   pub record StoppedSmall (old : Node D g) (first second : D) : Type 0 where
     pub images : TellsBoth old.pair
         → LeavesPairOneOf (list_of old.pair) (small_in_time (list_of old.pair)) (g.file first) (g.file second)
     pub early : TellsBoth old.pair → (k : ℕ) → g.left old.pair.other ≡ Some k → k ≤ 4
         → LeavesPair (list_of old.pair) (g.file first) (g.file second)
+    pub stopped_log : TellsBoth old.pair → LeavesLogOr (list_of old.pair) old.pair.number
+        (small_in_time (list_of old.pair)) (old.pair.number + 1) (g.file first) (g.file second)
+    pub early_log : TellsBoth old.pair → (k : ℕ) → g.left old.pair.other ≡ Some k → k ≤ 4
+        → LeavesLog (list_of old.pair) old.pair.number (g.file first) (g.file second)
     pub live : in_order old.pair.second (λ live _. live) first second ≡ old.pair.live.disk
     pub halted : Halted g 8 old.pair.other (in_order old.pair.second (λ _ other. other) first second)
 

@@ -1,10 +1,10 @@
 -- What an opening of two disks leaves of each, and what its ends say.
-use Rattle.std.proofs.Common.{◌≡◌, ◌⊎◌, ℕ, ◌<◌, ◌≤◌, nat_lt, Bool, true, false, List, length, sym, ap, subst, ◌∙◌, inl, inr, arith, Result, Ok, Err, Option, Some}
-use Rattle.std.specs.Prelude.{IfOk}
+use Rattle.std.proofs.Common.{◌≡◌, refl, ◌⊎◌, ℕ, ◌<◌, ◌≤◌, nat_lt, Bool, true, false, List, length, sym, ap, subst, ◌∙◌, inl, inr, arith, Result, Ok, Err, Option, Some, None, IsTrue}
+use Rattle.std.specs.Prelude.{IfOk, IfErr}
 use Rattle.std.proofs.lemmas.Bool.{cases_lt}
 use Rattle.std.proofs.lemmas.Grind.{common_steps}
 use Rattle.score_base.specs.Faults.{Rose}
-use Rattle.score_disk.specs.Files.{File}
+use Rattle.score_disk.specs.Files.{File, IsImage, IsSettled}
 use Rattle.score_disk.specs.declared.disk.Disk.{Ghosts}
 use Rattle.node_journal.specs.declared.ends.PairEnd.{PairEnd}
 use Rattle.node_journal.specs.declared.ends.PairEnd.TheVariants.{Failed, NotJournal, Memory}
@@ -14,6 +14,8 @@ use Rattle.node_journal.specs.Log.{generation}
 use Rattle.node_journal.specs.Pairs.{age, second_lives, in_order}
 use Rattle.node_journal.specs.Torn.{LeavesAsBefore}
 use Rattle.node_journal.specs.Spending.{Halted, Untouched}
+use Rattle.node_journal.specs.PairDisks.{PairFailed}
+use Rattle.node_journal.proofs.Pairs.{settled_image}
 use Rattle.node_journal.proofs.Versions.{generation_short}
 
 -- which of two files is the live one, by their generations
@@ -47,6 +49,10 @@ kept_long first second mid now is same leaves = elim leaves [
 pub both_ok : {T E : Type 0} (r : Result T E) (P Q : T → Type 0) → IfOk r P → IfOk r Q → IfOk r (λ x. P x × Q x)
 both_ok (Ok x) P Q p q = (p, q)
 both_ok (Err e) P Q p q = tt
+
+pub both_err : {T E : Type 0} (r : Result T E) (P Q : E → Type 0) → IfErr r P → IfErr r Q → IfErr r (λ x. P x × Q x)
+both_err (Ok x) P Q p q = tt
+both_err (Err e) P Q p q = (p, q)
 
 module _ {D : Type 0} (d : Ghosts D) where
   pub untouched_on : (old mid now : D) → Untouched d old mid → Untouched d mid now → Untouched d old now
@@ -113,3 +119,80 @@ module _ {D : Type 0} (d : Ghosts D) where
     first_ends (NotJournal a b at) K L files bad h =
         (untouched_on f g a first h.0, subst (Untouched d s) (sym h.1) last, bad at h.2)
     first_ends (Memory a b) K L files bad h = (untouched_on f g a first h.0, subst (Untouched d s) (sym h.1) last)
+
+-- ---- an opening that failed
+
+lowered_none : (o : Option ℕ) → lowered 0 o ≡ o
+lowered_none None = refl
+lowered_none (Some k) = ap Some (omega arith)
+
+lowered_zero : (calls : ℕ) (o : Option ℕ) → calls ≤ 0 → lowered calls o ≡ o
+lowered_zero calls None few = refl
+lowered_zero calls (Some k) few = ap Some (omega (arith, few))
+
+module _ {D : Type 0} (d : Ghosts D) where
+  -- no call was counted
+  halted_still : (n : ℕ) (old now : D) → Halted d n old now → d.left now ≡ d.left old → Halted d 0 old now
+  halted_still n old now h same = record {
+    tells = h.tells;
+    left = record { calls = 0; within = omega arith; falls = same ∙ sym (lowered_none (d.left old)) };
+    own = h.own;
+    faults = h.faults;
+    rose = h.rose;
+    cause = h.cause;
+    rises = h.rises;
+  }
+
+  pub halted_left : (old now : D) → Halted d 0 old now → d.left now ≡ d.left old
+  halted_left old now h = h.left.falls ∙ lowered_zero h.left.calls (d.left old) h.left.within
+
+  pub as_before : (old : D) → Untouched d old old
+  as_before old = record { tells = refl; file = refl; left = refl; own = refl; faults = refl }
+
+  abbrev pub EndsFailed : D → D → PairEnd D → Type 0
+  EndsFailed f s e = MatchPairEnd e (λ a b. PairFailed d f s a b) (λ a b at. Unit {0}) (λ a b. Unit {0})
+
+  pub second_failed : (f g s t : D) → Untouched d f g → Untouched d s t → second_lives (d.file f).seen (d.file s).seen ≡ true
+      → IsTrue (d.tells t) → (e : PairEnd D) (L : ℕ → Type 0)
+      → MatchPairEnd e (λ a b. Halted d 2 t b × (a ≡ g) × (IsTrue (d.tells t) → LeavesAsBefore (d.file t) (d.file b)))
+      (λ a b at. Untouched d t b × (a ≡ g) × L at) (λ a b. Untouched d t b × (a ≡ g))
+      → MatchPairEnd e (λ a b. IsTrue (d.tells t) → 2 < length (d.file t).seen → d.left b ≡ d.left t)
+      (λ a b at. Unit {0}) (λ a b. Unit {0}) → EndsFailed f s e
+  second_failed f g s t first last lives told (Failed a b) L h k =
+      let long : 2 < length (d.file t).seen = subst (λ (n : File). 2 < length n.seen) (sym last.file) (younger_long (d.file f).seen (d.file s).seen lives) in
+      record {
+        halted = inr (subst (Untouched d f) (sym h.1) first, halted_still 2 s b (halted_on d 2 s t b last h.0) (k told long ∙ last.left));
+        first_file = inl (ap d.file h.1 ∙ first.file, ap d.left h.1 ∙ first.left);
+        second_file = kept_long (d.file f).seen (d.file s) (d.file t) (d.file b) lives last.file (h.2 told);
+      }
+  second_failed f g s t first last lives told (NotJournal a b at) L h k = tt
+  second_failed f g s t first last lives told (Memory a b) L h k = tt
+
+  pub first_failed : (f g s t : D) → Untouched d f g → Untouched d s t → second_lives (d.file f).seen (d.file s).seen ≡ false
+      → IsSettled (d.file f) → IsTrue (d.tells g) → (e : PairEnd D) (L : ℕ → Type 0)
+      → MatchPairEnd e (λ a b. Halted d 2 g a × (b ≡ t) × (IsTrue (d.tells g) → LeavesAsBefore (d.file g) (d.file a)))
+      (λ a b at. Untouched d g a × (b ≡ t) × L at) (λ a b. Untouched d g a × (b ≡ t))
+      → MatchPairEnd e (λ a b. IsTrue (d.tells g) → 2 < length (d.file g).seen → d.left a ≡ d.left g)
+      (λ a b at. Unit {0}) (λ a b. Unit {0}) → EndsFailed f s e
+  first_failed f g s t first last lives settled told (Failed a b) L h k =
+      let leaves : LeavesAsBefore (d.file f) (d.file a) = subst (λ n. LeavesAsBefore n (d.file a)) first.file (h.2 told) in
+      record {
+        halted = inl (halted_on d 2 f g a first h.0, subst (Untouched d s) (sym h.1) last);
+        first_file = elim (cases_lt 2 (length (d.file f).seen)) [
+          | inl long ↦ inl (
+            elim leaves [ inl e ↦ e | inr short ↦ (let few = short.0 in absurd (omega (arith, few, long))) ],
+            k told (subst (λ (n : File). 2 < length n.seen) (sym first.file) long) ∙ first.left,
+          )
+          | inr short ↦ inr (
+            lives,
+            short,
+            elim leaves [
+              | inl e ↦ (λ c m. subst (λ (x : List ℕ). length x ≤ 2) (sym (settled_image (d.file f) c settled (subst (λ n. IsImage n c) e m))) short)
+              | inr few ↦ few.1
+            ],
+          )
+        ];
+        second_file = ap d.file h.1 ∙ last.file;
+      }
+  first_failed f g s t first last lives settled told (NotJournal a b at) L h k = tt
+  first_failed f g s t first last lives settled told (Memory a b) L h k = tt

@@ -1,13 +1,15 @@
 -- What the two disks of a pair show.
-use Rattle.std.specs.Prelude.{◌≡◌, ℕ, ◌+◌, ◌<◌, ◌≤◌, ◌^◌, List, length, Result, Ok, IsTrue, vec_len, vec_capacity}
+use Rattle.std.specs.Prelude.{◌≡◌, ◌⊎◌, ℕ, false, ◌+◌, ◌<◌, ◌≤◌, ◌^◌, List, length, Result, Ok, IsTrue, vec_len, vec_capacity}
 use Rattle.std.specs.List.{All}
 use Rattle.journal_records.specs.Records.{IsRecord}
 use Rattle.score_base.specs.declared.records.Record.{Record}
 use Rattle.score_disk.specs.Files.{IsSettled}
 use Rattle.score_disk.specs.declared.disk.Disk.{Ghosts}
 use Rattle.node_journal.specs.declared.pair.Pair.{Pair}
-use Rattle.node_journal.specs.Pairs.{in_order, pair_log, filling, listed_in}
+use Rattle.node_journal.specs.Pairs.{in_order, second_lives, pair_log, filling, listed_in}
 use Rattle.node_journal.specs.Calls.{HasRoom}
+use Rattle.node_journal.specs.Spending.{Halted, Untouched}
+use Rattle.node_journal.specs.Torn.{LeavesShort}
 
 module _ {D : Type 0} {g : Ghosts D} where
   -- both disks tell their files
@@ -47,3 +49,12 @@ module _ {D : Type 0} {g : Ghosts D} where
     pub are_records : All IsRecord records
     pub room : length p.spelled.items + 2 ≤ g.spare p.other
     pub short : length p.spelled.items < 2 ^ 63
+
+-- An opening of two disks failed: one failed call at one of them, and the other is as before. Only a first file that was
+-- being made anew was written, and it has at most two bytes.
+pub record PairFailed {D : Type 0} (g : Ghosts D) (first second a b : D) : Type 0 where
+  pub halted : (Halted g 2 first a × Untouched g second b) ⊎ (Untouched g first a × Halted g 0 second b)
+  pub first_file : ((g.file a ≡ g.file first) × (g.left a ≡ g.left first))
+      ⊎ ((second_lives (g.file first).seen (g.file second).seen ≡ false) × (length (g.file first).seen ≤ 2)
+      × LeavesShort 2 (g.file a))
+  pub second_file : g.file b ≡ g.file second

@@ -43,6 +43,25 @@ abbrev pub LeavesPairOneOf : List Record → List Record → File → File → T
 LeavesPairOneOf old new first second = (c d : List ℕ) → IsImage first c → IsImage second d → (pair_log c d ≡ Ok old) ⊎
     (pair_log c d ≡ Ok new)
 
+-- the generation of the live one of two files; 0 where neither has one
+abbrev pub pair_number : List ℕ → List ℕ → ℕ
+pair_number first second = number_of (generation (if second_lives first second then second else first))
+
+-- the log of two files is these records, and this is the generation of the live one
+pub record HasLog (records : List Record) (number : ℕ) (first second : List ℕ) : Type 0 where
+  pub log : pair_log first second ≡ Ok records
+  pub number_is : pair_number first second ≡ number
+
+-- each pair of images has this log
+abbrev pub LeavesLog : List Record → ℕ → File → File → Type 0
+LeavesLog records number first second =
+    (a b : List ℕ) → IsImage first a → IsImage second b → HasLog records number a b
+
+-- each pair of images has one of these logs
+abbrev pub LeavesLogOr : List Record → ℕ → List Record → ℕ → File → File → Type 0
+LeavesLogOr before number behind next first second =
+    (a b : List ℕ) → IsImage first a → IsImage second b → HasLog before number a b ⊎ HasLog behind next a b
+
 -- an open gate with the block of this record
 unfoldable pub open_block : Record → List ℕ
 open_block r = 1 ∷ framed (record_bytes r)

@@ -6,7 +6,7 @@ ghost use Rattle.journal_records.specs.Records.{CanEncode};
 ghost use Rattle.node_journal.specs.Calls.{HasRoom};
 ghost use Rattle.node_journal.specs.Ends.{MatchPairEnd};
 ghost use Rattle.node_journal.specs.Log.{generation, log};
-ghost use Rattle.node_journal.specs.Torn.{LeavesAsBefore};
+ghost use Rattle.node_journal.specs.Torn.{LeavesAsBefore, LeavesVersion};
 ghost use Rattle.node_journal.specs.Pairs.{in_order, IsListed, IsLive, listed_in, number_of};
 ghost use Rattle.node_journal.specs.Sets.{IsLog-prop};
 
@@ -58,9 +58,9 @@ fn in_places<D: Drop>(live: D, other: D, second: bool) -> (D, D)
 
 impl<D: Disk> Pair<D> {
     ghost use Rattle.node_journal.specs.PairDisks.{TellsBoth, first_of, last_of, list_of, pair_log_of};
-    ghost use Rattle.node_journal.specs.PairDisks.{HasPairRoom, IsPairAtRest, IsReady};
+    ghost use Rattle.node_journal.specs.PairDisks.{HasPairRoom, IsPairAtRest, IsReady, PairFailed};
     ghost use Rattle.journal_words.specs.Small.{small_in_time};
-    ghost use Rattle.node_journal.specs.Pairs.{pair_log, second_lives, LeavesPair, LeavesPairOneOf};
+    ghost use Rattle.node_journal.specs.Pairs.{pair_log, second_lives, LeavesPair, LeavesPairOneOf, LeavesLog, LeavesLogOr};
     ghost use Rattle.node_journal.specs.Spending.{Spent, Halted, Untouched, Opened};
 
     /// Opens the journal on the live disk of the two.
@@ -86,6 +86,9 @@ impl<D: Disk> Pair<D> {
         ensures anew { IfOk result (λ x. IsTrue (D.tells live) → length (D.file live).seen ≤ 2 →
             D.file x.0.live.disk ≡ synced (written 0 (1 ∷ 0 ∷ []) (D.file live))) }
         ensures other { IfOk result (λ x. x.0.other ≡ other) }
+        ensures end_left { IfErr result (λ e. MatchPairEnd e
+            (λ a b. IsTrue (D.tells live) → 2 < length (D.file live).seen →
+            D.left (in_order second (λ live _. live) a b) ≡ D.left live) (λ a b at. Unit {0}) (λ a b. Unit {0})) }
         ensures end { IfErr result (λ e. MatchPairEnd e
             (λ a b. Halted D.Disk 2 live (in_order second (λ live _. live) a b)
             × (in_order second (λ _ other. other) a b ≡ other)
@@ -149,12 +152,16 @@ impl<D: Disk> Pair<D> {
         ensures opened { IfOk result (λ x.
             (Opened D.Disk first (first_of x.0) × Untouched D.Disk second (last_of x.0))
             ⊎ (Untouched D.Disk first (first_of x.0) × Opened D.Disk second (last_of x.0))) }
+        ensures first_only { IfOk result (λ x. IsTrue (D.tells first) → IsTrue (D.tells second) →
+            Opened D.Disk first (first_of x.0) × Untouched D.Disk second (last_of x.0)) }
         ensures kept { IfOk result (λ x. IsTrue (D.tells first) → IsTrue (D.tells second) →
             (second_lives (D.file first).seen (D.file second).seen ≡ true) ⊎ (2 < length (D.file first).seen) →
             Untouched D.Disk first (first_of x.0) × Untouched D.Disk second (last_of x.0)) }
         ensures anew { IfOk result (λ x. IsTrue (D.tells first) → IsTrue (D.tells second) →
             second_lives (D.file first).seen (D.file second).seen ≡ false → length (D.file first).seen ≤ 2 →
             D.file (first_of x.0) ≡ synced (written 0 (1 ∷ 0 ∷ []) (D.file first))) }
+        ensures failed { IfErr result (λ e. IsTrue (D.tells first) → IsTrue (D.tells second) → MatchPairEnd e
+            (λ a b. PairFailed D.Disk first second a b) (λ a b at. Unit {0}) (λ a b. Unit {0})) }
         ensures end { IfErr result (λ e. MatchPairEnd e
             (λ a b. ((Halted D.Disk 2 first a × Untouched D.Disk second b)
             ⊎ (Untouched D.Disk first a × Halted D.Disk 2 second b))
@@ -255,6 +262,8 @@ impl<D: Disk> Pair<D> {
             LeavesPairOneOf (list_of self) (list_of self ++ rec ∷ []) (D.file s.first) (D.file s.second)) }
         ensures early { IfErr result (λ s. TellsBoth self → (k : ℕ) → D.left self.live.disk ≡ Some k → k ≤ 2 →
             LeavesPair (list_of self) (D.file s.first) (D.file s.second)) }
+        ensures version { IfErr result (λ s. TellsBoth self → LeavesVersion (generation (D.file self.live.disk).seen)
+            (D.file (in_order self.second (λ live _. live) s.first s.second))) }
         ensures rec { IfErr result (λ s. s.rec ≡ rec) }
         ensures other_kept { IfErr result (λ s. in_order self.second (λ _ other. other) s.first s.second ≡ self.other) }
         ensures halted { IfErr result
@@ -333,6 +342,11 @@ impl<D: Disk> Pair<D> {
             LeavesPairOneOf (list_of self) (small_in_time (list_of self)) (D.file c.first) (D.file c.second)) }
         ensures early { IfErr result (λ c. TellsBoth self → (k : ℕ) → D.left self.other ≡ Some k → k ≤ 4 →
             LeavesPair (list_of self) (D.file c.first) (D.file c.second)) }
+        ensures stopped_log { IfErr result (λ c. TellsBoth self →
+            LeavesLogOr (list_of self) self.number (small_in_time (list_of self)) (self.number + 1)
+            (D.file c.first) (D.file c.second)) }
+        ensures early_log { IfErr result (λ c. TellsBoth self → (k : ℕ) → D.left self.other ≡ Some k → k ≤ 4 →
+            LeavesLog (list_of self) self.number (D.file c.first) (D.file c.second)) }
         ensures live_kept { IfErr result (λ c. in_order self.second (λ live _. live) c.first c.second
             ≡ self.live.disk) }
         ensures halted { IfErr result

@@ -1,4 +1,5 @@
 use Rattle.std.proofs.Common.{◌+◌, ◌++◌, ◌∙◌, ap, length, rules}
+use Rattle.std.proofs.Math.Nat.{le_trans}
 use Rattle.std.specs.Vec.Iter.{into_iter_items}
 use Rattle.grid_model.specs.Schedules.{numbered}
 use Rattle.node_core.specs.Links.{posts}
@@ -21,5 +22,6 @@ loop-out-preserved g c =
       sent =
           sent_step c.args.from c.in-Some.out _ _ (g.L.Link.sent c.loop-out.link) (g.L.Link.sent c.post_one.new.link) (g.L.Link.sent c.args.link.now) (posts c.args.from c.args.outs.items)
           c.in-Some.ensures.steps.0 c.loop-out.invariant.sent c.in_ok-act.ensures.sent;
+      later = le_trans c.loop-out.invariant.later c.in_ok-act.ensures.later;
       older = older_step (g.L.Link.sent c.args.link.now) (g.L.Link.sent c.loop-out.link) (g.L.Link.sent c.post_one.new.link) _ c.loop-out.invariant.older c.in_ok-act.ensures.sent;
     }

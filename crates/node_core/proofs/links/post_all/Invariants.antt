@@ -11,5 +11,6 @@ invariant-loop-out g l = record {
       ≡ numbered (length (g.L.Link.sent l.fn.link) + 1) l.from l.fn.outs.items;
   sent : g.L.Link.sent l.link ++ posts l.from (into_iter_items l.out-iterator)
       ≡ g.L.Link.sent l.fn.link ++ posts l.from l.fn.outs.items;
+  later : g.L.Link.faults l.fn.link ≤ g.L.Link.faults l.link;
   older : length (g.L.Link.sent l.fn.link) ≤ length (g.L.Link.sent l.link);
 }

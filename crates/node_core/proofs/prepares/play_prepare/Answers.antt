@@ -71,6 +71,7 @@ returns-in-Err-append g c = λ hs.
       disks = then-cut c.in-Yes.rec c.args.pair c.room_for.new.pair first second room (record {
         images = c.in-Err-append.ensures.stopped;
         early = c.in-Err-append.ensures.early;
+        version = c.in-Err-append.ensures.version;
         other = c.in-Err-append.ensures.other_kept;
         halted = c.in-Err-append.ensures.halted;
       });

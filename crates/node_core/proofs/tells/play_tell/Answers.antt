@@ -80,6 +80,7 @@ returns-in-Err-append g c =
       disks = then-cut c.in-Due.rec c.args.pair c.room_for.new.pair first second room (record {
         images = c.in-Err-append.ensures.stopped;
         early = c.in-Err-append.ensures.early;
+        version = c.in-Err-append.ensures.version;
         other = c.in-Err-append.ensures.other_kept;
         halted = c.in-Err-append.ensures.halted;
       });

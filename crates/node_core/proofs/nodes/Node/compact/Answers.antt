@@ -43,4 +43,4 @@ returns-in-Err-compact g c =
     let stopped = c.in-Err-compact.stopped in
     let e = c.in-Err-compact.ensures in
     then-small c.args.self c.room_for.new.self stopped.first stopped.second c.room_for.ensures.live
-    c.room_for.ensures.other c.room_for.ensures.second c.room_for.ensures.list e.stopped e.early e.live_kept e.halted
+    c.room_for.ensures.other c.room_for.ensures.second c.room_for.ensures.list c.room_for.ensures.number e.stopped e.early e.stopped_log e.early_log e.live_kept e.halted

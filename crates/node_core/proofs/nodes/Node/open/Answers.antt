@@ -12,6 +12,7 @@ returns-in-Ok g c =
       log = λ t. c.in-Ok.ensures.log t.0 t.1;
       rest = λ t. c.in-Ok.ensures.rest t.0 t.1;
       disks = c.in-Ok.ensures.opened;
+      first_only = λ t. c.in-Ok.ensures.first_only t.0 t.1;
       kept = λ t how. c.in-Ok.ensures.kept t.0 t.1 how;
       anew = λ t live short. c.in-Ok.ensures.anew t.0 t.1 live short;
     })

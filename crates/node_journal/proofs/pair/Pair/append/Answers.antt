@@ -1,11 +1,12 @@
 use Rattle.std.proofs.Common.{◌≡◌, ℕ, ◌++◌, ◌∷◌, List, [], length, Ok, IsTrue, sym, ap, subst, ◌∙◌, arith, length-append}
 use Rattle.score_disk.specs.Files.{File}
 use Rattle.journal_records.specs.Records.{record_bytes}
-use Rattle.node_journal.specs.Log.{log, IsLog}
+use Rattle.node_journal.specs.Log.{generation, log, IsLog}
 use Rattle.score_base.specs.declared.records.Record.{Record}
 use Rattle.node_journal.specs.Pairs.{listed_in, number_of, LeavesPair, LeavesPairOneOf}
+use Rattle.node_journal.specs.Torn.{LeavesVersion}
 use Rattle.node_journal.proofs.Appends.{length-frame}
-use Rattle.node_journal.proofs.Compactions.{seated}
+use Rattle.node_journal.proofs.Compactions.{seated, seated_live}
 use Rattle.node_journal.proofs.Listings.{listed_more, listed_is, listed_own}
 use Rattle.node_journal.proofs.Pairs.{pair_is, live_kept, appended_one_of, appended_old}
 use Rattle.node_journal.proofs.pair.Pair.append.Goals as goal
@@ -95,3 +96,10 @@ returns-in-Err-clause-early g c = λ t k left low.
     (LeavesPair old) c.in_places-first.ensures.first c.in_places-first.ensures.last
     (appended_old p.second live now other old (p.settled t.1) (p.is_live t.0 t.1) (c.in-Err.ensures.version_stopped t.0)
     (c.in-Err.ensures.early t.0 k left low old is))
+
+pub returns-in-Err-clause-version : goal.returns-in-Err-clause-version
+returns-in-Err-clause-version g c = λ t.
+    let p = c.args.self in
+    subst (λ d. LeavesVersion (generation (g.D.Disk.file p.live.disk).seen) (g.D.Disk.file d))
+    (sym (seated_live p.second c.in-Err.stopped.disk p.other c.in_places-first.result.0 c.in_places-first.result.1
+    c.in_places-first.ensures.first c.in_places-first.ensures.last)) (c.in-Err.ensures.version_stopped t.0)

@@ -2,14 +2,14 @@ use Rattle.std.proofs.Common.{◌≡◌, ◌+◌, ◌∷◌, List, ℕ, length, 
 use Rattle.score_base.specs.declared.records.Record.{Record}
 use Rattle.score_disk.specs.Files.{File, IsSettled}
 use Rattle.node_journal.specs.Log.{generation, log, IsLog}
-use Rattle.node_journal.specs.Pairs.{number_of, in_order, listed_in, pair_log, IsLive, LeavesPair, LeavesPairOneOf}
+use Rattle.node_journal.specs.Pairs.{number_of, in_order, listed_in, pair_log, IsLive, LeavesPair, LeavesPairOneOf, LeavesLog, LeavesLogOr}
 use Rattle.journal_words.specs.Small.{small_in_time}
 use Rattle.node_journal.proofs.Appends.{log_own, records_are}
 use Rattle.node_journal.proofs.Compactions.{IsNew, new_file, spelled_long, next_age, spelled_is, turned, seated, seated_other}
 use Rattle.node_journal.proofs.Listings.{listed_is, listed_own}
 use Rattle.node_journal.specs.Spending.{Halted}
 use Rattle.node_journal.proofs.Spending.{halted_weaker}
-use Rattle.node_journal.proofs.Pairs.{pair_is, torn_pair, early_pair}
+use Rattle.node_journal.proofs.Pairs.{pair_is, torn_pair, early_pair, torn_log, early_log}
 use Rattle.node_journal.proofs.pair.Pair.compact.Goals as goal
 
 pub move_to-live-requires-clause-is_log : goal.move_to-live-requires-clause-is_log
@@ -174,3 +174,42 @@ returns-in-Err-clause-halted g c =
           (omega arith) s.err
       | inr s ↦ s.err
     ])
+
+pub returns-in-Err-clause-stopped_log : goal.returns-in-Err-clause-stopped_log
+returns-in-Err-clause-stopped_log g c = λ t.
+    let p = c.args.self in
+    let old : List Record = listed_in p.listed.items in
+    let live : File = g.D.Disk.file p.live.disk in
+    let other : File = g.D.Disk.file p.other in
+    let now : File = g.D.Disk.file c.compact_into.new.other in
+    let bytes : List ℕ = 2 ∷ c.as_slice.result.now in
+    let rs : List Record = c.args.records.now.items in
+    let new =
+    new_file bytes c.as_slice.result.now p.spelled.items
+    (p.number + 1) rs refl c.as_slice.ensures.value c.requires.ready.spelled c.requires.ready.are_records
+    (omega (arith, c.requires.below)) in
+    let is : log live.seen ≡ Ok old = p.same t.0 in
+    seated g.D.Disk.file p.second c.stop.result c.compact_into.new.other c.in_places-first.result.0
+    c.in_places-first.result.1
+    (LeavesLogOr old p.number (small_in_time old) (p.number + 1)) c.in_places-first.ensures.first
+    c.in_places-first.ensures.last
+    (subst (λ d. in_order p.second (LeavesLogOr old p.number (small_in_time old) (p.number + 1)) (g.D.Disk.file d) now)
+    (sym c.stop.ensures.disk)
+    (torn_log p.second live other now bytes old (small_in_time old) p.number (p.number + 1) (p.live.settled t.0) is
+    (p.numbered t.0) (p.is_live t.0 t.1)
+    (next_age live.seen bytes p.number (p.numbered t.0) new.number) (new.read
+    ∙ ap Ok (c.requires.small)) new.number (c.in-Err.ensures.stopped t.1)))
+
+pub returns-in-Err-clause-early_log : goal.returns-in-Err-clause-early_log
+returns-in-Err-clause-early_log g c = λ t k left low.
+    let p = c.args.self in
+    let old : List Record = listed_in p.listed.items in
+    let live : File = g.D.Disk.file p.live.disk in
+    let other : File = g.D.Disk.file p.other in
+    let now : File = g.D.Disk.file c.compact_into.new.other in
+    let is : log live.seen ≡ Ok old = p.same t.0 in
+    seated g.D.Disk.file p.second c.stop.result c.compact_into.new.other c.in_places-first.result.0
+    c.in_places-first.result.1 (LeavesLog old p.number) c.in_places-first.ensures.first c.in_places-first.ensures.last
+    (subst (λ d. in_order p.second (LeavesLog old p.number) (g.D.Disk.file d) now) (sym c.stop.ensures.disk)
+    (early_log p.second live other now old p.number (p.live.settled t.0) is (p.numbered t.0) (p.is_live t.0 t.1)
+    (c.in-Err.ensures.early t.1 k left low)))

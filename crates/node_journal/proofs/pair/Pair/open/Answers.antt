@@ -5,7 +5,7 @@ use Rattle.node_journal.specs.Log.{log}
 use Rattle.node_journal.specs.Pairs.{second_lives, pair_log}
 use Rattle.node_journal.proofs.Pairs.{pair_is}
 use Rattle.node_journal.specs.Torn.{LeavesAsBefore}
-use Rattle.node_journal.proofs.PairOpenings.{chosen, kept_long, younger_long, both_ok, both_kept, second_ends, first_ends}
+use Rattle.node_journal.proofs.PairOpenings.{chosen, kept_long, younger_long, both_ok, both_err, both_kept, second_failed, first_failed, second_ends, first_ends}
 use Rattle.node_journal.proofs.pair.Pair.open.Goals as goal
 
 pub returns-then-is_younger-clause-log : goal.returns-then-is_younger-clause-log
@@ -101,3 +101,45 @@ returns-else-is_younger-clause-end g c =
     ))
     (λ at bad t u. pair_is false f.seen s.seen (is t u) ∙ ap (λ (k : File). log k.seen) (sym first.file)
     ∙ bad (subst IsTrue (sym first.tells) t)) h) c.open_live-else-is_younger.ensures.end
+
+pub returns-then-is_younger-clause-first_only : goal.returns-then-is_younger-clause-first_only
+returns-then-is_younger-clause-first_only g c =
+    let f : File = g.D.Disk.file c.args.first in
+    let s : File = g.D.Disk.file c.args.second in
+    IfOk-weaker c.open_live.result _ _ (λ x h t u.
+    let is : second_lives f.seen s.seen ≡ true =
+    chosen f.seen s.seen _ _ _ _ (c.in-Ok.ensures.generation t) (c.in-Ok-generation_of.ensures.generation u)
+    c.is_younger.ensures c.if-is_younger.true in
+    let k = h t u (inl is) in
+    (inl k.0, k.1)) (returns-then-is_younger-clause-kept g c)
+
+pub returns-then-is_younger-clause-failed : goal.returns-then-is_younger-clause-failed
+returns-then-is_younger-clause-failed g c =
+    let d = g.D.Disk in
+    let f : File = d.file c.args.first in
+    let s : File = d.file c.args.second in
+    let first = (let l = c.in-Ok.ensures.looked in l.ok) in
+    let last = (let l = c.in-Ok-generation_of.ensures.looked in l.ok) in
+    IfErr-weaker c.open_live.result _ _ (λ e h t u.
+    let is : second_lives f.seen s.seen ≡ true =
+    chosen f.seen s.seen _ _ _ _ (c.in-Ok.ensures.generation t) (c.in-Ok-generation_of.ensures.generation u)
+    c.is_younger.ensures c.if-is_younger.true in
+    second_failed d c.args.first c.generation_of.new.disk c.args.second c.generation_of-2.new.disk first last is
+    (subst IsTrue (sym last.tells) u) e _ h.0 h.1)
+    (both_err c.open_live.result _ _ c.open_live.ensures.end c.open_live.ensures.end_left)
+
+pub returns-else-is_younger-clause-failed : goal.returns-else-is_younger-clause-failed
+returns-else-is_younger-clause-failed g c =
+    let d = g.D.Disk in
+    let f : File = d.file c.args.first in
+    let s : File = d.file c.args.second in
+    let first = (let l = c.in-Ok.ensures.looked in l.ok) in
+    let last = (let l = c.in-Ok-generation_of.ensures.looked in l.ok) in
+    IfErr-weaker c.open_live-else-is_younger.result _ _ (λ e h t u.
+    let is : second_lives f.seen s.seen ≡ false =
+    chosen f.seen s.seen _ _ _ _ (c.in-Ok.ensures.generation t) (c.in-Ok-generation_of.ensures.generation u)
+    c.is_younger.ensures c.if-is_younger.false in
+    first_failed d c.args.first c.generation_of.new.disk c.args.second c.generation_of-2.new.disk first last is
+    (c.requires.first t) (subst IsTrue (sym first.tells) t) e _ h.0 h.1)
+    (both_err c.open_live-else-is_younger.result _ _ c.open_live-else-is_younger.ensures.end
+    c.open_live-else-is_younger.ensures.end_left)
