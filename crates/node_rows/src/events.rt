@@ -44,7 +44,7 @@ pub(crate) fn n1() -> NodeId
     node(1)
 }
 
-fn n2() -> NodeId
+pub(crate) fn n2() -> NodeId
     ensures { result ≡ 2 }
 {
     node(2)
@@ -103,6 +103,15 @@ pub(crate) fn alone(alloc: Global) -> Result<Cluster, Memory> {
         nodes: 1,
         places: alone_places(alloc)?,
         inits,
+    })
+}
+
+/// Sixteen nodes, of which n1 has every key.
+pub(crate) fn crowd(alloc: Global) -> Result<Cluster, Memory> {
+    Ok(Cluster {
+        nodes: 16,
+        places: alone_places(alloc)?,
+        inits: WriteList::new(alloc),
     })
 }
 

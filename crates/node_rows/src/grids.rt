@@ -8,7 +8,7 @@ use crate::events::n1;
 use grid_model::{Act, Event, Head, Message, Out};
 use node_core::{Node, Opened, Stepped};
 use placement::Cluster;
-use score_base::{Ident, Memory, Outcome, push};
+use score_base::{Ballot, Ident, Memory, Outcome, push};
 use score_disk::{CrashDisk, Disk, Fused, MemDisk};
 use std::alloc::Global;
 use std::marker::Model;
@@ -375,6 +375,41 @@ pub(crate) fn gives(
         Ok(grid) => {
             end(grid);
             Ok(so_far.text.as_slice() == acts)
+        }
+        Err(_) => Ok(false),
+    }
+}
+
+/// A Prepared with the proposal 1.
+const VOTED: &[u8] = b"p1";
+
+/// Whether the only message is a yes to transaction 1 with the proposal 1.
+fn is_yes(sent: &[Message]) -> bool {
+    match sent {
+        [
+            Message::Vote {
+                t,
+                ballot: Ballot::Yes(p),
+            },
+        ] => t.get() == 1 && *p == Ident(1),
+        _ => false,
+    }
+}
+
+/// Whether the event gives a Prepared with the proposal 1, and sends the yes to it alone.
+pub(crate) fn is_voted_on(
+    alloc: Global,
+    cluster: &Cluster,
+    grid: Grid,
+    event: Event,
+) -> Result<bool, Fail>
+    requires { cluster.now ≡ grid }
+{
+    let mut so_far = nothing(alloc);
+    match one(alloc, cluster, grid, event, &mut so_far)? {
+        Ok(grid) => {
+            end(grid);
+            Ok(so_far.text.as_slice() == VOTED && is_yes(&so_far.sent))
         }
         Err(_) => Ok(false),
     }
