@@ -1,0 +1,2 @@
+pub mod GoneMarks
+pub mod SentActs
