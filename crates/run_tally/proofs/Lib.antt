@@ -5,3 +5,4 @@ pub mod NodesTold
 pub mod WritesNoted
 pub mod TallyTexts
 pub mod Elsewhere
+pub mod PhasesTold

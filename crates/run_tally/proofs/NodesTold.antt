@@ -1,10 +1,9 @@
 -- The entry of a node tells what its journal and its record in doubt tell.
-use Rattle.std.proofs.Common.{◌≡◌, ℕ, ◌==◌, Bool, true, false, List, [], ◌∷◌, Option, Some, None, refl, sym, ap, subst, ◌∙◌, if◌then◌else◌}
+use Rattle.std.proofs.Common.{◌≡◌, ℕ, ◌==◌, Bool, true, false, List, [], ◌∷◌, Option, Some, None, refl, sym, ap, subst, if◌then◌else◌}
 use Rattle.std.specs.Option.{option_map}
 use Rattle.score_base.specs.declared.ids.TxId.{TxId}
 use Rattle.score_base.specs.declared.ids.NodeId.{NodeId}
 use Rattle.score_base.specs.declared.ids.Ident.{Ident}
-use Rattle.score_base.specs.declared.causes.Outcome.{Outcome}
 use Rattle.score_base.specs.declared.causes.Outcome.TheVariants as outcome
 use Rattle.score_base.specs.declared.records.Record.{Record}
 use Rattle.score_base.specs.declared.records.Record.TheVariants as record'
@@ -22,8 +21,8 @@ use Rattle.grid_model.specs.Documents.{DocumentData}
 use Rattle.grid_model.specs.Keyed.{at_key}
 use Rattle.grid_model.specs.Nodes as nodes
 use Rattle.grid_model.specs.Nodes.{Node, Change, Nothing, Writes, Raises, Holds, Frees, Stops, Starts, Stays, node, got, change, changed, where_at, is_home_in, is_kept, script_of, parts_in, held_by, prepared_by, freed, is_request, said_by, doubt_of, record_of}
-use Rattle.run_tally.specs.Tallies.{NodeData, node_in, with_node, noted, with_end, with_record, with_stop, with_start, found, home_by, nodes_at}
-use Rattle.run_tally.proofs.ForCode.{IsDue, AllDue, RecordDue, StopDue, prepared-is}
+use Rattle.run_tally.specs.Tallies.{NodeData, node_in, with_node, noted, with_record, with_stop, with_start, found, home_by, nodes_at}
+use Rattle.run_tally.proofs.ForCode.{AllDue, StopDue, prepared-is}
 use Rattle.run_tally.proofs.Entries.{node-put, tally}
 
 -- ---- what an entry tells

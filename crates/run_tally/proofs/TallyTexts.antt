@@ -1,5 +1,5 @@
 -- The text of the tally of a run's first acts is their summary.
-use Rattle.std.proofs.Common.{◌≡◌, ℕ, ◌==◌, Bool, true, false, ◌&&◌, ◌||◌, List, [], ◌∷◌, ◌++◌, codes, Option, Some, None, refl, sym, ap, subst, ◌∙◌, arith, inl, inr, if◌then◌else◌}
+use Rattle.std.proofs.Common.{◌≡◌, ℕ, ◌==◌, Bool, true, false, ◌&&◌, List, [], ◌∷◌, ◌++◌, codes, Option, Some, None, refl, sym, ap, subst, ◌∙◌, arith, if◌then◌else◌}
 use Rattle.std.proofs.lemmas.Bool.{or_right}
 use Rattle.std.proofs.lemmas.Bool.Decides.{nat_tests}
 use Rattle.std.specs.Fmt.{decimal}
@@ -15,32 +15,30 @@ use Rattle.score_base.specs.declared.records.Record.{Record}
 use Rattle.script_lang.specs.declared.scripts.Op.{Op}
 use Rattle.script_lang.specs.Scripts.{ScriptData}
 use Rattle.placement.specs.Places.{holds}
-use Rattle.placement.specs.Clusters.{ClusterData, init}
+use Rattle.placement.specs.Clusters.{init}
 use Rattle.journal_words.specs.declared.versions.Version.{Version}
-use Rattle.journal_words.specs.Journals.{Decision, Prepared, all_above, pendings, commits, applied_of, applied, best, decision, is_clear, is_closed, later, later_decision, newest_version, prepared_of, wrote_in}
+use Rattle.journal_words.specs.Journals.{pendings, commits, applied_of, best, decision, is_clear, is_closed, later, later_decision, newest_version, prepared_of, wrote_in}
 use Rattle.grid_model.specs.declared.acts.Act.{Act}
 use Rattle.grid_model.specs.declared.stories.Story.{Story}
 use Rattle.grid_model.specs.Documents.{DocumentData, script_numbers, keys_of_document, key_order, number_order}
 use Rattle.grid_model.specs.Histories.{after}
 use Rattle.grid_model.specs.Keyed.{at_key}
 use Rattle.grid_model.specs.Nodes.{journal, node, script_of}
-use Rattle.grid_model.specs.Stories.{Phase, phase_by, skipped_in, story}
-use Rattle.grid_model.specs.Copies.{snapshot_in}
+use Rattle.grid_model.specs.Stories.{skipped_in, story}
 use Rattle.grid_model.specs.Runs.{IsRun, Rows}
 use Rattle.grid_model.specs.Schedules.{start_row, events_in}
 use Rattle.grid_model.specs.declared.items.Item.{Item}
 use Rattle.grid_model.specs.Cuts.{IsCutRun, cut}
 use Rattle.history_print.specs.Acts.{line}
 use Rattle.history_print.specs.Begun.{story_words}
-use Rattle.history_print.specs.Text.{phase_words, tx_line, script_line, tx_lines, version_line, holder_line, key_lines, keys_lines, summary_by, summary_text}
-use Rattle.run_tally.specs.declared.txs.TxTally.{TxTally}
-use Rattle.run_tally.specs.Tallies.{NodeData, TallyData, node_in, tally_of}
+use Rattle.history_print.specs.Text.{tx_line, script_line, tx_lines, version_line, holder_line, key_lines, keys_lines, summary_by, summary_text}
+use Rattle.run_tally.specs.Tallies.{NodeData, node_in, tally_of}
 use Rattle.run_tally.specs.Texts.{tx_words, told_line, told_lines, wrote_by, newest_of, newest_at, told_key, told_holders, told_keys, TallyText}
 use Rattle.run_tally.proofs.ForCode.{AllDue, all-count, later-all, nodes-fit, commits-ended, ended-prepared, has_pair, due-run, story_same, after-append}
 use Rattle.run_tally.proofs.Entries.{tally, tally-after}
 use Rattle.run_tally.proofs.TxsTold.{tx_of, txs-told}
-use Rattle.run_tally.proofs.NodesTold.{NodeTold, nodes-told, finals, at-finals}
-use Rattle.run_tally.proofs.WritesNoted.{IsNoted, prepared-noted}
+use Rattle.run_tally.proofs.NodesTold.{NodeTold, nodes-told, at-finals}
+use Rattle.run_tally.proofs.WritesNoted.{prepared-noted}
 
 -- the same lines, one for each
 lines-same : {A : Type 0} (f g : A → List ℕ) (xs : List A) → ((x : A) → f x ≡ g x) → flat_map f xs ≡ flat_map g xs
@@ -55,7 +53,7 @@ words-same ops None f = refl
 words-same ops (Some x) f = refl
 
 -- the final identifier of the decision that stands
-final-told : (d : DocumentData) (past : List Act) → AllDue d past → (t : TxId) (n : NodeId) →
+pub final-told : (d : DocumentData) (past : List Act) → AllDue d past → (t : TxId) (n : NodeId) →
     at_key t (node_in n (tally d past).nodes).decided ≡ option_map (λ y. y.final)
     (later_decision (skipped_in (story d past t)) t (journal d past n))
 final-told d past due t n =
@@ -162,13 +160,23 @@ due-front : (d : DocumentData) (past acts : List Act) → AllDue d (after past a
 due-front d past [] due = due
 due-front d past (a ∷ acts) due = (due-front d (a ∷ past) acts due).1
 
-pub tally-text : (d : DocumentData) (items : List Item) (acts later : List Act) → IsRun d items (acts ++ later) →
-    TallyText d (tally_of d acts) ≡ summary_text d acts
-tally-text d items acts later run =
+-- each of the first acts of a run was due
+pub due-first : (d : DocumentData) (items : List Item) (acts later : List Act) → IsRun d items (acts ++ later) →
+    AllDue d (after [] acts)
+due-first d items acts later run =
     let P : List Act → Type 0 = λ p. AllDue d p in
     let all : AllDue d (after (after [] acts) later) =
     subst P (after-append [] acts later) (due-run d items (acts ++ later) run) in
-    ap (TallyText d) (tally-after d [] acts) ∙ text-same d (after [] acts) (due-front d (after [] acts) later all)
+    due-front d (after [] acts) later all
+
+-- the tally of acts is that of the past that they make
+pub tally-first : (d : DocumentData) (acts : List Act) → tally_of d acts ≡ tally d (after [] acts)
+tally-first d acts = tally-after d [] acts
+
+pub tally-text : (d : DocumentData) (items : List Item) (acts later : List Act) → IsRun d items (acts ++ later) →
+    TallyText d (tally_of d acts) ≡ summary_text d acts
+tally-text d items acts later run =
+    ap (TallyText d) (tally-first d acts) ∙ text-same d (after [] acts) (due-first d items acts later run)
 
 -- a run of the cut document is one of the document, with its first events as items
 rows-uncut : (d : DocumentData) (e : ℕ) (past : List Act) (es : List Item) (h : List Act) →
@@ -176,12 +184,16 @@ rows-uncut : (d : DocumentData) (e : ℕ) (past : List Act) (es : List Item) (h 
 unfolding Rows
 rows-uncut d e past es h is = is
 
-pub tally-cut : (d : DocumentData) (e : ℕ) (acts later : List Act) → IsCutRun d e (acts ++ later) →
-    TallyText d (tally_of d acts) ≡ summary_text d acts
-tally-cut d e acts later run = tally-text d (cut e d).items acts later (record {
+-- a run of the cut document
+pub run-uncut : (d : DocumentData) (e : ℕ) (h : List Act) → IsCutRun d e h → IsRun d (cut e d).items h
+run-uncut d e h run = record {
   opens = run.opens;
   rest = run.rest;
   start = run.start;
   rows = rows-uncut d e (after [] (start_row d.cluster.nodes run.opens))
       (flat_map events_in (cut e d).items) run.rest run.rows;
-})
+}
+
+pub tally-cut : (d : DocumentData) (e : ℕ) (acts later : List Act) → IsCutRun d e (acts ++ later) →
+    TallyText d (tally_of d acts) ≡ summary_text d acts
+tally-cut d e acts later run = tally-text d (cut e d).items acts later (run-uncut d e (acts ++ later) run)

@@ -9,11 +9,12 @@
 mod laws;
 mod nodes;
 mod noted;
+mod phases;
 mod tallies;
 mod text;
 mod txs;
 
-pub use laws::law_tally;
+pub use laws::{law_tally, law_tally_phases};
 pub use nodes::NodeTally;
 pub use noted::Noted;
 pub use tallies::Tally;

@@ -6,13 +6,13 @@ ghost use Rattle.placement.specs.Places.{is_among};
 ghost use Rattle.grid_model.specs.Documents.{script_numbers, number_order, key_order, keys_of_document};
 ghost use Rattle.grid_model.specs.Keyed.{at_key};
 ghost use Rattle.grid_model.specs.Nodes.{script_of};
-ghost use Rattle.grid_model.specs.Stories.{first_sid};
 ghost use Rattle.history_print.specs.Acts.{spaced, line};
 ghost use Rattle.history_print.specs.Begun.{decided_words};
 ghost use Rattle.run_tally.specs.Tallies.{or_blank, node_in};
 ghost use Rattle.run_tally.specs.Texts.{tx_words, told_line, told_lines, newest_at, told_key, told_holders, told_keys, TallyText};
 
 use crate::nodes::NodeTally;
+use crate::phases::snapshot_of;
 use crate::tallies::Tally;
 use crate::txs::TxTally;
 use grid_model::Document;
@@ -28,16 +28,6 @@ use std::collections::BTreeSet;
 
 /// How many nodes a cluster has at most.
 const MOST_NODES: u8 = 16;
-
-/// The snapshot identifier of a transaction.
-fn snapshot_of(tx: &TxTally) -> Ident
-    ensures { result ≡ first_sid tx.now.sid tx.now.sid0 }
-{
-    match tx.sid {
-        None => tx.sid0,
-        Some(sid) => sid,
-    }
-}
 
 #[tactic(auto, unfolding(crate::specs::Texts::tx_words))]
 fn put_begun(
