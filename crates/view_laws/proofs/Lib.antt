@@ -1,0 +1,15 @@
+pub mod AlikeRows
+pub mod AlikeNext
+pub mod RowWritings
+pub mod SameRecords
+pub mod Asleep
+pub mod ScriptNumbers
+pub mod OpenedViews
+pub mod Unmoved
+pub mod OwnOuts
+pub mod OtherViews
+pub mod BehindRows
+pub mod RowEquations
+pub mod QuietActs
+pub mod RowTurns
+pub mod ShownNext
