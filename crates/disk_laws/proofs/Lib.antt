@@ -1,0 +1,14 @@
+pub mod Unmoved
+pub mod Steps
+pub mod CountRises
+pub mod Ties
+pub mod Files
+pub mod Owns
+pub mod NodeActs
+pub mod Ups
+pub mod Downs
+pub mod Openings
+pub mod Others
+pub mod AtEnd
+pub mod PairSeats
+pub mod WorkedSeats
