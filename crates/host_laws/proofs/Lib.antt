@@ -1,0 +1,11 @@
+pub mod OtherNodes
+pub mod Falls
+pub mod DiskWords
+pub mod StepDisks
+pub mod StepRows
+pub mod StepStops
+pub mod Compactions
+pub mod Steps
+pub mod OneMore
+pub mod FirstOpenings
+pub mod Reopenings

@@ -1,0 +1,4 @@
+pub mod Standing
+pub mod Turns
+pub mod Follows
+pub mod Starts
