@@ -20,4 +20,4 @@ pub use history::write_history;
 pub use summary::{
     add_numbers, key_set, put_final, put_undecided, put_version_line, write_summary,
 };
-pub use words::{put_tx, put_word};
+pub use words::{put_count, put_key, put_node, put_tx, put_value, put_word};

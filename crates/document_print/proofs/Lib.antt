@@ -1,0 +1,4 @@
+mod Appending
+mod SameLines
+mod ScriptText
+mod DocumentText
