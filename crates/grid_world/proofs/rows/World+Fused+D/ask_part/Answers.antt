@@ -1,0 +1,25 @@
+use Rattle.std.proofs.Common.{sym, ◌∙◌}
+use Rattle.grid_model.specs.declared.items.Item.TheVariants as item
+use Rattle.grid_model.specs.declared.voids.Void.TheVariants as void
+use Rattle.grid_model.specs.Voids.{voided}
+use Rattle.grid_world.specs.Follows.{Plays}
+use Rattle.grid_world.proofs.Results.{ok-map, told-ok}
+use Rattle.grid_world.proofs.PeerRows.{peer-plays, peer-runs, unasked-plays}
+use Rattle.grid_world.proofs.rows.World+Fused+D.ask_part.Goals as goal
+
+pub returns-then-not-is_pending : goal.returns-then-not-is_pending
+returns-then-not-is_pending g c =
+    told-ok c.voided.result (λ v. v.items) (Plays c.args.doc.now (item.AskPeer c.args.n c.args.t c.args.m) c.args.self.now c.voided.new.self) (voided void.NotPending)
+    c.voided.ensures.told c.voided.ensures.acts
+    (λ told. unasked-plays c.args.doc.now c.args.n c.args.t c.args.m c.args.self.now c.voided.new.self c.is_pending.ensures.least c.requires (sym c.is_pending.ensures.pending ∙ c.if-not-is_pending.true) told)
+
+pub play_or_void-requires-clause-can : goal.play_or_void-requires-clause-can
+play_or_void-requires-clause-can g c =
+    peer-runs c.args.doc.now c.args.n c.args.t c.args.m c.args.self.now c.is_pending.ensures.least c.requires (sym c.is_pending.ensures.pending ∙ c.if-not-is_pending.false)
+
+pub returns : goal.returns
+returns g c =
+    ok-map c.play_or_void.result
+    (λ acts is. peer-plays c.args.doc.now c.args.n c.args.t c.args.m c.args.self.now c.play_or_void.new.self acts.items c.is_pending.ensures.least c.requires
+    (sym c.is_pending.ensures.pending ∙ c.if-not-is_pending.false) is)
+    c.play_or_void.ensures

@@ -1,0 +1,5 @@
+pub mod Worlds
+pub mod Ends
+pub mod Follows
+pub mod Starts
+pub mod Replays
