@@ -1,0 +1,3 @@
+pub mod ForCode
+pub mod EventsWritten
+pub mod TextWritten
