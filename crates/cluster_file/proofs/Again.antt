@@ -21,23 +21,22 @@ use Rattle.script_lang.specs.Exprs.{is_expr_among}
 use Rattle.script_lang.specs.Reads.{known_keys}
 use Rattle.script_lang.specs.Spelling.{expr_words, session_words, is_plain_expr}
 use Rattle.placement.specs.Places.{are_distinct}
-use Rattle.grid_model.specs.declared.items.Item.TheVariants as item
 use Rattle.cluster_file.specs.declared.drafts.Draft.{Draft}
 use Rattle.cluster_file.specs.declared.drafts.Part.TheVariants as part
 use Rattle.script_lang.specs.Reading.{number_at, in_range, steps}
-use Rattle.cluster_file.specs.Lines.{name_new_key, known_number, nodes_line, new_node, node_step, is_next, partition_line, init_line, tx_line, script_line, with_item, begin_line, deliver_line, drop_line, more_events, next_line}
-use Rattle.script_lang.specs.Words.{node_of, key_of, tx_of}
+use Rattle.cluster_file.specs.Lines.{name_new_key, nodes_line, new_node, node_step, is_next, partition_line, init_line, tx_line, script_line}
+use Rattle.script_lang.specs.Words.{node_of, key_of}
 use Rattle.cluster_file.specs.Doc.{blank}
 use Rattle.cluster_file.specs.Spelling.{is_node, is_tx, node_word}
 use Rattle.cluster_file.proofs.Members.{distinct_before}
 use Rattle.script_lang.specs.Names.{has_name, is_taken, with_key, with_number}
 use Rattle.script_lang.specs.ScriptLines.{first_line, body_line}
 use Rattle.script_lang.specs.declared.script_lines.Stage.TheVariants as stage
-use Rattle.script_lang.proofs.WordsAgain.{goes, passes, number_again, within_again, small, node_of_again, key_again, tx_again}
+use Rattle.script_lang.proofs.WordsAgain.{goes, passes, number_again, within_again, small, node_of_again, key_again}
 use Rattle.script_lang.proofs.NamesRead.{name_again}
 use Rattle.script_lang.proofs.BodyAgain.{first_line_again, read_again, write_again, end_again}
 use Rattle.script_lang.specs.declared.limits.TheConstants.{MAX_NODES, MAX_OPS, MAX_SESSION}
-use Rattle.cluster_file.specs.declared.limits.TheConstants.{MAX_COUNT, MAX_EVENTS, MAX_KEYS, MAX_PARTITIONS, MAX_SCRIPTS}
+use Rattle.cluster_file.specs.declared.limits.TheConstants.{MAX_KEYS, MAX_PARTITIONS, MAX_SCRIPTS}
 
 -- The words.
 
@@ -134,39 +133,3 @@ pub end_line_again : (d : Draft) (s : ScriptData) → 1 ≤ length s.ops
     → script_line d s (codes "end") [] ≡ Ok (record d { scripts = d.scripts ++ s ∷ []; script = None })
 unfolding script_line
 end_line_again d s some = goes (body_line MAX_KEYS d.known s (codes "end") []) _ (stage.Done s, d.known) _ (end_again MAX_KEYS d.known s some) refl
-
-more_room : (events : ℕ) → events + 1 ≤ MAX_EVENTS → nat_le MAX_EVENTS events ≡ false
-more_room events h = grind (arith, nat_tests, h)
-
-pub begin_line_again : (d : Draft) (t : TxId) → d.events + 1 ≤ MAX_EVENTS → is_tx t ≡ true → is_taken d.numbers t ≡ true
-    → begin_line d (decimal t ∷ []) ≡ Ok (with_item d (item.Begin t) 1)
-unfolding begin_line
-begin_line_again d t room is known =
-    passes (nat_le MAX_EVENTS d.events) _ _ _ (more_room d.events room)
-    (goes (tx_of (decimal t)) _ t _ (tx_again t is)
-    (goes (known_number d.numbers t) _ tt _ (rw known refl) refl))
-
-pub deliver_line_again : (d : Draft) (m : ℕ) → d.events + 1 ≤ MAX_EVENTS → nat_le 1 m ≡ true → nat_le m MAX_COUNT ≡ true
-    → deliver_line d (decimal m ∷ []) ≡ Ok (with_item d (item.Deliver m) 1)
-unfolding deliver_line
-deliver_line_again d m room low high =
-    passes (nat_le MAX_EVENTS d.events) _ _ _ (more_room d.events room)
-    (goes (number_at (decimal m ∷ [])) _ (m, []) _ (number_again m [] (small m 4294967295 high (omega arith)))
-    (goes (in_range 1 MAX_COUNT m) _ m _ (within_again 1 MAX_COUNT m low high) refl))
-
-pub drop_line_again : (d : Draft) (m : ℕ) → d.events + 1 ≤ MAX_EVENTS → nat_le 1 m ≡ true → nat_le m MAX_COUNT ≡ true
-    → drop_line d (decimal m ∷ []) ≡ Ok (with_item d (item.Drop m) 1)
-unfolding drop_line
-drop_line_again d m room low high =
-    passes (nat_le MAX_EVENTS d.events) _ _ _ (more_room d.events room)
-    (goes (number_at (decimal m ∷ [])) _ (m, []) _ (number_again m [] (small m 4294967295 high (omega arith)))
-    (goes (in_range 1 MAX_COUNT m) _ m _ (within_again 1 MAX_COUNT m low high) refl))
-
-pub next_line_again : (d : Draft) (c : ℕ) → d.events + c ≤ MAX_EVENTS → nat_le 1 c ≡ true → nat_le c MAX_EVENTS ≡ true
-    → next_line d (decimal c ∷ []) ≡ Ok (with_item d (item.Next c) c)
-unfolding next_line
-next_line_again d c room low high =
-    let few : nat_le (d.events + c) MAX_EVENTS ≡ true = grind (arith, nat_tests, room) in
-    goes (number_at (decimal c ∷ [])) _ (c, []) _ (number_again c [] (small c MAX_EVENTS high (omega arith)))
-    (goes (in_range 1 MAX_EVENTS c) _ c _ (within_again 1 MAX_EVENTS c low high)
-    (goes (more_events d.events c) _ tt _ (rw few refl) refl))

@@ -26,7 +26,7 @@ use Rattle.cluster_file.specs.declared.drafts.Part.TheVariants as part
 use Rattle.script_lang.specs.Reading.{◌>>=◌}
 use Rattle.cluster_file.specs.Lines.{words_line, line_of}
 use Rattle.cluster_file.specs.Doc.{◌>>>◌, at_line, is_whole, close, pieces_from, blank, document_of, doc}
-use Rattle.cluster_file.specs.Spelling.{IsBuilt, IsInRange, is_node, is_tx, is_init_in_range, is_script_in_range, is_item_in_range, node_word, nodes_words, partition_words, init_words, item_words, partition_lines, document_lines, spelling}
+use Rattle.cluster_file.specs.Spelling.{IsInRange, is_node, is_tx, is_init_in_range, is_script_in_range, is_item_in_range, node_word, nodes_words, partition_words, init_words, item_words, partition_lines, document_lines, spelling}
 use Rattle.cluster_file.proofs.Bytes.{is_plain, are_plain, is_line, plain_decimal, plain_key, words_again, printed_words, lines_again}
 use Rattle.script_lang.proofs.WordsAgain.{small}
 use Rattle.cluster_file.proofs.ScriptRanges.{ranges_of}
@@ -199,10 +199,10 @@ pieces_again d e n (ws ∷ ls) h k ended =
     by (Err w) read rest is again = cc
 
 -- a document is read in its spelling
-pub read_again : (d : DocumentData) → IsDocument d → IsInRange d → IsBuilt d → doc (spelling d) ≡ Ok d
+pub read_again : (d : DocumentData) → IsDocument d → IsInRange d → doc (spelling d) ≡ Ok d
 unfolding doc
-read_again d h r b =
+read_again d h r =
     let lines : list_all is_line (document_lines d) ≡ true = document_lines_are d h r in
     let end : Draft = running d.cluster.nodes d.cluster.places d.cluster.inits d.scripts d.items (0 + sum_by events_of d.items) in
     ap (λ xs. pieces_from blank 1 xs >>> λ e. Ok (document_of e)) (lines_again (document_lines d) lines)
-    ∙ ap (λ m. m >>> λ e. Ok (document_of e)) (pieces_again blank end 1 (document_lines d) lines (document_again d h r b) refl)
+    ∙ ap (λ m. m >>> λ e. Ok (document_of e)) (pieces_again blank end 1 (document_lines d) lines (document_again d h r) refl)

@@ -1,20 +1,23 @@
 -- Each line leaves what was read well formed, so what is read to its end is a document.
 use Rattle.std.proofs.Common.{◌≡◌, ℕ, ◌+◌, ◌≤◌, true, false, ◌&&◌, ◌==◌, List, [], ◌∷◌, ◌++◌, length, nat_le, Option, Some, None, Ok, IfOk, refl, sym, ap, ◌∙◌, subst, arith, codes}
-use Rattle.std.specs.List.{list_any, list_all, slice_split}
+use Rattle.std.specs.List.{list_all, slice_split}
 use Rattle.std.proofs.lemmas.Bool.Decides.{nat_tests}
+use Rattle.score_base.specs.declared.ids.TxId.{TxId}
 use Rattle.script_lang.specs.Scripts.{ScriptData}
-use Rattle.grid_model.specs.Documents.{IsDocument, script_numbers, events_of, is_item}
+use Rattle.grid_model.specs.Documents.{IsDocument, script_numbers, number_order, events_of, is_item}
 use Rattle.grid_model.specs.declared.items.Item.{Item}
 use Rattle.grid_model.specs.declared.items.Item.TheVariants as item
 use Rattle.cluster_file.specs.declared.drafts.Draft.{Draft}
 use Rattle.cluster_file.specs.declared.drafts.Part.{Part}
 use Rattle.cluster_file.specs.declared.drafts.Part.TheVariants as part
-use Rattle.script_lang.specs.Reading.{is_word, word_at, end_at, number_at, in_range}
-use Rattle.cluster_file.specs.Lines.{known_number, with_item, begin_line, deliver_line, drop_line, more_events, next_line, is_later_item, item_line, part_line, line_in, words_line, line_of}
-use Rattle.script_lang.specs.Words.{tx_of, is_printed}
-use Rattle.script_lang.specs.Names.{is_taken}
+use Rattle.cluster_file.specs.declared.items.Kind.{Kind}
+use Rattle.script_lang.specs.Reading.{is_word, end_at, number_at, in_range}
+use Rattle.cluster_file.specs.Items.{kind_of, item_at, with_item, event_line, more_events, next_line, item_line}
+use Rattle.cluster_file.specs.Lines.{part_line, line_in, words_line, line_of}
+use Rattle.script_lang.specs.Words.{is_printed}
 use Rattle.cluster_file.specs.Doc.{close, is_whole, pieces_from, at_line, blank, document_of}
 use Rattle.std.proofs.lemmas.Bool.{and_parts}
+use Rattle.cluster_file.proofs.ItemsRead.{item_read}
 use Rattle.cluster_file.proofs.Members.{among_numbers}
 use Rattle.script_lang.proofs.Readings.{behind, then, either, at_ok}
 use Rattle.script_lang.proofs.WordsRead.{in_range_read}
@@ -22,7 +25,7 @@ use Rattle.cluster_file.proofs.Steps.{numbered, below}
 use Rattle.cluster_file.proofs.SoFar.{IsNamed, IsPlan, IsStage, IsBegun, all_scripts, planned}
 use Rattle.cluster_file.proofs.PartsKeep.{plan_item, no_script}
 use Rattle.cluster_file.proofs.LinesKeep.{nodes_keeps, partition_keeps, script_keeps, later_keeps, init_or_later_keeps}
-use Rattle.cluster_file.specs.declared.limits.TheConstants.{MAX_COUNT, MAX_EVENTS}
+use Rattle.cluster_file.specs.declared.limits.TheConstants.{MAX_EVENTS}
 
 item_keeps : (d : Draft) (i : Item) → IsBegun (planned d) → is_item d.nodes (script_numbers (d.scripts ++ [])) i ≡ true
     → d.events + events_of i ≤ MAX_EVENTS → IsBegun (with_item (planned d) i (events_of i))
@@ -36,17 +39,27 @@ item_keeps d i h ok room = record {
 one_more : (events : ℕ) → nat_le MAX_EVENTS events ≡ false → events + 1 ≤ MAX_EVENTS
 one_more events room = grind (arith, nat_tests, room)
 
-begin_keeps : (d : Draft) (ws : List (List ℕ)) → IsBegun (planned d) → IfOk (begin_line (planned d) ws) IsBegun
-unfolding begin_line
-begin_keeps d ws h = either (nat_le MAX_EVENTS d.events) _ _ _ (λ e. tt) (λ room. then (word_at ws) _ _ (λ w. then (tx_of w.0) _ _ (λ t. behind (known_number d.numbers t) _ (λ _. is_taken d.numbers t ≡ true) _ (either (is_taken d.numbers t) _ _ _ (λ e. e) (λ e. tt)) (λ z known. then (end_at w.1) _ _ (λ _. item_keeps d (item.Begin t) h (sym (among_numbers t (script_numbers (d.scripts ++ []))) ∙ ap (list_any (λ u. u == t)) (sym h.named.taken) ∙ known) (one_more d.events room))))))
+-- what is asked of an item's transaction, by the numbers in their order
+is_item_same : (nodes : ℕ) (ts : List TxId) (i : Item) → is_item nodes ts i ≡ is_item nodes (number_order ts) i
+is_item_same nodes ts (item.Begin t) = sym (among_numbers t ts)
+is_item_same nodes ts (item.Deliver m) = refl
+is_item_same nodes ts (item.Drop m) = refl
+is_item_same nodes ts (item.Next c) = refl
+is_item_same nodes ts (item.Retry t) = sym (among_numbers t ts)
+is_item_same nodes ts (item.Ask n t) = ap (λ b. nat_le n nodes && b) (sym (among_numbers t ts))
+is_item_same nodes ts (item.AskPeer n t m) = ap (λ b. nat_le n nodes && (nat_le m nodes && b)) (sym (among_numbers t ts))
+is_item_same nodes ts (item.Crash n how) = refl
+is_item_same nodes ts (item.Fuse n k how) = refl
+is_item_same nodes ts (item.Restart n) = refl
+is_item_same nodes ts (item.Compact n) = refl
 
-deliver_keeps : (d : Draft) (ws : List (List ℕ)) → IsBegun (planned d) → IfOk (deliver_line (planned d) ws) IsBegun
-unfolding deliver_line
-deliver_keeps d ws h = either (nat_le MAX_EVENTS d.events) _ _ _ (λ e. tt) (λ room. then (number_at ws) _ _ (λ n. behind (in_range 1 MAX_COUNT n.0) _ _ _ (in_range_read 1 MAX_COUNT n.0) (λ m low. then (end_at n.1) _ _ (λ _. item_keeps d (item.Deliver m) h low.1 (one_more d.events room)))))
-
-drop_keeps : (d : Draft) (ws : List (List ℕ)) → IsBegun (planned d) → IfOk (drop_line (planned d) ws) IsBegun
-unfolding drop_line
-drop_keeps d ws h = either (nat_le MAX_EVENTS d.events) _ _ _ (λ e. tt) (λ room. then (number_at ws) _ _ (λ n. behind (in_range 1 MAX_COUNT n.0) _ _ _ (in_range_read 1 MAX_COUNT n.0) (λ m low. then (end_at n.1) _ _ (λ _. item_keeps d (item.Drop m) h low.1 (one_more d.events room)))))
+event_keeps : (d : Draft) (k : Kind) (ws : List (List ℕ)) → IsBegun (planned d)
+    → IfOk (event_line (planned d) k ws) IsBegun
+unfolding event_line
+event_keeps d k ws h = either (nat_le MAX_EVENTS d.events) _ _ _ (λ e. tt) (λ room. behind (item_at k d.nodes d.numbers ws) _ _ _ (item_read k d.nodes d.numbers ws) (λ i read.
+    let allowed : is_item d.nodes (script_numbers (d.scripts ++ [])) i ≡ true = is_item_same d.nodes (script_numbers (d.scripts ++ [])) i ∙ ap (λ ts. is_item d.nodes ts i) (sym h.named.taken) ∙ read.allowed in
+    let fits : d.events + events_of i ≤ MAX_EVENTS = subst (λ c. d.events + c ≤ MAX_EVENTS) (sym read.one) (one_more d.events room) in
+    subst (λ c. IsBegun (with_item (planned d) i c)) read.one (item_keeps d i h allowed fits)))
 
 more_events_keeps : (events c : ℕ) → IfOk (more_events events c) (λ _. events + c ≤ MAX_EVENTS)
 more_events_keeps events c = either (nat_le (events + c) MAX_EVENTS) _ _ _ (λ e. grind (arith, nat_tests, e)) (λ e. tt)
@@ -57,7 +70,8 @@ next_keeps d ws h = then (number_at ws) _ _ (λ n. behind (in_range 1 MAX_EVENTS
 
 item_line_keeps : (d : Draft) (w : List ℕ) (ws : List (List ℕ)) → IsBegun (planned d)
     → IfOk (item_line (planned d) w ws) IsBegun
-item_line_keeps d w ws h = either (is_word w (codes "begin")) _ _ _ (λ e. begin_keeps d ws h) (λ e. either (is_word w (codes "deliver")) _ _ _ (λ e. deliver_keeps d ws h) (λ e. either (is_word w (codes "drop")) _ _ _ (λ e. drop_keeps d ws h) (λ e. either (is_word w (codes "next")) _ _ _ (λ e. next_keeps d ws h) (λ e. either (is_later_item w) _ _ _ (λ e. tt) (λ e. tt)))))
+unfolding item_line
+item_line_keeps d w ws h = either (is_word w (codes "next")) _ _ _ (λ e. next_keeps d ws h) (λ e. then (kind_of w) _ _ (λ k. event_keeps d k ws h))
 
 part_keeps : (p : Part) (d : Draft) (w : List ℕ) (ws : List (List ℕ)) → IsBegun (record d { script = None; part = p })
     → IfOk (part_line p (record d { script = None; part = p }) w ws) IsBegun

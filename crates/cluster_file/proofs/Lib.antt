@@ -10,10 +10,12 @@ pub mod Keeps
 pub mod Bytes
 pub mod LinesSoFar
 pub mod LinesTold
+pub mod ItemsRead
 pub mod Told
 pub mod OneSpelling
 pub mod ScriptRanges
 pub mod Again
+pub mod ItemsAgain
 pub mod ClusterAgain
 pub mod ScriptsAgain
 pub mod LinesAgain

@@ -9,7 +9,7 @@ use Rattle.grid_model.specs.declared.items.Item.{Item}
 use Rattle.cluster_file.specs.declared.drafts.Draft.{Draft}
 use Rattle.cluster_file.specs.declared.drafts.Part.{Part}
 use Rattle.cluster_file.specs.declared.drafts.Part.TheVariants as part
-use Rattle.cluster_file.specs.Spelling.{is_node, is_tx, is_init_in_range, is_script_in_range, is_item_in_range, is_built_item, nodes_words, partition_words, init_words, item_words, partition_lines}
+use Rattle.cluster_file.specs.Spelling.{is_node, is_tx, is_init_in_range, is_script_in_range, is_item_in_range, nodes_words, partition_words, init_words, item_words, partition_lines}
 use Rattle.script_lang.specs.declared.limits.TheConstants.{MAX_NODES, MAX_SESSION}
 
 -- The lines of what was read.
@@ -44,14 +44,13 @@ abbrev pub MayBeOpened : Option ScriptData → Type 0
 MayBeOpened None = Unit {0}
 MayBeOpened (Some s) = IsOpened s
 
--- what was read is in its ranges, and of forms that are read
+-- what was read is in its ranges
 pub record IsInRangeSoFar (d : Draft) : Type 0 where
   pub places : list_all (list_all is_node) d.places ≡ true
   pub inits : list_all is_init_in_range d.inits ≡ true
   pub scripts : list_all is_script_in_range d.scripts ≡ true
   pub opened : MayBeOpened d.script
   pub items : list_all is_item_in_range d.items ≡ true
-  pub built : list_all is_built_item d.items ≡ true
 
 -- one line more
 pub record Adds (d : Draft) (ws : List (List ℕ)) (e : Draft) : Type 0 where

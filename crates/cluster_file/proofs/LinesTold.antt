@@ -36,7 +36,7 @@ use Rattle.cluster_file.specs.declared.limits.TheConstants.{MAX_KEYS, MAX_PARTIT
 
 -- The words.
 
-in_cluster : (nodes n : ℕ) → (nat_le 1 n && nat_le n nodes) ≡ true → nodes ≤ MAX_NODES → is_node n ≡ true
+pub in_cluster : (nodes n : ℕ) → (nat_le 1 n && nat_le n nodes) ≡ true → nodes ≤ MAX_NODES → is_node n ≡ true
 in_cluster nodes n h few =
     let both = and_parts (nat_le 1 n) (nat_le n nodes) h in
     let most : nat_le n MAX_NODES ≡ true = grind (arith, nat_tests, both.1, few) in
@@ -81,7 +81,7 @@ unfolding nodes_line
 first_told ws = behind (number_at ws) _ _ _ (number_read ws) (λ n words. behind (in_range 1 MAX_NODES n.0) _ _ _ (in_range_read 1 MAX_NODES n.0) (λ c same. behind (end_at n.1) _ _ _ (end_read n.1) (λ z none.
     record {
       lines = ap (λ l. (codes "nodes" ∷ l) ∷ []) (one_number ws n c words.0 same.0 none);
-      ranges = record { places = refl; inits = refl; scripts = refl; opened = tt; items = refl; built = refl };
+      ranges = record { places = refl; inits = refl; scripts = refl; opened = tt; items = refl };
     })))
 
 pub partition_told : (d : Draft) (ws : List (List ℕ)) → d.inits ≡ [] → d.scripts ≡ [] → d.script ≡ None
@@ -93,7 +93,7 @@ partition_told d ws bare ss none quiet = either (nat_le MAX_PARTITIONS (length d
       lines = more_partitions _ _ (partition_lines 0 d.places) (partition_lines 0 (d.places ++ ns ∷ [])) (map init_words d.inits) (flat_map script_words d.scripts) (open_lines d.script) (schedule_lines d.part d.items)
           (partition_next d.places ns ∙ ap (λ l. partition_lines 0 d.places ++ l ∷ []) all)
           (ap (map init_words) bare) (ap (flat_map script_words) ss) (ap open_lines none) quiet;
-      ranges = λ few r. record { places = all_last (list_all is_node) d.places ns r.places (nodes.1 few refl); inits = r.inits; scripts = r.scripts; opened = r.opened; items = r.items; built = r.built };
+      ranges = λ few r. record { places = all_last (list_all is_node) d.places ns r.places (nodes.1 few refl); inits = r.inits; scripts = r.scripts; opened = r.opened; items = r.items };
     }))))
   where
     next_told : (next i : ℕ) (us : List (List ℕ)) → IfOk (is_next next i us) (λ _. i ≡ next)
@@ -110,7 +110,7 @@ init_told d ws ss none quiet = behind (word_at ws) _ _ _ (word_read ws) (λ w wo
       lines = more_inits _ _ (partition_lines 0 d.places) (map init_words d.inits) (map init_words (d.inits ++ (k, v.0) ∷ [])) (flat_map script_words d.scripts) (open_lines d.script) (schedule_lines d.part d.items)
           (map-append init_words d.inits ((k, v.0) ∷ []) ∙ ap (λ l. map init_words d.inits ++ (codes "init" ∷ l) ∷ []) (sym all))
           (ap (flat_map script_words) ss) (ap open_lines none) quiet;
-      ranges = λ few r. record { places = r.places; inits = all_last is_init_in_range d.inits (k, v.0) r.inits one; scripts = r.scripts; opened = r.opened; items = r.items; built = r.built };
+      ranges = λ few r. record { places = r.places; inits = all_last is_init_in_range d.inits (k, v.0) r.inits one; scripts = r.scripts; opened = r.opened; items = r.items };
     })))))
 
 pub tx_lines_told : (d : Draft) (ws : List (List ℕ)) → d.script ≡ None → schedule_lines d.part d.items ≡ []
@@ -132,7 +132,6 @@ tx_lines_told d ws none quiet = either (nat_le MAX_SCRIPTS (length d.scripts)) _
       keys = rw first.bare refl;
     };
     items = r.items;
-    built = r.built;
   };
 }))
 
@@ -175,7 +174,6 @@ follows_told d s line (stage.Open t) more f = subst (λ (u : ScriptData). Adds (
       keys = all_last is_plain_op s.ops f.last r.opened.keys f.plain;
     };
     items = r.items;
-    built = r.built;
   };
 })
 follows_told d s line (stage.Done t) more f = rw f.same (
@@ -183,7 +181,7 @@ follows_told d s line (stage.Done t) more f = rw f.same (
     record {
       lines = more_scripts _ _ (partition_lines 0 d.places) (map init_words d.inits) (flat_map script_words d.scripts) (flat_map script_words (d.scripts ++ s ∷ [])) (tx_words s ∷ map op_words s.ops)
           (flat_map-append script_words d.scripts (s ∷ []) ∙ ap (λ l. flat_map script_words d.scripts ++ l) (append-nil (script_words s) ∙ ap (λ l. tx_words s ∷ (map op_words s.ops ++ l ∷ [])) (sym f.spelled)));
-      ranges = λ few r. record { places = r.places; inits = r.inits; scripts = all_last is_script_in_range d.scripts s r.scripts (script_ranges s r.opened least); opened = tt; items = r.items; built = r.built };
+      ranges = λ few r. record { places = r.places; inits = r.inits; scripts = all_last is_script_in_range d.scripts s r.scripts (script_ranges s r.opened least); opened = tt; items = r.items };
     })
 
 pub script_told : (d : Draft) (s : ScriptData) (w : List ℕ) (ws : List (List ℕ))

@@ -1,5 +1,5 @@
 -- The bytes in which a document is read are its spelling.
-use Rattle.std.proofs.Common.{◌≡◌, ℕ, ◌+◌, ◌≤◌, ◌==◌, ◌&&◌, nat_le, Bool, true, false, List, [], ◌∷◌, ◌++◌, length, None, Result, Ok, Err, IfOk, refl, sym, ap, ◌∙◌, subst, map, append_assoc, arith}
+use Rattle.std.proofs.Common.{◌≡◌, ℕ, ◌+◌, ◌≤◌, ◌^◌, ◌==◌, ◌&&◌, nat_le, nat_lt, Bool, true, false, List, [], ◌∷◌, ◌++◌, length, None, Result, Ok, Err, IfOk, refl, sym, ap, ◌∙◌, subst, map, append_assoc, arith}
 use Rattle.std.specs.List.{list_all, flat_map, join_with_byte, slice_split}
 use Rattle.std.proofs.lemmas.Bool.Decides.{nat_tests}
 use Rattle.std.proofs.lemmas.Grind.{flat_map-append}
@@ -8,12 +8,14 @@ use Rattle.std.proofs.lemmas.List.Splits.{join_with_byte-slice_split}
 use Rattle.score_base.specs.declared.ids.NodeId.{NodeId}
 use Rattle.script_lang.specs.Scripts.{ScriptData}
 use Rattle.grid_model.specs.Documents.{DocumentData, IsDocument, IsOne, is_body}
+use Rattle.grid_model.specs.declared.items.Item.{Item}
+use Rattle.grid_model.specs.declared.items.Item.TheVariants as item
 use Rattle.cluster_file.specs.declared.drafts.Draft.{Draft}
 use Rattle.cluster_file.specs.declared.whys.Refusal.{Refusal}
 use Rattle.cluster_file.specs.Lines.{line_of}
 use Rattle.script_lang.specs.Words.{is_printed}
 use Rattle.cluster_file.specs.Doc.{◌>>>◌, at_line, is_whole, close, pieces_from, blank, document_of, doc}
-use Rattle.cluster_file.specs.Spelling.{IsInRange, IsBuilt, is_node, is_script_in_range, line, spelling, nodes_words, partition_lines, init_words, document_lines}
+use Rattle.cluster_file.specs.Spelling.{IsInRange, is_node, is_tx, is_script_in_range, is_item_in_range, nodes_of_item, are_items_numbered, line, spelling, nodes_words, partition_lines, init_words, document_lines}
 use Rattle.std.proofs.lemmas.Bool.{and_parts}
 use Rattle.script_lang.proofs.Readings.{at_ok, either, weaken}
 use Rattle.script_lang.proofs.ScriptRead.{empty_list}
@@ -112,6 +114,31 @@ home_in s h = grind (arith, h)
 body_in : (s : ScriptData) → is_script_in_range s ≡ true → is_body s.ops ≡ true
 body_in s h = grind (arith, h)
 
+two_nodes : (n m : NodeId) → is_node n ≡ true → is_node m ≡ true → list_all (λ k. nat_le 1 k) (n ∷ m ∷ []) ≡ true
+two_nodes n m h k = rw (node_in n h, node_in m k) refl
+
+one_node : (n : NodeId) → is_node n ≡ true → list_all (λ k. nat_le 1 k) (n ∷ []) ≡ true
+one_node n h = rw (node_in n h) refl
+
+item_in : (i : Item) → is_item_in_range i ≡ true → list_all (λ n. nat_le 1 n) (nodes_of_item i) ≡ true
+item_in (item.Begin t) h = refl
+item_in (item.Deliver m) h = refl
+item_in (item.Drop m) h = refl
+item_in (item.Next c) h = refl
+item_in (item.Retry t) h = refl
+item_in (item.Ask n t) h = one_node n (and_parts (is_node n) (is_tx t) h).0
+item_in (item.AskPeer n t m) h =
+    let both = and_parts (is_node n && is_tx t) (is_node m) h in
+    two_nodes n m (and_parts (is_node n) (is_tx t) both.0).0 both.1
+item_in (item.Crash n how) h = one_node n (and_parts (is_node n) (nat_lt how (2 ^ 64)) h).0
+item_in (item.Fuse n k how) h = one_node n (and_parts (is_node n) (nat_lt k (2 ^ 64)) (and_parts (is_node n && nat_lt k (2 ^ 64)) (nat_lt how (2 ^ 64)) h).0).0
+item_in (item.Restart n) h = one_node n h
+item_in (item.Compact n) h = one_node n h
+
+-- the nodes that items in range name are numbered from 1
+pub numbered_items : (d : DocumentData) → IsInRange d → are_items_numbered d.items ≡ true
+numbered_items d ranges = all_pass is_item_in_range (λ i. list_all (λ n. nat_le 1 n) (nodes_of_item i)) d.items item_in ranges.items
+
 one_of : (d : DocumentData) → IsDocument d → IsInRange d → IsOne d
 one_of d is ranges =
     let places : list_all (list_all (λ n. nat_le 1 n)) d.cluster.places ≡ true =
@@ -140,7 +167,6 @@ pub record IsSpelled (bytes : List ℕ) (d : DocumentData) : Type 0 where
   pub bytes_are : bytes ≡ spelling d
   pub one : IsOne d
   pub ranges : IsInRange d
-  pub built : IsBuilt d
 
 -- a document is read in its spelling alone
 pub spelled : (bytes : List ℕ) (d : DocumentData) → doc bytes ≡ Ok d → IsSpelled bytes d
@@ -156,6 +182,5 @@ spelled bytes d h = by (pieces_from blank 1 (slice_split (λ b. b == 10) bytes))
           bytes_are = sym (join_with_byte-slice_split 10 bytes) ∙ sym told.0 ∙ ap (flat_map line) (whole_lines e whole);
           one = one-from_pieces (slice_split (λ b. b == 10) bytes) e read;
           ranges = ranges_of e told.1;
-          built = record { items = told.1.built };
         })
     by (Err w) read told whole same = cc

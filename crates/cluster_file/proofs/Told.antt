@@ -1,7 +1,6 @@
 -- Whatever line is read adds its words: those of the schedule, and each line where it may stand.
-use Rattle.std.proofs.Common.{◌≡◌, ℕ, true, List, [], ◌∷◌, ◌++◌, nat_le, cond, Option, Some, None, Result, IfOk, refl, sym, ap, ◌∙◌, subst, map, arith, codes}
+use Rattle.std.proofs.Common.{◌≡◌, ℕ, ◌≤◌, true, List, [], ◌∷◌, ◌++◌, nat_le, cond, Option, Some, None, Result, IfOk, refl, sym, ap, ◌∙◌, subst, map, arith, codes}
 use Rattle.std.specs.Cmp.Lexicographic.{bytes_decides}
-use Rattle.std.specs.Fmt.{decimal}
 use Rattle.std.specs.List.{flat_map}
 use Rattle.std.proofs.lemmas.Bool.Decides.{nat_tests}
 use Rattle.std.proofs.lemmas.List.{map-append}
@@ -11,19 +10,22 @@ use Rattle.grid_model.specs.declared.items.Item.TheVariants as item
 use Rattle.cluster_file.specs.declared.drafts.Draft.{Draft}
 use Rattle.cluster_file.specs.declared.drafts.Part.{Part}
 use Rattle.cluster_file.specs.declared.drafts.Part.TheVariants as part
-use Rattle.script_lang.specs.Reading.{is_word, word_at, end_at, number_at, in_range}
-use Rattle.cluster_file.specs.Lines.{known_number, nodes_line, schedule_line, with_item, begin_line, deliver_line, drop_line, more_events, next_line, later_line, init_or_later, is_later_item, item_line, part_line, line_in, words_line}
-use Rattle.script_lang.specs.Words.{tx_of}
+use Rattle.cluster_file.specs.declared.items.Kind.{Kind}
+use Rattle.script_lang.specs.Reading.{is_word, end_at, number_at, in_range}
+use Rattle.cluster_file.specs.Items.{kind_of, item_at, with_item, event_line, more_events, next_line, item_line}
+use Rattle.cluster_file.specs.Lines.{nodes_line, schedule_line, later_line, init_or_later, part_line, line_in, words_line}
 use Rattle.cluster_file.specs.Doc.{blank}
-use Rattle.cluster_file.specs.Spelling.{is_item_in_range, is_built_item, init_words, item_words, partition_lines}
+use Rattle.cluster_file.specs.Spelling.{is_item_in_range, init_words, item_words, partition_lines}
 use Rattle.cluster_file.proofs.Named.{all_last}
 use Rattle.script_lang.proofs.Readings.{behind, then, either}
-use Rattle.script_lang.proofs.WordsRead.{word_read, end_read, number_read, in_range_read, tx_read}
+use Rattle.script_lang.proofs.WordsRead.{end_read, number_read, in_range_read}
 use Rattle.cluster_file.proofs.SoFar.{IsStage, IsBegun, planned}
 use Rattle.cluster_file.proofs.LinesSoFar.{open_lines, schedule_lines, Adds, Begins, more_schedule}
+use Rattle.cluster_file.proofs.ItemsRead.{kind_word, item_read, kind_read}
 use Rattle.cluster_file.proofs.LinesTold.{one_number, first_told, partition_told, init_told, tx_lines_told, script_told}
 use Rattle.script_lang.specs.Spelling.{script_words}
 use Rattle.script_lang.specs.declared.whys.Why.{Why}
+use Rattle.script_lang.specs.declared.limits.TheConstants.{MAX_NODES}
 use Rattle.cluster_file.specs.declared.limits.TheConstants.{MAX_COUNT, MAX_EVENTS}
 
 schedule_told : (d : Draft) (ws : List (List ℕ)) → d.items ≡ [] → schedule_lines d.part d.items ≡ []
@@ -33,40 +35,28 @@ schedule_told d ws none quiet = behind (end_at ws) _ _ _ (end_read ws) (λ z non
     record {
       lines = more_schedule _ _ (partition_lines 0 d.places) (map init_words d.inits) (flat_map script_words d.scripts) (open_lines d.script) (schedule_lines d.part d.items) ((codes "schedule" ∷ []) ∷ map item_words d.items)
           (ap (λ l. (codes "schedule" ∷ []) ∷ map item_words l) none ∙ ap (λ l. (codes "schedule" ∷ l) ∷ []) (sym none_left) ∙ ap (λ l. l ++ (codes "schedule" ∷ ws) ∷ []) (sym quiet));
-      ranges = λ few r. record { places = r.places; inits = r.inits; scripts = r.scripts; opened = r.opened; items = r.items; built = r.built };
+      ranges = λ few r. record { places = r.places; inits = r.inits; scripts = r.scripts; opened = r.opened; items = r.items };
     })
 
-item_told : (d : Draft) (i : Item) (c : ℕ) (ws : List (List ℕ)) → item_words i ≡ ws → is_item_in_range i ≡ true
-    → is_built_item i ≡ true → Adds (planned d) ws (with_item (planned d) i c)
-item_told d i c ws e is built = record {
+item_told : (d : Draft) (i : Item) (c : ℕ) (ws : List (List ℕ)) → item_words i ≡ ws
+    → (d.nodes ≤ MAX_NODES → is_item_in_range i ≡ true) → Adds (planned d) ws (with_item (planned d) i c)
+item_told d i c ws e is = record {
   lines = more_schedule _ _ (partition_lines 0 d.places) (map init_words d.inits) (flat_map script_words d.scripts) [] ((codes "schedule" ∷ []) ∷ map item_words d.items) ((codes "schedule" ∷ []) ∷ map item_words (d.items ++ i ∷ []))
       (ap (λ l. (codes "schedule" ∷ []) ∷ l) (map-append item_words d.items (i ∷ []) ∙ ap (λ l. map item_words d.items ++ l ∷ []) e));
-  ranges = λ few r. record { places = r.places; inits = r.inits; scripts = r.scripts; opened = r.opened; items = all_last is_item_in_range d.items i r.items is; built = all_last is_built_item d.items i r.built built };
+  ranges = λ few r. record { places = r.places; inits = r.inits; scripts = r.scripts; opened = r.opened; items = all_last is_item_in_range d.items i r.items (is few) };
 }
 
-begin_told : (d : Draft) (ws : List (List ℕ)) → IfOk (begin_line (planned d) ws) (Adds (planned d) (codes "begin" ∷ ws))
-unfolding begin_line
-begin_told d ws = either (nat_le MAX_EVENTS d.events) _ _ _ (λ _. tt) (λ _. behind (word_at ws) _ _ _ (word_read ws) (λ w words. behind (tx_of w.0) _ _ _ (tx_read w.0) (λ t number. then (known_number d.numbers t) _ _ (λ _. behind (end_at w.1) _ _ _ (end_read w.1) (λ z none_left.
-    let all : decimal t ∷ [] ≡ ws = ap (λ l. l ∷ []) (sym number.0) ∙ ap (λ l. w.0 ∷ l) (sym none_left) ∙ sym words in
-    item_told d (item.Begin t) 1 _ (ap (λ l. codes "begin" ∷ l) all) number.1 refl)))))
-
-deliver_told : (d : Draft) (ws : List (List ℕ))
-    → IfOk (deliver_line (planned d) ws) (Adds (planned d) (codes "deliver" ∷ ws))
-unfolding deliver_line
-deliver_told d ws = either (nat_le MAX_EVENTS d.events) _ _ _ (λ _. tt) (λ _. behind (number_at ws) _ _ _ (number_read ws) (λ n words. behind (in_range 1 MAX_COUNT n.0) _ _ _ (in_range_read 1 MAX_COUNT n.0) (λ m same. behind (end_at n.1) _ _ _ (end_read n.1) (λ z none_left.
-    item_told d (item.Deliver m) 1 _ (ap (λ l. codes "deliver" ∷ l) (one_number ws n m words.0 same.0 none_left)) same.2 refl))))
-
-drop_told : (d : Draft) (ws : List (List ℕ)) → IfOk (drop_line (planned d) ws) (Adds (planned d) (codes "drop" ∷ ws))
-unfolding drop_line
-drop_told d ws = either (nat_le MAX_EVENTS d.events) _ _ _ (λ _. tt) (λ _. behind (number_at ws) _ _ _ (number_read ws) (λ n words. behind (in_range 1 MAX_COUNT n.0) _ _ _ (in_range_read 1 MAX_COUNT n.0) (λ m same. behind (end_at n.1) _ _ _ (end_read n.1) (λ z none_left.
-    item_told d (item.Drop m) 1 _ (ap (λ l. codes "drop" ∷ l) (one_number ws n m words.0 same.0 none_left)) same.2 refl))))
+event_told : (d : Draft) (k : Kind) (ws : List (List ℕ))
+    → IfOk (event_line (planned d) k ws) (Adds (planned d) (kind_word k ∷ ws))
+unfolding event_line
+event_told d k ws = either (nat_le MAX_EVENTS d.events) _ _ _ (λ _. tt) (λ _. behind (item_at k d.nodes d.numbers ws) _ _ _ (item_read k d.nodes d.numbers ws) (λ i read. item_told d i 1 _ read.spelled read.short))
 
 next_item_told : (d : Draft) (ws : List (List ℕ))
     → IfOk (next_line (planned d) ws) (Adds (planned d) (codes "next" ∷ ws))
 unfolding next_line
 next_item_told d ws = behind (number_at ws) _ _ _ (number_read ws) (λ n words. behind (in_range 1 MAX_EVENTS n.0) _ _ _ (in_range_read 1 MAX_EVENTS n.0) (λ c same. then (more_events d.events c) _ _ (λ _. behind (end_at n.1) _ _ _ (end_read n.1) (λ z none_left.
     let low : nat_le c MAX_COUNT ≡ true = grind (arith, nat_tests, same.2) in
-    item_told d (item.Next c) c _ (ap (λ l. codes "next" ∷ l) (one_number ws n c words.0 same.0 none_left)) low refl))))
+    item_told d (item.Next c) c _ (ap (λ l. codes "next" ∷ l) (one_number ws n c words.0 same.0 none_left)) (λ few. low)))))
 
 -- Which lines may stand where.
 
@@ -85,7 +75,8 @@ init_or_later_told d w ws ss none items quiet = word_or w (codes "init") ws d _ 
 
 item_line_told : (d : Draft) (w : List ℕ) (ws : List (List ℕ))
     → IfOk (item_line (planned d) w ws) (Adds (planned d) (w ∷ ws))
-item_line_told d w ws = word_or w (codes "begin") ws (planned d) _ _ (begin_told d ws) (word_or w (codes "deliver") ws (planned d) _ _ (deliver_told d ws) (word_or w (codes "drop") ws (planned d) _ _ (drop_told d ws) (word_or w (codes "next") ws (planned d) _ _ (next_item_told d ws) (either (is_later_item w) _ _ _ (λ _. tt) (λ _. tt)))))
+unfolding item_line
+item_line_told d w ws = word_or w (codes "next") ws (planned d) _ _ (next_item_told d ws) (behind (kind_of w) _ _ _ (kind_read w) (λ k e. subst (λ v. IfOk (event_line (planned d) k ws) (Adds (planned d) (v ∷ ws))) (sym e) (event_told d k ws)))
 
 part_told : (p : Part) (d : Draft) (w : List ℕ) (ws : List (List ℕ)) → IsStage p d.places d.inits d.scripts None d.items
     → IfOk (part_line p (record d { script = None; part = p }) w ws)

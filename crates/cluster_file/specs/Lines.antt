@@ -1,36 +1,30 @@
 -- What each line of a document adds to what was read before it, or its first why.
-use Rattle.std.specs.Prelude.{ℕ, ◌+◌, ◌==◌, ◌||◌, nat_le, Bool, List, [], ◌∷◌, ◌++◌, length, Option, Some, None, Result, Ok, Err, if◌then◌else◌, codes}
+use Rattle.std.specs.Prelude.{ℕ, ◌==◌, nat_le, Bool, List, [], ◌∷◌, ◌++◌, length, Option, Some, None, Result, Ok, Err, if◌then◌else◌, codes}
 use Rattle.std.specs.List.{slice_split, list_any, list_all}
 use Rattle.std.specs.BTreeSet.{BTreeSet}
 use Rattle.score_base.specs.declared.keys.Key.{Key}
 use Rattle.score_base.specs.declared.ids.NodeId.{NodeId}
-use Rattle.score_base.specs.declared.ids.TxId.{TxId}
 use Rattle.script_lang.specs.Scripts.{ScriptData}
 use Rattle.script_lang.specs.declared.script_lines.Stage.{Stage}
 use Rattle.script_lang.specs.declared.script_lines.Stage.TheVariants as stage
-use Rattle.script_lang.specs.Names.{has_name, is_taken, with_number, name_key}
+use Rattle.script_lang.specs.Names.{has_name, with_number, name_key}
 use Rattle.script_lang.specs.ScriptLines.{first_line, body_line}
-use Rattle.grid_model.specs.declared.items.Item.{Item}
-use Rattle.grid_model.specs.declared.items.Item.TheVariants as item
+use Rattle.cluster_file.specs.Items.{item_line}
 use Rattle.cluster_file.specs.declared.drafts.Draft.{Draft}
 use Rattle.cluster_file.specs.declared.drafts.Part.{Part}
 use Rattle.cluster_file.specs.declared.drafts.Part.TheVariants as part
 use Rattle.script_lang.specs.Reading.{◌>>=◌, is_word, word_at, end_at, number_at, in_range, steps}
-use Rattle.script_lang.specs.Words.{node_of, key_of, tx_of, is_printed}
+use Rattle.script_lang.specs.Words.{node_of, key_of, is_printed}
 use Rattle.script_lang.specs.declared.whys.Why.{Why}
 use Rattle.script_lang.specs.declared.whys.Why.TheVariants as why
 use Rattle.script_lang.specs.declared.limits.TheConstants.{MAX_NODES}
-use Rattle.cluster_file.specs.declared.limits.TheConstants.{MAX_COUNT, MAX_EVENTS, MAX_KEYS, MAX_PARTITIONS, MAX_SCRIPTS}
+use Rattle.cluster_file.specs.declared.limits.TheConstants.{MAX_KEYS, MAX_PARTITIONS, MAX_SCRIPTS}
 
 -- What was named before.
 
 -- the keys named so far and this one, which was not named before
 abbrev pub name_new_key : BTreeSet Key → Key → Result (BTreeSet Key) Why
 name_new_key known k = if has_name known k then Err why.Repeat else name_key MAX_KEYS known k
-
--- a script has the number
-abbrev pub known_number : BTreeSet TxId → TxId → Result (Unit {0}) Why
-known_number numbers t = if is_taken numbers t then Ok tt else Err why.Transaction
 
 -- The cluster: 'nodes N', then 1 to 64 lines 'partition i n..', then any number of lines 'init k v'.
 
@@ -89,51 +83,12 @@ script_line d s w ws = do
   x ← body_line MAX_KEYS d.known s w ws
   Ok (with_stage (record d { known = x.1 }) x.0)
 
--- The schedule: 'schedule', then any number of items, of at most 50,000 events.
+-- The schedule: 'schedule', then any number of items, whose lines are those of 'Items'.
 
 unfoldable pub schedule_line : Draft → List (List ℕ) → Result Draft Why
 schedule_line d ws = do
   end ← end_at ws
   Ok (record d { part = part.Items })
-
--- one item more, of so many events
-abbrev pub with_item : Draft → Item → ℕ → Draft
-with_item d i c = record d { items = d.items ++ i ∷ []; events = d.events + c }
-
-unfoldable pub begin_line : Draft → List (List ℕ) → Result Draft Why
-begin_line d ws = if nat_le MAX_EVENTS d.events then Err why.Limit else (do
-  w ← word_at ws
-  t ← tx_of w.0
-  known ← known_number d.numbers t
-  end ← end_at w.1
-  Ok (with_item d (item.Begin t) 1))
-
-unfoldable pub deliver_line : Draft → List (List ℕ) → Result Draft Why
-deliver_line d ws = if nat_le MAX_EVENTS d.events then Err why.Limit else (do
-  n ← number_at ws
-  m ← in_range 1 MAX_COUNT n.0
-  end ← end_at n.1
-  Ok (with_item d (item.Deliver m) 1))
-
-unfoldable pub drop_line : Draft → List (List ℕ) → Result Draft Why
-drop_line d ws = if nat_le MAX_EVENTS d.events then Err why.Limit else (do
-  n ← number_at ws
-  m ← in_range 1 MAX_COUNT n.0
-  end ← end_at n.1
-  Ok (with_item d (item.Drop m) 1))
-
--- so many more events, at most 50,000 in all
-abbrev pub more_events : ℕ → ℕ → Result (Unit {0}) Why
-more_events events c = if nat_le (events + c) MAX_EVENTS then Ok tt else Err why.Limit
-
--- the limit on events is checked at the number, since the item is so many events
-unfoldable pub next_line : Draft → List (List ℕ) → Result Draft Why
-next_line d ws = do
-  n ← number_at ws
-  c ← in_range 1 MAX_EVENTS n.0
-  room ← more_events d.events c
-  end ← end_at n.1
-  Ok (with_item d (item.Next c) c)
 
 -- Which lines may stand where.
 
@@ -146,21 +101,6 @@ later_line d w ws =
 -- a line behind the partitions
 abbrev pub init_or_later : Draft → List ℕ → List (List ℕ) → Result Draft Why
 init_or_later d w ws = if is_word w (codes "init") then init_line d ws else later_line d w ws
-
--- the items that are not read yet
-abbrev pub is_later_item : List ℕ → Bool
-is_later_item w =
-    is_word w (codes "retry") || is_word w (codes "ask") || is_word w (codes "crash") || is_word w (codes "fuse")
-    || is_word w (codes "restart")
-
--- a line of the schedule
-abbrev pub item_line : Draft → List ℕ → List (List ℕ) → Result Draft Why
-item_line d w ws =
-    if is_word w (codes "begin") then begin_line d ws else
-    (if is_word w (codes "deliver") then deliver_line d ws else
-    (if is_word w (codes "drop") then drop_line d ws else
-    (if is_word w (codes "next") then next_line d ws else
-    (if is_later_item w then Err why.Unbuilt else Err why.Word))))
 
 -- a line outside of scripts, by the part of the document that it stands in
 abbrev pub part_line : Part → Draft → List ℕ → List (List ℕ) → Result Draft Why

@@ -1,6 +1,6 @@
 -- The one spelling of a document: lines of words, with single spaces between the words and a line feed
 -- at each line's end.
-use Rattle.std.specs.Prelude.{ℕ, ◌+◌, ◌^◌, Bool, true, false, ◌&&◌, nat_le, nat_lt, map, IsTrue, List, [], ◌∷◌, ◌++◌, length, codes}
+use Rattle.std.specs.Prelude.{ℕ, ◌+◌, ◌^◌, Bool, ◌&&◌, nat_le, nat_lt, map, IsTrue, List, [], ◌∷◌, ◌++◌, length, codes}
 use Rattle.std.specs.List.{list_all, flat_map, join_with_byte}
 use Rattle.std.specs.Fmt.{decimal}
 use Rattle.score_base.specs.declared.keys.Key.{Key}
@@ -66,25 +66,6 @@ line words = join_with_byte 32 words ++ 10 ∷ []
 abbrev pub spelling : DocumentData → List ℕ
 spelling d = flat_map line (document_lines d)
 
--- Which documents have a spelling that is read.
-
-abbrev pub is_built_item : Item → Bool
-is_built_item (item.Begin t) = true
-is_built_item (item.Deliver m) = true
-is_built_item (item.Drop m) = true
-is_built_item (item.Next c) = true
-is_built_item (item.Retry t) = false
-is_built_item (item.Ask n t) = false
-is_built_item (item.AskPeer n t m) = false
-is_built_item (item.Crash n how) = false
-is_built_item (item.Fuse n k how) = false
-is_built_item (item.Restart n) = false
-is_built_item (item.Compact n) = false
-
--- each item begins, delivers, drops or takes the next
-pub record IsBuilt (d : DocumentData) : Type 0 where
-  pub items : IsTrue (list_all is_built_item d.items)
-
 -- The ranges that the types of a document's parts have in the code.
 
 abbrev pub is_node : NodeId → Bool
@@ -122,3 +103,21 @@ pub record IsInRange (d : DocumentData) : Type 0 where
   pub inits : IsTrue (list_all is_init_in_range d.cluster.inits)
   pub scripts : IsTrue (list_all is_script_in_range d.scripts)
   pub items : IsTrue (list_all is_item_in_range d.items)
+
+-- the nodes that an item names
+abbrev pub nodes_of_item : Item → List NodeId
+nodes_of_item (item.Begin t) = []
+nodes_of_item (item.Deliver m) = []
+nodes_of_item (item.Drop m) = []
+nodes_of_item (item.Next c) = []
+nodes_of_item (item.Retry t) = []
+nodes_of_item (item.Ask n t) = n ∷ []
+nodes_of_item (item.AskPeer n t m) = n ∷ m ∷ []
+nodes_of_item (item.Crash n how) = n ∷ []
+nodes_of_item (item.Fuse n k how) = n ∷ []
+nodes_of_item (item.Restart n) = n ∷ []
+nodes_of_item (item.Compact n) = n ∷ []
+
+-- the nodes that these items name are numbered from 1
+abbrev pub are_items_numbered : List Item → Bool
+are_items_numbered items = list_all (λ i. list_all (λ n. nat_le 1 n) (nodes_of_item i)) items

@@ -4,12 +4,12 @@
 //! `tx t n session s` to `end`, `schedule`, and items. `doc` in `specs/` is the format: it reads a text
 //! line by line and each line word by word, and [`read_document`] is proved equal to it. `spelling`
 //! there writes the words of a document; [`law_one_spelling`] says that `doc` finds a document in its
-//! spelling and in no other bytes. Scripts are read whole; of the items, those that begin, deliver, drop
-//! and take the next are read, and the others are refused with why 12 where they may stand.
+//! spelling and in no other bytes.
 #![tactic(auto)]
 
 mod documents;
 mod drafts;
+mod items;
 mod laws;
 mod limits;
 mod lines;

@@ -12,5 +12,9 @@ pub const MAX_SCRIPTS: usize = 4_096;
 /// The events of a schedule: each may add a record to a journal.
 pub const MAX_EVENTS: u64 = 50_000;
 
-/// The greatest number of a message, and of events that one item takes: each has 32 bits.
+/// The greatest number of a message, of events that one item takes, and of an image of a disk: each has
+/// 32 bits.
 pub const MAX_COUNT: u64 = 4_294_967_295;
+
+/// The greatest number of the call at which a fuse stops a disk: a commit takes few calls.
+pub const MAX_CALL: u64 = 1_000;

@@ -1,19 +1,18 @@
 ghost use Rattle.std.specs.Prelude.{◌≡◌, ◌≤◌, ◌==◌, ◌+◌, [], map, OnOk};
 ghost use Rattle.std.specs.List.{list_any};
 ghost use Rattle.script_lang.specs.Reading.{Gives, steps};
-ghost use Rattle.cluster_file.specs.Lines.{name_new_key, known_number, nodes_line, new_node, node_step, is_next, partition_line, init_line, tx_line, with_stage, script_line, schedule_line, with_item, begin_line, deliver_line, drop_line, more_events, next_line, later_line, init_or_later, is_later_item, item_line, part_line, words_line, line_of};
+ghost use Rattle.cluster_file.specs.Lines.{name_new_key, nodes_line, new_node, node_step, is_next, partition_line, init_line, tx_line, with_stage, script_line, schedule_line, later_line, init_or_later, part_line, words_line, line_of};
 ghost use Rattle.script_lang.specs.Words.{is_printed};
 
 use crate::drafts::{Draft, Part};
-use crate::limits::{MAX_COUNT, MAX_EVENTS, MAX_KEYS, MAX_PARTITIONS, MAX_SCRIPTS};
-use grid_model::Item;
-use score_base::{Key, NodeId, NodeList, TxId, Value};
+use crate::items::item_line;
+use crate::limits::{MAX_KEYS, MAX_PARTITIONS, MAX_SCRIPTS};
+use score_base::{Key, NodeId, NodeList, Value};
 use script_lang::limits::MAX_NODES;
-use script_lang::names::{has_name, is_taken, name_key, put_number};
+use script_lang::names::{has_name, name_key, put_number};
 use script_lang::script_lines::{Stage, body_line, first_line};
 use script_lang::words::{
-    NodeCount, are_printed, end_at, in_range, is_word, key_of, node_of, number_at, pieces, tx_of,
-    word_at,
+    NodeCount, are_printed, end_at, in_range, is_word, key_of, node_of, number_at, pieces, word_at,
 };
 use script_lang::{LineEnd, ScriptDraft, Why};
 use std::alloc::Global;
@@ -26,15 +25,6 @@ fn name_new_key(known: &mut BTreeSet<Key>, key: Key) -> Result<(), LineEnd>
         return Err(LineEnd::Why(Why::Repeat));
     }
     name_key(known, MAX_KEYS, key)
-}
-
-fn known_number(numbers: &BTreeSet<TxId>, t: &TxId) -> Result<(), LineEnd>
-    ensures { Gives (λ x. x) result (known_number numbers.now t.now) }
-{
-    if is_taken(numbers, t) {
-        return Ok(());
-    }
-    Err(LineEnd::Why(Why::Transaction))
 }
 
 #[tactic(auto, unfolding(crate::specs::Lines::nodes_line))]
@@ -181,77 +171,6 @@ fn schedule_line(draft: Draft, words: &[&[u8]]) -> Result<Draft, LineEnd>
     })
 }
 
-#[tactic(auto, unfolding(crate::specs::Lines::begin_line))]
-fn begin_line(mut draft: Draft, words: &[&[u8]]) -> Result<Draft, LineEnd>
-    ensures { Gives (λ d. d) result (begin_line draft (map (λ w. w.now) words.now)) }
-{
-    if draft.events >= MAX_EVENTS {
-        return Err(LineEnd::Why(Why::Limit));
-    }
-    let (word, rest) = word_at(words)?;
-    let t = tx_of(word)?;
-    known_number(&draft.numbers, &t)?;
-    end_at(rest)?;
-    draft.items.push(Item::Begin(t))?;
-    draft.events += 1;
-    Ok(draft)
-}
-
-#[tactic(auto, unfolding(crate::specs::Lines::deliver_line))]
-fn deliver_line(mut draft: Draft, words: &[&[u8]]) -> Result<Draft, LineEnd>
-    ensures { Gives (λ d. d) result (deliver_line draft (map (λ w. w.now) words.now)) }
-{
-    if draft.events >= MAX_EVENTS {
-        return Err(LineEnd::Why(Why::Limit));
-    }
-    let (n, rest) = number_at(words)?;
-    let m = in_range(1, MAX_COUNT, n)?;
-    end_at(rest)?;
-    draft.items.push(Item::Deliver(m as u32))?;
-    draft.events += 1;
-    Ok(draft)
-}
-
-#[tactic(auto, unfolding(crate::specs::Lines::drop_line))]
-fn drop_line(mut draft: Draft, words: &[&[u8]]) -> Result<Draft, LineEnd>
-    ensures { Gives (λ d. d) result (drop_line draft (map (λ w. w.now) words.now)) }
-{
-    if draft.events >= MAX_EVENTS {
-        return Err(LineEnd::Why(Why::Limit));
-    }
-    let (n, rest) = number_at(words)?;
-    let m = in_range(1, MAX_COUNT, n)?;
-    end_at(rest)?;
-    draft.items.push(Item::Drop(m as u32))?;
-    draft.events += 1;
-    Ok(draft)
-}
-
-fn more_events(events: u64, c: u64) -> Result<(), LineEnd>
-    requires { c ≤ MAX_EVENTS }
-    ensures value { Gives (λ x. x) result (more_events events c) }
-    ensures few { OnOk result (events + c ≤ MAX_EVENTS) }
-{
-    if events <= MAX_EVENTS - c {
-        Ok(())
-    } else {
-        Err(LineEnd::Why(Why::Limit))
-    }
-}
-
-#[tactic(auto, unfolding(crate::specs::Lines::next_line))]
-fn next_line(mut draft: Draft, words: &[&[u8]]) -> Result<Draft, LineEnd>
-    ensures { Gives (λ d. d) result (next_line draft (map (λ w. w.now) words.now)) }
-{
-    let (n, rest) = number_at(words)?;
-    let c = in_range(1, MAX_EVENTS, n)?;
-    more_events(draft.events, c)?;
-    end_at(rest)?;
-    draft.items.push(Item::Next(c as u32))?;
-    draft.events += c;
-    Ok(draft)
-}
-
 fn later_line(alloc: Global, draft: Draft, word: &[u8], rest: &[&[u8]]) -> Result<Draft, LineEnd>
     ensures { Gives (λ d. d) result (later_line draft word.now (map (λ w. w.now) rest.now)) }
 {
@@ -271,34 +190,6 @@ fn init_or_later(alloc: Global, draft: Draft, word: &[u8], rest: &[&[u8]]) -> Re
         init_line(draft, rest)
     } else {
         later_line(alloc, draft, word, rest)
-    }
-}
-
-fn is_later_item(word: &[u8]) -> bool
-    ensures { result ≡ is_later_item word.now }
-{
-    is_word(word, b"retry")
-        || is_word(word, b"ask")
-        || is_word(word, b"crash")
-        || is_word(word, b"fuse")
-        || is_word(word, b"restart")
-}
-
-fn item_line(draft: Draft, word: &[u8], rest: &[&[u8]]) -> Result<Draft, LineEnd>
-    ensures { Gives (λ d. d) result (item_line draft word.now (map (λ w. w.now) rest.now)) }
-{
-    if is_word(word, b"begin") {
-        begin_line(draft, rest)
-    } else if is_word(word, b"deliver") {
-        deliver_line(draft, rest)
-    } else if is_word(word, b"drop") {
-        drop_line(draft, rest)
-    } else if is_word(word, b"next") {
-        next_line(draft, rest)
-    } else if is_later_item(word) {
-        Err(LineEnd::Why(Why::Unbuilt))
-    } else {
-        Err(LineEnd::Why(Why::Word))
     }
 }
 

@@ -4,7 +4,7 @@ use crate::documents::read_document;
 use crate::laws::law_one_spelling;
 use crate::whys::DocEnd;
 use grid_model::{Document, Item};
-use score_base::{Key, Memory, TxId, Value, put_bytes, put_number};
+use score_base::{Key, Memory, NodeId, TxId, Value, put_bytes, put_number};
 use std::alloc::Global;
 
 const HEAD: &[u8] = b"nodes 2\npartition 0 n1\npartition 1 n2\ninit a 10\ninit b 0\n";
@@ -273,11 +273,100 @@ fn first_fault_decides(rt: HostRuntime) {
     assert!(rt; is_refused_behind(alloc, b"tx 1 n9 x\nread A\n", 6, 3));
     assert!(rt; is_refused_behind(alloc, b"foo\x7f\n", 6, 11));
     assert!(rt; is_refused_behind(alloc, b"schedule\r\n", 6, 11));
-    assert!(rt; is_refused_behind(alloc, b"schedule\nretry x\n", 7, 12));
-    assert!(rt; is_refused_behind(alloc, b"schedule\nask\n", 7, 12));
-    assert!(rt; is_refused_behind(alloc, b"schedule\ncrash n1 0\n", 7, 12));
-    assert!(rt; is_refused_behind(alloc, b"schedule\nfuse n1 1 0\n", 7, 12));
-    assert!(rt; is_refused_behind(alloc, b"schedule\nrestart n1\n", 7, 12));
+    assert!(rt; is_refused_behind(alloc, b"schedule\nask n3 x y\n", 7, 3));
+    assert!(rt; is_refused_behind(alloc, b"schedule\nfuse n1 0 x\n", 7, 9));
+    assert!(rt; is_refused_behind(alloc, b"schedule\ncrash n1 x y\n", 7, 2));
+    assert!(rt; is_refused_behind(alloc, b"schedule\nopen n1\n", 7, 1));
+}
+
+/// Whether this line of the schedule is refused for this why, behind a script of number 7.
+fn is_item_refused(alloc: Global, item: &[u8], why: u8) -> bool {
+    let front = b"tx 7 n1\nread a\nend\nschedule\n";
+    match behind(alloc, front, item) {
+        Ok(text) => is_refused_behind(alloc, text.as_slice(), 10, why),
+        Err(_) => false,
+    }
+}
+
+/// Whether this line of the schedule is read as this item, behind a script of number 7.
+fn is_item_read(alloc: Global, line: &[u8], item: Item) -> bool {
+    let front = b"tx 7 n1\nread a\nend\nschedule\n";
+    match behind(alloc, front, line) {
+        Ok(rest) => match behind(alloc, HEAD, rest.as_slice()) {
+            Ok(text) => match read_document(alloc, text.as_slice()) {
+                Ok(document) => is_only_item(document.items(), item),
+                Err(_) => false,
+            },
+            Err(_) => false,
+        },
+        Err(_) => false,
+    }
+}
+
+fn is_only_item(items: &[Item], item: Item) -> bool {
+    match items {
+        [one] => *one == item,
+        _ => false,
+    }
+}
+
+const N1: NodeId = NodeId { number: 1 };
+
+const N2: NodeId = NodeId { number: 2 };
+
+const T7: TxId = TxId { number: 7 };
+
+#[test]
+fn items_of_a_transaction(rt: HostRuntime) {
+    let alloc = rt.alloc();
+    assert!(rt; is_item_read(alloc, b"retry 7\n", Item::Retry(T7)));
+    assert!(rt; is_item_refused(alloc, b"retry 6\n", 6));
+    assert!(rt; is_item_refused(alloc, b"retry\n", 10));
+    assert!(rt; is_item_refused(alloc, b"retry 7 7\n", 1));
+    assert!(rt; is_item_read(alloc, b"ask n2 7\n", Item::Ask(N2, T7)));
+    assert!(rt; is_item_refused(alloc, b"ask n3 7\n", 3));
+    assert!(rt; is_item_refused(alloc, b"ask n2 8\n", 6));
+    assert!(rt; is_item_refused(alloc, b"ask n2\n", 10));
+    assert!(rt; is_item_read(alloc, b"ask n2 7 n1\n", Item::AskPeer(N2, T7, N1)));
+    assert!(rt; is_item_refused(alloc, b"ask n2 7 n0\n", 3));
+    assert!(rt; is_item_refused(alloc, b"ask n2 7 n3\n", 3));
+    assert!(rt; is_item_refused(alloc, b"ask n2 7 \n", 3));
+    assert!(rt; is_item_refused(alloc, b"ask n2 7 n1 n1\n", 1));
+}
+
+#[test]
+fn items_of_a_node(rt: HostRuntime) {
+    let alloc = rt.alloc();
+    assert!(rt; is_item_read(alloc, b"crash n1 0\n", Item::Crash(N1, 0)));
+    assert!(rt;
+        is_item_read(
+            alloc,
+            b"crash n2 4294967295\n",
+            Item::Crash(N2, 4_294_967_295)
+        )
+    );
+    assert!(rt; is_item_refused(alloc, b"crash n2 4294967296\n", 9));
+    assert!(rt; is_item_refused(alloc, b"crash n3 0\n", 3));
+    assert!(rt; is_item_refused(alloc, b"crash n1\n", 10));
+    assert!(rt; is_item_refused(alloc, b"crash n1 0 0\n", 1));
+    assert!(rt;
+        is_item_read(
+            alloc,
+            b"fuse n1 1 4294967295\n",
+            Item::Fuse(N1, 1, 4_294_967_295)
+        )
+    );
+    assert!(rt; is_item_read(alloc, b"fuse n1 1000 0\n", Item::Fuse(N1, 1_000, 0)));
+    assert!(rt; is_item_refused(alloc, b"fuse n1 0 0\n", 9));
+    assert!(rt; is_item_refused(alloc, b"fuse n1 1001 0\n", 9));
+    assert!(rt; is_item_refused(alloc, b"fuse n1 1 4294967296\n", 9));
+    assert!(rt; is_item_refused(alloc, b"fuse n1 1\n", 10));
+    assert!(rt; is_item_read(alloc, b"restart n2\n", Item::Restart(N2)));
+    assert!(rt; is_item_refused(alloc, b"restart n3\n", 3));
+    assert!(rt; is_item_refused(alloc, b"restart n2 0\n", 1));
+    assert!(rt; is_item_read(alloc, b"compact n2\n", Item::Compact(N2)));
+    assert!(rt; is_item_refused(alloc, b"compact n0\n", 3));
+    assert!(rt; is_item_refused(alloc, b"compact\n", 10));
 }
 
 #[test]
@@ -294,6 +383,9 @@ fn limits_of_the_schedule(rt: HostRuntime) {
     assert!(rt; is_refused_behind(alloc, b"schedule\nnext 50000\ndeliver x\n", 8, 9));
     assert!(rt; is_refused_behind(alloc, b"schedule\nnext 50000\ndrop\n", 8, 9));
     assert!(rt; is_refused_behind(alloc, b"schedule\nnext 50000\nfoo\n", 8, 1));
+    assert!(rt; is_refused_behind(alloc, b"schedule\nnext 50000\nfuse n9 0\n", 8, 9));
+    assert!(rt; is_accepted_behind(alloc, b"schedule\nnext 49999\ncompact n1\n"));
+    assert!(rt; is_refused_behind(alloc, b"schedule\nnext 50000\ncompact n1\n", 8, 9));
 }
 
 #[test]

@@ -3,8 +3,7 @@
 //! [`print_document`] appends `spelling` of a document, as `cluster_file` defines it, and [`print_script`]
 //! `script_text` of one script, as `script_lang` does; after want of memory `out` is as before. What is
 //! printed is read back: `law_one_spelling` of `cluster_file` says that `doc` finds a document in its
-//! spelling, where its keys and numbers are in the ranges of their types (`IsInRange`) and its items are
-//! of the forms that are read (`IsBuilt`). Items of the other forms are printed too, by `item_words`.
+//! spelling, where its keys and numbers are in the ranges of their types (`IsInRange`).
 //! `law_script_spelling` of `script_lang` says that a script that was read is printed as the text that it
 //! was read from.
 #![tactic(auto)]

@@ -1,8 +1,8 @@
-//! The program: the real words, input and output. Its exit status is the code of the top call.
+//! The program: the real words, input and output, and disks in memory. Its exit status is the code of the top call.
 #![tactic(auto)]
 
 use score_base::Memory;
-use score_cli::score;
+use score_cli::{memory_disks, score};
 use score_io::{StdSink, StdSource};
 use std::env;
 use std::io::ErrorKind;
@@ -31,8 +31,11 @@ fn main(rt: HostRuntime) -> ExitCode {
     let Ok(words) = words(&rt) else {
         return ExitCode::from(6);
     };
+    let Ok(mut disks) = memory_disks(rt.alloc()) else {
+        return ExitCode::from(6);
+    };
     let mut source = StdSource::new(rt.stdin());
     let mut sink = StdSink::new(rt.stdout());
-    let status = score(rt.alloc(), &words, &mut source, &mut sink);
+    let status = score(rt.alloc(), &words, &mut source, &mut sink, &mut disks);
     ExitCode::from(status.code)
 }

@@ -1,2 +1,4 @@
+pub mod ForCode
+pub mod FusedDisks
+pub mod Answered
 pub mod Complete
-pub mod Runs

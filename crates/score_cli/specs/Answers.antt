@@ -1,16 +1,20 @@
 -- What the answers of the program mean.
 use Rattle.std.specs.Prelude.{◌≡◌, ◌⊎◌, ℕ, ◌≤◌, Bool, false, nat_eq, List, [], ◌∷◌, ◌++◌, length, codes, Result, Ok, Err, Option, nat_le, if◌then◌else◌}
 use Rattle.std.specs.Fmt.{decimal}
-use Rattle.std.specs.Io.KnownBytes.{Appends}
+use Rattle.std.specs.Io.KnownBytes.{Appends, Keeps}
 use Rattle.std.specs.Cmp.Lexicographic.{pointwise}
+use Rattle.score_base.specs.declared.ids.NodeId.{NodeId}
 use Rattle.score_base.specs.Faults.{Rose}
+use Rattle.score_disk.specs.declared.disk.Disk.{Ghosts}
 use Rattle.score_io.specs.Streams.{ReadWhole, Lost, AppendsPart}
 use Rattle.grid_model.specs.declared.acts.Act.{Act}
 use Rattle.grid_model.specs.Documents.{DocumentData}
-use Rattle.grid_model.specs.Runs.{Lawful}
+use Rattle.grid_model.specs.Cuts.{cut}
 use Rattle.cluster_file.specs.declared.whys.Refusal.{Refusal}
 use Rattle.cluster_file.specs.Doc.{doc}
 use Rattle.history_print.specs.Text.{text}
+use Rattle.text_parts.specs.Answers.{BrokenPart, SomeParts}
+use Rattle.score_cli.specs.Disks.{Played}
 use Rattle.score_cli.specs.Headline.{Headline}
 
 -- the greatest input that is read, in bytes
@@ -33,41 +37,39 @@ pub data Wrote (held_old held_new : Option (List ℕ)) (faults_old faults_new : 
 unfoldable pub refused_line : Refusal → List ℕ
 refused_line r = codes "refused " ++ decimal r.line ++ codes " " ++ decimal r.why ++ codes "\n"
 
--- the input was read to its end, its bytes are a document within the limit, and the headline holds of
--- these acts
-pub record Ran (left_old left_new : Option (List ℕ)) : Type 0 where
+-- the input was read to its end, and its bytes are a document within the limit
+pub record Came (left_old left_new : Option (List ℕ)) : Type 0 where
   pub bytes : List ℕ
   pub read : ReadWhole left_old left_new bytes
   pub within : length bytes ≤ input_limit
   pub document : DocumentData
   pub spelled : doc bytes ≡ Ok document
-  pub acts : List Act
-  pub headline : Headline document acts
 
--- the text of a lawful run of the document in which no disk failed
-pub record IsRunText (d : DocumentData) (written : List ℕ) : Type 0 where
-  pub acts : List Act
-  pub lawful : Lawful d acts (λ n. 0)
-  pub printed : written ≡ text acts d
+-- what is claimed of acts of which nothing more is known: the headline, for some rise of the counts of the disks
+abbrev pub HeadlineSoFar : DocumentData → ℕ → List Act → Type 0
+HeadlineSoFar d e h = (rise : NodeId → ℕ) × Headline (cut e d) h rise
 
--- the text of acts of which the headline holds, for the document that the bytes spell
-pub record IsTextOf (bytes written : List ℕ) : Type 0 where
-  pub document : DocumentData
-  pub spelled : doc bytes ≡ Ok document
-  pub acts : List Act
-  pub headline : Headline document acts
-  pub printed : written ≡ text acts document
+module _ {D : Type 0} (g : Ghosts D) where
+  -- the document was played over the disks, and the text of its acts was written
+  pub record Done (left_old left_new held_old held_new : Option (List ℕ)) (given left : List D) : Type 0 where
+    pub input : Came left_old left_new
+    pub acts : List Act
+    pub played : Played g input.document acts given left
+    pub wrote : Appends held_old held_new (text acts input.document)
 
--- the text of that run was written
-pub record Done (left_old left_new held_old held_new : Option (List ℕ)) : Type 0 where
-  pub run : Ran left_old left_new
-  pub wrote : Appends held_old held_new (text run.acts run.document)
+  -- The writing broke in a part of the text, where the sink's count of faults rose. The same is claimed of the acts up to
+  -- and with the event of that part, for the document that is cut behind it; no event behind it was played.
+  pub record Broken (left_old left_new held_old held_new : Option (List ℕ)) (faults_old faults_new : ℕ)
+      (given left : List D) : Type 0 where
+    pub input : Came left_old left_new
+    pub broke : BrokenPart (λ d e h. Played g (cut e d) h given left) input.document held_old held_new faults_old
+        faults_new
 
--- a proper prefix of the text of that run was written, and then the sink's count of faults rose
-pub record Broken (left_old left_new held_old held_new : Option (List ℕ)) (faults_old faults_new : ℕ) : Type 0 where
-  pub run : Ran left_old left_new
-  pub wrote : AppendsPart held_old held_new (text run.acts run.document)
-  pub rose : Rose faults_old faults_new
+-- There was no memory: nothing was written, or the first parts of the text of a run of which the headline holds.
+pub data OutOfMemory (left_old left_new held_old held_new : Option (List ℕ)) : Type 0 where
+  nothing : Keeps held_old held_new → OutOfMemory left_old left_new held_old held_new
+  some : (input : Came left_old left_new) → SomeParts HeadlineSoFar input.document held_old held_new
+      → OutOfMemory left_old left_new held_old held_new
 
 -- the input was read to its end and is no document; the first line at fault was told
 pub record NoDocument (left_old left_new held_old held_new : Option (List ℕ)) (faults_old faults_new : ℕ) : Type 0 where

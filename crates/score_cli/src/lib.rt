@@ -5,14 +5,11 @@
 //! Want of memory alone is free.
 #![tactic(auto)]
 
+mod disks;
 mod headline;
 mod lines;
 mod status;
 
+pub use disks::memory_disks;
 pub use headline::law_headline;
 pub use status::{Status, score};
-
-#[cfg(test)]
-mod rows;
-#[cfg(test)]
-mod tests;

@@ -1,20 +1,21 @@
 //! How a command ends: its code, and what it wrote.
-ghost use Rattle.std.specs.Prelude.{◌≡◌, ◌⊎◌, ◌↔◌, ℕ, List, Some, true, false, map, codes, IfOk, IfErr, string_bytes};
+ghost use Rattle.std.specs.Prelude.{◌≡◌, ◌⊎◌, ◌↔◌, ◌≤◌, ℕ, List, Some, true, false, map, codes, IfOk, IfErr, length, string_bytes, vec_capacity};
 ghost use Rattle.std.specs.Io.KnownBytes.{Keeps};
 ghost use Rattle.score_base.specs.Faults.{Rose};
-ghost use Rattle.cluster_file.specs.Doc.{doc, FailsDoc};
-ghost use Rattle.grid_laws.specs.CalmRuns.{AreUnfused};
-ghost use Rattle.history_print.specs.Text.{text};
-ghost use Rattle.score_cli.specs.Answers.{is_command, Wrote, Done, Broken, NoDocument, TooLong, IsCode, code_asked, IsRunText, IsTextOf};
+ghost use Rattle.grid_model.specs.Documents.{IsOne};
+ghost use Rattle.score_cli.specs.Disks.{AreBlank};
+ghost use Rattle.score_cli.specs.Answers.{is_command, Wrote, Done, Broken, NoDocument, TooLong, OutOfMemory, IsCode, code_asked};
+ghost use Rattle.score_cli.specs.Runs.{IsPlayed};
 
+use crate::disks::{fuse_all, give_back};
 use crate::headline::law_headline;
 use crate::lines::{refused_line, say};
 use cluster_file::{DocEnd, read_document};
-use grid_model::{Act, Document};
-use history_print::write_history;
-use schedule_replay::replay;
+use grid_model::Document;
+use run_writer::{RunEnd, write_run};
 use score_base::Memory;
-use score_io::{ReadEnd, Sink, Source, read_all, write_all};
+use score_disk::{CrashDisk, Disk};
+use score_io::{ReadEnd, Sink, Source, read_all};
 use std::alloc::Global;
 
 /// How a command ended.
@@ -37,51 +38,50 @@ fn is_command(words: &[String]) -> bool
     }
 }
 
-/// The text of a run.
-fn text_of(alloc: Global, doc: &Document, acts: &[Act]) -> Result<Vec<u8>, Memory>
-    ensures { IfOk result (λ v. v.items ≡ text acts.now doc.now) }
-{
-    let mut out = Vec::new(alloc);
-    write_history(doc, acts, &mut out)?;
-    Ok(out)
-}
-
-/// The text of a document's run.
-fn run_text(alloc: Global, doc: &Document) -> Result<Vec<u8>, Memory>
-    ensures { IfOk result (λ v. AreUnfused doc.now.items → IsRunText doc.now v.items) }
-{
-    let acts = replay(alloc, doc)?;
-    text_of(alloc, doc, acts.as_slice())
-}
-
-/// The text of the run of the document that the bytes spell. No form that sets a fuse is read.
-fn play(alloc: Global, bytes: &[u8]) -> Result<Vec<u8>, DocEnd>
-    ensures text { IfOk result (λ v. IsTextOf bytes.now v.items) }
-    ensures refused { IfErr result (λ e. FailsDoc e (doc bytes.now)) }
+/// Plays a document over disks, and writes the text of its run.
+fn play<K: Sink, D: CrashDisk>(
+    alloc: Global,
+    doc: &Document,
+    out: &mut K,
+    disks: &mut Vec<D>,
+) -> Status
+    requires one { IsOne doc.now }
+    requires blank { AreBlank ⟦<D as Disk>⟧ disks.old.items }
+    ensures { IsPlayed ⟦<D as Disk>⟧ doc.now disks.old.items disks.new.items (K.held out.old) (K.held out.new)
+        (K.faults out.old) (K.faults out.new) result.code }
 {
     law_headline();
-    let doc = match read_document(alloc, bytes) {
-        Ok(doc) => doc,
-        Err(e) => return Err(e),
+    let Ok(fused) = fuse_all(alloc, disks) else {
+        return Status { code: 6 };
     };
-    match run_text(alloc, &doc) {
-        Ok(text) => Ok(text),
-        Err(_) => Err(DocEnd::Memory),
+    match write_run(alloc, doc, fused, out) {
+        RunEnd::Whole(left) => {
+            give_back(left, disks);
+            Status { code: 0 }
+        }
+        RunEnd::Broken(left) => {
+            give_back(left, disks);
+            Status { code: 5 }
+        }
+        RunEnd::Memory => Status { code: 6 },
     }
 }
 
 /// What [`score`] does; its answer is complete by the clauses of this one.
-fn respond<S: Source, K: Sink>(
+fn respond<S: Source, K: Sink, D: CrashDisk>(
     alloc: Global,
     words: &Vec<String>,
     input: &mut S,
     out: &mut K,
+    disks: &mut Vec<D>,
 ) -> Status
+    requires { AreBlank ⟦<D as Disk>⟧ disks.old.items }
     ensures code { IsCode result.code }
     ensures usage { (result.code ≡ 2) ↔ (is_command (map (λ w. string_bytes w) words.now.items) ≡ false) }
     ensures usage_line { result.code ≡ 2
         → Wrote (K.held out.old) (K.held out.new) (K.faults out.old) (K.faults out.new) (codes "usage\n") }
-    ensures done { result.code ≡ 0 → Done (S.left input.old) (S.left input.new) (K.held out.old) (K.held out.new) }
+    ensures done { result.code ≡ 0 → Done ⟦<D as Disk>⟧ (S.left input.old) (S.left input.new) (K.held out.old)
+        (K.held out.new) disks.old.items disks.new.items }
     ensures refused { result.code ≡ 3 →
         NoDocument (S.left input.old) (S.left input.new) (K.held out.old) (K.held out.new) (K.faults out.old)
         (K.faults out.new)
@@ -90,9 +90,10 @@ fn respond<S: Source, K: Sink>(
     ensures read_fault { result.code ≡ 4 → Rose (S.faults input.old) (S.faults input.new) }
     ensures read_line { result.code ≡ 4
         → Wrote (K.held out.old) (K.held out.new) (K.faults out.old) (K.faults out.new) (codes "read fault\n") }
-    ensures write_fault { result.code ≡ 5 → Broken (S.left input.old) (S.left input.new) (K.held out.old)
-        (K.held out.new) (K.faults out.old) (K.faults out.new) }
-    ensures memory { result.code ≡ 6 → Keeps (K.held out.old) (K.held out.new) }
+    ensures write_fault { result.code ≡ 5 → Broken ⟦<D as Disk>⟧ (S.left input.old) (S.left input.new) (K.held out.old)
+        (K.held out.new) (K.faults out.old) (K.faults out.new) disks.old.items disks.new.items }
+    ensures memory { result.code ≡ 6 → OutOfMemory (S.left input.old) (S.left input.new) (K.held out.old) (K.held out.new) }
+    ensures untouched { (result.code ≡ 2) ⊎ ((result.code ≡ 3) ⊎ (result.code ≡ 4)) → disks.new ≡ disks.old }
 {
     if !is_command(words.as_slice()) {
         say(out, b"usage\n");
@@ -110,39 +111,40 @@ fn respond<S: Source, K: Sink>(
         }
         Err(ReadEnd::Memory) => return Status { code: 6 },
     };
-    let text = match play(alloc, bytes.as_slice()) {
-        Ok(text) => text,
-        Err(DocEnd::Memory) => return Status { code: 6 },
+    match read_document(alloc, bytes.as_slice()) {
+        Ok(doc) => play(alloc, &doc, out, disks),
+        Err(DocEnd::Memory) => Status { code: 6 },
         Err(DocEnd::Refused(refusal)) => {
             let Ok(line) = refused_line(alloc, refusal) else {
                 return Status { code: 6 };
             };
             say(out, line.as_slice());
-            return Status { code: 3 };
+            Status { code: 3 }
         }
-    };
-    match write_all(out, text.as_slice()) {
-        Ok(()) => Status { code: 0 },
-        Err(_) => Status { code: 5 },
     }
 }
 
-/// Runs a command: `run` reads a document from `input`, plays it, and writes the text of its run to
-/// `out`.
+/// Runs a command: `run` reads a document from `input`, plays it over the disks, and writes the text of its run to
+/// `out`, each event's lines before the next event is played. There are 32 disks, empty and settled; node n has those
+/// at the places 2 (n - 1) and 2 (n - 1) + 1.
 ///
-/// The code is 2 exactly where the words are no command; 3 where the input, read whole, is no document
-/// or more than 4,194,304 bytes came; 4 only where the count of faults of `input` rose, and 5 only where
-/// that of `out` rose; 6 for want of memory; and 0 where the text of acts was written whole of which the
-/// headline holds (`Headline` of `specs/`): they are a lawful run of the document in which no disk failed,
-/// committed updates and finished read-only transactions were shown what one serial copy gives, what a
-/// client was told is kept, each abort has its shown cause, and only the home of a transaction and the
-/// holders of its keys send and get its messages. Clauses on bytes speak where `input` and `out` tell them.
-pub fn score<S: Source, K: Sink>(
+/// The code is 2 exactly where the words are no command; 3 where the input, read whole, is no document or more than
+/// 4,194,304 bytes came; 4 only where the count of faults of `input` rose, and 5 only where that of `out` rose; 6 for
+/// want of memory; and 0 where the text of acts was written whole of which the headline holds (`Headline` of `specs/`):
+/// they are a lawful run of the document, in which each stop is by a fuse or by a fault that a disk counted; committed
+/// updates and finished read-only transactions were shown what one serial copy gives; what a client was told is kept;
+/// each abort has its shown cause; and only the home of a transaction and the holders of its keys send and get its
+/// messages. The disks as they are left hold what was acknowledged (`Holds`), after 0 and after 5. After 5 the same is
+/// said of the document cut behind the event in whose lines `out` failed. After 2, 3 and 4 no disk was touched; after 6
+/// nothing is said of them. No fault of a disk ends a run. Clauses on bytes speak where `input` and `out` tell them.
+pub fn score<S: Source, K: Sink, D: CrashDisk>(
     alloc: Global,
     words: &Vec<String>,
     input: &mut S,
     out: &mut K,
+    disks: &mut Vec<D>,
 ) -> Status
+    requires { AreBlank ⟦<D as Disk>⟧ disks.old.items }
     ensures code { IsCode result.code }
 
     // 2: the words alone decide.
@@ -151,7 +153,8 @@ pub fn score<S: Source, K: Sink>(
         → Wrote (K.held out.old) (K.held out.new) (K.faults out.old) (K.faults out.new) (codes "usage\n") }
 
     // 0: the headline.
-    ensures done { result.code ≡ 0 → Done (S.left input.old) (S.left input.new) (K.held out.old) (K.held out.new) }
+    ensures done { result.code ≡ 0 → Done ⟦<D as Disk>⟧ (S.left input.old) (S.left input.new) (K.held out.old)
+        (K.held out.new) disks.old.items disks.new.items }
 
     // 3: the first line at fault and why, or too many bytes.
     ensures refused { result.code ≡ 3 →
@@ -160,20 +163,23 @@ pub fn score<S: Source, K: Sink>(
         ⊎ TooLong (S.left input.old) (S.left input.new) (K.held out.old) (K.held out.new) (K.faults out.old)
         (K.faults out.new) }
 
-    // 4 and 5: a count of faults rose in this call.
+    // 4 and 5: a count of faults rose in this call. After 5 the headline of the cut document.
     ensures read_fault { result.code ≡ 4 → Rose (S.faults input.old) (S.faults input.new) }
     ensures read_line { result.code ≡ 4
         → Wrote (K.held out.old) (K.held out.new) (K.faults out.old) (K.faults out.new) (codes "read fault\n") }
-    ensures write_fault { result.code ≡ 5 → Broken (S.left input.old) (S.left input.new) (K.held out.old)
-        (K.held out.new) (K.faults out.old) (K.faults out.new) }
+    ensures write_fault { result.code ≡ 5 → Broken ⟦<D as Disk>⟧ (S.left input.old) (S.left input.new) (K.held out.old)
+        (K.held out.new) (K.faults out.old) (K.faults out.new) disks.old.items disks.new.items }
 
-    // 6: nothing was written.
-    ensures memory { result.code ≡ 6 → Keeps (K.held out.old) (K.held out.new) }
+    // 6: nothing was written, or the first parts of such a text.
+    ensures memory { result.code ≡ 6 → OutOfMemory (S.left input.old) (S.left input.new) (K.held out.old) (K.held out.new) }
+
+    // 2, 3 and 4: no disk was touched.
+    ensures untouched { (result.code ≡ 2) ⊎ ((result.code ≡ 3) ⊎ (result.code ≡ 4)) → disks.new ≡ disks.old }
 
     // With no fault, the command and the bytes alone decide between 0 and 3, but for want of memory.
     ensures complete { (bytes : List ℕ) → S.left input.old ≡ Some bytes → is_command (map (λ w. string_bytes w) words.now.items) ≡ true →
         (Rose (S.faults input.old) (S.faults input.new) → ⊥) → (Rose (K.faults out.old) (K.faults out.new) → ⊥) →
         (result.code ≡ code_asked bytes) ⊎ (result.code ≡ 6) }
 {
-    respond(alloc, words, input, out)
+    respond(alloc, words, input, out, disks)
 }

@@ -1,7 +1,7 @@
 use Rattle.score_cli.proofs.headline.law_headline.Goals as goal
 
 pub returns : goal.returns
-returns c = λ d h one l. record {
+returns c = λ d h rise one l. record {
   lawful = l;
   copy = c.law_one_copy.ensures d h one l.run;
   atomic = c.law_atomic.ensures d h one l.run;

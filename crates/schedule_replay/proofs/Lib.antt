@@ -1,9 +1,0 @@
-pub mod ForCode
-pub mod Told
-pub mod Clocks
-pub mod Retries
-pub mod Openings
-pub mod Events
-pub mod Ranges
-pub mod Loops
-pub mod Left

@@ -1,6 +1,0 @@
-use Rattle.std.proofs.Common.{◌≡◌, drop}
-use Rattle.grid_model.specs.Rows.{are_all_among}
-use Rattle.schedule_replay.proofs.coordinators.are_all_among.Given as goal
-
-abbrev pub invariant-loop-node : goal.invariant-loop-node
-invariant-loop-node l = are_all_among (drop l.node-index l.nodes) l.among ≡ are_all_among l.nodes l.among

@@ -1,6 +1,0 @@
-use Rattle.std.proofs.Common.{◌≡◌, max, drop}
-use Rattle.grid_model.specs.Rows.{greatest_vote}
-use Rattle.schedule_replay.proofs.coordinators.greatest_vote.Given as goal
-
-abbrev pub invariant-loop-vote : goal.invariant-loop-vote
-invariant-loop-vote l = max l.greatest (greatest_vote (drop l.vote-index l.votes)) ≡ greatest_vote l.votes

@@ -1,6 +1,0 @@
-use Rattle.std.proofs.Common.{◌≡◌, ◌++◌, drop}
-use Rattle.grid_model.specs.Rows.{not_among}
-use Rattle.schedule_replay.proofs.coordinators.not_among.Given as goal
-
-abbrev pub invariant-loop-node : goal.invariant-loop-node
-invariant-loop-node l = l.missing ++ not_among (drop l.node-index l.nodes) l.among ≡ not_among l.nodes l.among
